@@ -1,13 +1,10 @@
-// A library with one function.
+//! The ground that every layer of the store speaks in: names, kinds, schemas, values and their texts.
+//!
+//! This crate knows nothing of files, columns or commands.
 #![tactic(auto)]
 
-ghost use Rattle.std.specs.Prelude.{◌≡◌};
-ghost use Rattle.mk_value.specs.Echo.{echo_of};
+mod memory;
+mod span;
 
-// The `ensures` clause is the contract: what `echo` returns is `echo_of` of its argument, a definition
-// in `specs/Echo.antt`, which a caller's clause can cite too.
-pub fn echo(x: usize) -> usize
-    ensures { result ≡ echo_of x }
-{
-    x
-}
+pub use memory::Memory;
+pub use span::Span;
