@@ -1,0 +1,42 @@
+ghost use Rattle.std.specs.Prelude.{◌≡◌, ◌+◌, ◌≤◌, ◌↔◌, [], length, true};
+ghost use Rattle.host_io.specs.Outside.{Outside, Goes};
+ghost use Rattle.lines.specs.Machine.{Machine};
+ghost use Rattle.lines.specs.Crash.{IsReady, IsWithin};
+ghost use Rattle.lines.specs.Served.{state_of};
+ghost use Rattle.lines.specs.Lines.{max_line};
+
+use host_io::Host;
+use mk_value::Text;
+
+/// Whether a session goes on after a line.
+#[derive(Clone, Copy, Debug, PartialEq, Eq)]
+pub enum Flow {
+    Goes,
+    Ends,
+}
+
+/// What answers lines over a host.
+pub trait Session<H: Host> {
+    /// Which answers a line may have, which line ends the session, and which images a crash may leave.
+    ghost machine: { Machine Self };
+
+    /// Answers one line of at most `MAX_LINE` bytes: appends the answer to the empty `out`, with the newline of each
+    /// of its lines, and tells whether the session is over. It makes no other call of the host than those on its disk.
+    fn answer(&mut self, host: &mut H, line: &[u8], out: &mut Text) -> Flow
+        requires short { length line.now ≤ max_line }
+        requires empty { out.old.bytes ≡ [] }
+        requires room { max_line + 1 ≤ out.old.spare }
+        requires ready { H.tells → IsReady machine self.old (H.outside host.old).now.disk }
+
+        ensures answers { H.tells → machine.answers (state_of self.old (H.outside host.old)) line.now out.new.bytes (state_of self.new (H.outside host.new)) }
+        ensures ends { (result ≡ Flow.Ends) ↔ (machine.ends line.now ≡ true) }
+        ensures room { max_line + 1 ≤ out.new.spare + length out.new.bytes }
+
+        ensures ready { H.tells → IsReady machine self.new (H.outside host.new).now.disk }
+        ensures moments { H.tells → Goes (IsWithin machine self.old line.now (H.outside host.old).now.said) (H.outside host.old) (H.outside host.new) }
+        ensures said { H.tells → (H.outside host.new).now.said ≡ (H.outside host.old).now.said }
+        ensures input { H.tells → (H.outside host.new).input ≡ (H.outside host.old).input }
+        ensures disk_faults { (H.outside host.old).disk_faults ≤ (H.outside host.new).disk_faults }
+        ensures take_faults { (H.outside host.new).take_faults ≡ (H.outside host.old).take_faults }
+        ensures say_faults { (H.outside host.new).say_faults ≡ (H.outside host.old).say_faults };
+}
