@@ -1,2 +1,4 @@
 pub mod Headings
 pub mod Names
+pub mod Relations
+pub mod Walks
