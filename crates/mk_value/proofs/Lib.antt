@@ -1,3 +1,4 @@
+pub mod Cells
 pub mod Headings
 pub mod Names
 pub mod Relations

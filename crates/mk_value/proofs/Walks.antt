@@ -12,3 +12,9 @@ drop_map_read f xs i x p e =
 
 pub map_read : {X Y : Type 0} (f : X → Y) (xs : List X) (i : ℕ) (x : X) → i < length xs → x ≡ get_or xs i x → f x ≡ get_or (map f xs) i (f x)
 map_read f xs i x p e = ap f e ∙ sym (get_or-map f xs i x (f x) p)
+
+-- within the list the default does not matter
+pub same_default : {X : Type 0} (xs : List X) (i : ℕ) (d e : X) → i < length xs → get_or xs i d ≡ get_or xs i e
+same_default [] i d e p = absurd (omega arith)
+same_default (x ∷ xs) zero d e p = refl
+same_default (x ∷ xs) (suc i) d e p = same_default xs i d e (omega arith)
