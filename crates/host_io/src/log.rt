@@ -1,5 +1,5 @@
 // All that a host in memory went through: the file and the bytes said, and an entry for each moment.
-ghost use Rattle.std.specs.Prelude.{◌≡◌, ◌+◌, ◌-◌, ◌<◌, ◌≤◌, ◌++◌, length, IfOk, vec_len, vec_capacity};
+ghost use Rattle.std.specs.Prelude.{◌≡◌, ◌+◌, ◌-◌, ◌<◌, ◌≤◌, ◌++◌, length, ◌^◌, IsTrue, IfOk, vec_len, vec_capacity};
 ghost use Rattle.host_io.specs.Disk.{settled};
 ghost use Rattle.host_io.specs.Memory.{History, written, recorded, has_room};
 ghost use Rattle.host_io.specs.Log.{first_trail};
@@ -75,7 +75,8 @@ impl Log {
 
     /// Whether one moment more with so many bytes has room.
     pub fn has_room(&self, bytes: usize) -> bool
-        ensures { result ≡ has_room bytes self.now }
+        ensures room { result ≡ has_room bytes self.now }
+        ensures bound { IsTrue result → length self.now.trail.latest.moment.disk.seen + bytes < 2 ^ 63 }
     {
         self.entries.len() < self.room && bytes <= self.room - (self.all.len() + self.said.len())
     }

@@ -1,6 +1,6 @@
 // A host in memory, which fails where its script says.
-ghost use Rattle.std.specs.Prelude.{◌≡◌, ◌↔◌, ℕ, ◌+◌, ◌^◌, ◌<◌, ◌≤◌, [], length, take, drop, IfOk, OnOk, IsErr, IsTrue};
-ghost use Rattle.host_io.specs.Calls.{CountsDisk, CountsTake, CountsSay, Looks, Writes, Syncs, Takes, Says};
+ghost use Rattle.std.specs.Prelude.{◌≡◌, ◌↔◌, ℕ, ◌+◌, ◌^◌, ◌<◌, ◌≤◌, [], length, ◌++◌, take, drop, IfOk, OnOk, IsErr, IsTrue};
+ghost use Rattle.host_io.specs.Calls.{Rose, CountsDisk, CountsTake, CountsSay, Looks, Writes, Syncs, Takes, Says};
 ghost use Rattle.host_io.specs.Memory.{HostState, outside_of, risen, risen_if, is_due, due, is_refused, take_count, said_front, bounded, after_disk_call, after_look, after_write, after_sync, after_take, after_say};
 ghost use Rattle.host_io.specs.Log.{first_trail};
 
@@ -49,7 +49,9 @@ impl Model for MemHost {
 
 // A count goes up by one, up to the last value of its type.
 fn rise(count: &mut u64)
-    ensures { count.new ≡ risen count.old }
+    ensures risen { count.new ≡ risen count.old }
+    ensures later { count.old ≤ count.new }
+    ensures rose { Rose count.old count.new }
 {
     *count = count.saturating_add(1);
 }
@@ -126,15 +128,162 @@ impl MemHost {
         }
     }
 
-    // Ends a call of the disk that only looks.
+    // Makes a call of the disk that only looks.
     fn look(&mut self) -> Result<(), Failed>
         ensures fails { IsErr result ↔ IsTrue (is_due self.old) }
         ensures after { self.new ≡ after_look self.old }
+        ensures counts { CountsDisk (outside_of self.old) (outside_of self.new) result }
     {
-        if self.begin().is_some() {
-            rise(&mut self.disk_faults);
-            return Err(Failed);
+        let due = self.begin();
+        answer(due.is_some(), &mut self.disk_faults)
+    }
+
+    // Makes a call of the disk that writes.
+    fn try_write(&mut self, at: usize, from: &[u8]) -> Result<(), Failed>
+        requires { at ≤ length (outside_of self.old).now.disk.seen }
+        ensures fails { IsErr result ↔ IsTrue (is_refused (length from.now) self.old) }
+        ensures after { self.new ≡ after_write at from.now self.old }
+        ensures counts { CountsDisk (outside_of self.old) (outside_of self.new) result }
+        ensures bound { OnOk result (at + length from.now < 2 ^ 63) }
+    {
+        let due = self.begin();
+        let fits = self.log.has_room(from.len());
+        if fits {
+            let left = due.unwrap_or(Effect::Whole);
+            self.log.write(self.calls, at, from, left);
         }
+        answer(due.is_some() || !fits, &mut self.disk_faults)
+    }
+
+    // Fills the front of a piece with the next bytes of the input, and gives their number.
+    fn give(&mut self, into: &mut [u8]) -> usize
+        ensures count { result ≡ take_count (length into.old) self.old }
+        ensures came { self.old.input ≡ take result into.new ++ self.new.input }
+        ensures end { result ≡ 0 → 0 < length into.old → self.old.input ≡ [] }
+        ensures after { self.new ≡ record self.old { input = drop result self.old.input } }
+    {
+        let left = self.input.len() - self.taken;
+        let count = self.bound(left.min(into.len()));
+        into[..count].copy_from_slice(&self.input[self.taken..self.taken + count]);
+        self.taken += count;
+        count
+    }
+}
+
+// The end of a call, which raises this count if it failed.
+fn answer(failed: bool, faults: &mut u64) -> Result<(), Failed>
+    ensures fails { IsErr result ↔ IsTrue failed }
+    ensures rises { faults.new ≡ risen_if failed faults.old }
+    ensures later { faults.old ≤ faults.new }
+    ensures rose { IsTrue failed → Rose faults.old faults.new }
+{
+    if failed {
+        rise(faults);
+        return Err(Failed);
+    }
+    Ok(())
+}
+
+impl Disk for MemHost {
+    ghost tells = { Unit {0} };
+
+    ghost outside = { outside_of };
+
+    /// Any name and either mode will do.
+    fn attach(&mut self, _name: &str, _create: bool) -> Result<(), Failed>
+        ensures counts { CountsDisk (outside_of self.old) (outside_of self.new) result }
+        ensures same { Looks (outside_of self.old) (outside_of self.new) }
+        ensures fails { IsErr result ↔ IsTrue (is_due self.old) }
+        ensures after { self.new ≡ after_look self.old }
+    {
+        self.look()
+    }
+
+    fn len(&mut self) -> Result<u64, Failed>
+        ensures counts { CountsDisk (outside_of self.old) (outside_of self.new) result }
+        ensures same { Looks (outside_of self.old) (outside_of self.new) }
+        ensures length { IfOk result (λ n. n ≡ length (outside_of self.old).now.disk.seen) }
+        ensures bound { IfOk result (λ n. n < 2 ^ 63) }
+        ensures fails { IsErr result ↔ IsTrue (is_due self.old) }
+        ensures after { self.new ≡ after_look self.old }
+    {
+        self.look()?;
+        Ok(self.log.seen().len() as u64)
+    }
+
+    fn read_at(&mut self, at: u64, into: &mut [u8]) -> Result<(), Failed>
+        requires { at + length into.old ≤ length (outside_of self.old).now.disk.seen }
+        ensures counts { CountsDisk (outside_of self.old) (outside_of self.new) result }
+        ensures same { Looks (outside_of self.old) (outside_of self.new) }
+        ensures bytes { OnOk result (into.new ≡ take (length into.old) (drop at (outside_of self.old).now.disk.seen)) }
+        ensures fails { IsErr result ↔ IsTrue (is_due self.old) }
+        ensures after { self.new ≡ after_look self.old }
+    {
+        self.look()?;
+        let at = at as usize;
+        into.copy_from_slice(&self.log.seen()[at..at + into.len()]);
         Ok(())
+    }
+
+    /// A write with room leaves all of it, or where it is due to fail what the script says. One without room leaves
+    /// nothing.
+    fn write_at(&mut self, at: u64, from: &[u8]) -> Result<(), Failed>
+        requires short { length from.now ≤ MAX_WRITE }
+        requires ends { at + length from.now < 2 ^ 64 }
+        requires within { at ≤ length (outside_of self.old).now.disk.seen }
+        ensures counts { CountsDisk (outside_of self.old) (outside_of self.new) result }
+        ensures writes { Writes at from.now (outside_of self.old) (outside_of self.new) result }
+        ensures bound { OnOk result (at + length from.now < 2 ^ 63) }
+        ensures fails { IsErr result ↔ IsTrue (is_refused (length from.now) self.old) }
+        ensures after { self.new ≡ after_write at from.now self.old }
+    {
+        self.try_write(at as usize, from)
+    }
+
+    fn sync(&mut self) -> Result<(), Failed>
+        ensures counts { CountsDisk (outside_of self.old) (outside_of self.new) result }
+        ensures syncs { Syncs (outside_of self.old) (outside_of self.new) result }
+        ensures fails { IsErr result ↔ IsTrue (is_refused 0 self.old) }
+        ensures after { self.new ≡ after_sync self.old }
+    {
+        let due = self.begin();
+        let fits = self.log.has_room(0);
+        answer(due.is_some() || !fits, &mut self.disk_faults)?;
+        self.log.sync(self.calls);
+        Ok(())
+    }
+}
+
+impl Host for MemHost {
+    /// Gives the least of the piece, the bytes left and the bound.
+    fn take(&mut self, into: &mut [u8]) -> Result<usize, Failed>
+        ensures within { IfOk result (λ n. n ≤ length into.old) }
+        ensures counts { CountsTake (outside_of self.old) (outside_of self.new) result }
+        ensures takes { Takes (length into.old) into.new (outside_of self.old) (outside_of self.new) result }
+        ensures fails { IsErr result ↔ IsTrue (is_due self.old) }
+        ensures count { IfOk result (λ n. n ≡ take_count (length into.old) self.old) }
+        ensures after { self.new ≡ after_take (length into.old) self.old }
+    {
+        let due = self.begin();
+        answer(due.is_some(), &mut self.take_faults)?;
+        Ok(self.give(into))
+    }
+
+    /// Says the lesser of the piece and the bound.
+    fn say(&mut self, from: &[u8]) -> Result<usize, Failed>
+        ensures within { IfOk result (λ n. n ≤ length from.now) }
+        ensures progress { IfOk result (λ n. 0 < length from.now → 0 < n) }
+        ensures counts { CountsSay (outside_of self.old) (outside_of self.new) result }
+        ensures says { Says from.now (outside_of self.old) (outside_of self.new) result }
+        ensures fails { IsErr result ↔ IsTrue (is_refused (length (said_front from.now self.old)) self.old) }
+        ensures count { IfOk result (λ n. n ≡ bounded self.old.most (length from.now)) }
+        ensures after { self.new ≡ after_say from.now self.old }
+    {
+        let due = self.begin();
+        let front = &from[..self.bound(from.len())];
+        let fits = self.log.has_room(front.len());
+        answer(due.is_some() || !fits, &mut self.say_faults)?;
+        self.log.say(self.calls, front);
+        Ok(front.len())
     }
 }
