@@ -2,3 +2,5 @@ pub mod Lines
 pub mod Machine
 pub mod Crash
 pub mod Served
+pub mod Spoken
+pub mod Steps

@@ -1,0 +1,4 @@
+pub mod Splitting
+pub mod Turns
+pub mod Moments
+pub mod Standing
