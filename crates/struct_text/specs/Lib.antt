@@ -1,0 +1,4 @@
+pub mod Bytes
+pub mod Grammar
+pub mod Offences
+pub mod Spelling
