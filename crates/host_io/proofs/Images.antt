@@ -35,7 +35,7 @@ IsImage-widened place n disk image is = record {
 }
 
 -- a write that is cut short leaves an image
-IsSound-torn : (place n : ℕ) (disk : DiskState) (file : List ℕ) → place ≤ length disk.seen → IsTorn place n disk.seen file → IsSound disk → IsImage (widened place n disk) file
+pub IsSound-torn : (place n : ℕ) (disk : DiskState) (file : List ℕ) → place ≤ length disk.seen → IsTorn place n disk.seen file → IsSound disk → IsImage (widened place n disk) file
 IsSound-torn place n disk file within torn sound = record {
   no_shorter = omega (arith, torn.no_shorter, sound.no_shorter);
   no_longer = omega (arith, torn.no_longer, sound.no_longer);
@@ -43,7 +43,7 @@ IsSound-torn place n disk file within torn sound = record {
 }
 
 -- the same images where the synced bytes, the pending ranges and the greatest length are the same
-same_images : (disk other : DiskState) (image : List ℕ) → other.synced ≡ disk.synced → other.pending ≡ disk.pending → other.longest ≡ disk.longest → IsImage disk image → IsImage other image
+pub same_images : (disk other : DiskState) (image : List ℕ) → other.synced ≡ disk.synced → other.pending ≡ disk.pending → other.longest ≡ disk.longest → IsImage disk image → IsImage other image
 same_images disk other image synced pending longest is = record {
   no_shorter = omega (arith, is.no_shorter, ap length synced);
   no_longer = omega (arith, is.no_longer, longest);

@@ -7,6 +7,7 @@
 //! failed.
 #![tactic(auto)]
 
+mod crash;
 mod entry;
 mod fault;
 mod file;
