@@ -16,7 +16,7 @@ use Rattle.host_io.specs.declared.entry.Event.TheVariants.{Write, Sync, Say}
 use Rattle.host_io.specs.declared.entry.Entry.{Entry}
 use Rattle.host_io.proofs.Bytes.{length-put_bytes, IsTorn-put_bytes, IsTorn-same, slice_index-put_bytes_inside, slice_index-put_bytes_outside}
 use Rattle.host_io.proofs.Images.{IsSound-torn, IsSound-settled, IsSettled-settled, same_images}
-use Rattle.host_io.proofs.Replays.{replayed-push, disk_at-push}
+use Rattle.host_io.proofs.Replays.{replayed-push, disk_at-push, disk-replayed}
 
 IsTorn-left_by : (left : Effect) (place : ℕ) (bytes file : List ℕ) → place ≤ length file → IsTorn place (length bytes) file (left_by left place bytes file)
 IsTorn-left_by Nothing place bytes file within = IsTorn-same place (length bytes) file
@@ -191,3 +191,14 @@ pub disk_at-more : (all : List ℕ) (disk : DiskState) (entries : List Entry) (i
     → disk_at all disk (take (i + 1) entries) ≡ disk_after all (get_or entries i d).event (disk_at all disk (take i entries))
 disk_at-more all disk entries i d below =
     ap (λ (l : List Entry). disk_at all disk l) (take_more entries i d below) ∙ disk_at-push all disk (take i entries) (get_or entries i d)
+
+-- what is left by the entries within so many calls is left by the moment at which the host stood
+pub disk_after_calls : (calls count : ℕ) (image all said : List ℕ) (entries : List Entry) → count ≤ length entries → AreLater calls (drop count entries)
+    → (0 < count → (e : Entry) → (get_or entries (count - 1) e).calls ≤ calls)
+    → disk_at all (settled image) (take count entries) ≡ (moment_after calls (replayed all said (first_trail image) entries)).disk
+disk_after_calls calls count image all said entries within later newest =
+    sym (disk-replayed all said (first_trail image) (take count entries)) ∙ ap (λ (m : Moment). m.disk) (sym (moment_after-front calls count image all said entries within later newest))
+
+pub WritesFit-take : (all : List ℕ) (disk : DiskState) (entries : List Entry) (count : ℕ) → WritesFit all disk entries → WritesFit all disk (take count entries)
+WritesFit-take all disk entries count fit =
+    WritesFit-front all disk (take count entries) (drop count entries) (subst (λ (l : List Entry). WritesFit all disk l) (sym (take-append-drop count entries)) fit)
