@@ -4,3 +4,7 @@ pub mod Depth
 pub mod Flaws
 pub mod Local
 pub mod FirstFlaw
+pub mod Moves
+pub mod NameParts
+pub mod LetterParts
+pub mod PropertyParts
