@@ -8,3 +8,5 @@ pub mod Moves
 pub mod NameParts
 pub mod LetterParts
 pub mod PropertyParts
+pub mod Unique
+pub mod Strict

@@ -86,7 +86,7 @@ over_name (b ∷ rest) brackets at h =
       (cases_Bool (is_name_start b))
 
 -- The tests at the start of a name.
-name_flaw : (before : List (List ℕ)) (outer : Brackets) (b : ℕ) (rest : List ℕ) (at : ℕ)
+pub name_flaw : (before : List (List ℕ)) (outer : Brackets) (b : ℕ) (rest : List ℕ) (at : ℕ)
     → flaw (name_start (before ∷ outer)) (b ∷ rest) at
       ≡ first_of_six (not (is_name_start b)) false false (length before == max_properties) (nat_lt max_name (length (run (b ∷ rest)))) (has_name before (run (b ∷ rest))) at
 unfolding flaw

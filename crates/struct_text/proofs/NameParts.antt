@@ -52,7 +52,7 @@ long_of_six s m l r p h k j = rw (h, k, j) refl
 repeated_of_six : (s m l r : Bool) (p : ℕ) → s ≡ true → m ≡ false → l ≡ false → r ≡ true → first_of_six (not s) false false m l r p ≡ Some (Repeated p)
 repeated_of_six s m l r p h k j i = rw (h, k, j, i) refl
 
-none_of_six : (s m l r : Bool) (p : ℕ) → s ≡ true → m ≡ false → l ≡ false → r ≡ false → first_of_six (not s) false false m l r p ≡ None
+pub none_of_six : (s m l r : Bool) (p : ℕ) → s ≡ true → m ≡ false → l ≡ false → r ≡ false → first_of_six (not s) false false m l r p ≡ None
 none_of_six s m l r p h k j i = rw (h, k, j, i) refl
 
 module _ (bytes : List ℕ) (at : ℕ) (before : List (List ℕ)) where
