@@ -10,3 +10,4 @@ pub mod LetterParts
 pub mod PropertyParts
 pub mod Unique
 pub mod Strict
+pub mod Whole

@@ -101,7 +101,7 @@ module _ (bytes : List ℕ) (at : ℕ) (before : List (List ℕ)) (name : List �
   pub name_within : at ≤ length bytes → at + length name ≤ length bytes
   name_within l = omega (arith, length-run (drop at bytes), length-drop at bytes, ap length h.is, l)
 
-  name_spelled : drop at bytes ≡ name ++ drop (at + length name) bytes
+  pub name_spelled : drop at bytes ≡ name ++ drop (at + length name) bytes
   name_spelled = sym (run_and_rest (drop at bytes)) ∙ ap (λ w. w ++ drop (length (run (drop at bytes))) (drop at bytes)) (sym h.is) ∙ ap (λ r. name ++ r) behind_name
 
   pub name_reaches : (outer : Brackets) → first_flaw (name_start (before ∷ outer)) at (drop at bytes) ≡ first_flaw (in_name name (before ∷ outer)) (at + length name) (drop (at + length name) bytes)
