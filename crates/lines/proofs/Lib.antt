@@ -1,4 +1,6 @@
 pub mod Splitting
 pub mod Turns
 pub mod Moments
+pub mod Uttering
+pub mod OneLine
 pub mod Standing
