@@ -1,5 +1,5 @@
 -- The disk between two syncs, and what a crash may leave of it.
-use Rattle.std.specs.Prelude.{◌≡◌, ℕ, ◌+◌, ◌<◌, ◌≤◌, List, [], ◌∷◌, length, slice_index}
+use Rattle.std.specs.Prelude.{◌≡◌, ℕ, ◌+◌, ◌<◌, ◌≤◌, List, [], ◌∷◌, length, slice_index, max}
 
 -- bytes that were written: the place of the first, and how many they are
 pub record Range : Type 0 where
@@ -42,3 +42,11 @@ pub record IsSettled (disk : DiskState) : Type 0 where
 -- the disk after a sync that succeeded
 abbrev pub settled : List ℕ → DiskState
 settled bytes = record { seen = bytes; synced = bytes; pending = []; longest = length bytes }
+
+-- what a read gives is one of the images
+abbrev pub IsSound : DiskState → Type 0
+IsSound disk = IsImage disk disk.seen
+
+-- a disk of which one range more, of n bytes, is pending
+abbrev pub widened : ℕ → ℕ → DiskState → DiskState
+widened place n disk = record disk { pending = (record { start = place; count = n }) ∷ disk.pending; longest = max disk.longest (place + n) }

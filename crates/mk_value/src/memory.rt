@@ -1,3 +1,5 @@
+ghost use Rattle.std.specs.Prelude.{◌≡◌};
+
 use std::alloc::{AllocError, AllocFailed};
 use thiserror::Error;
 
@@ -7,12 +9,16 @@ use thiserror::Error;
 pub struct Memory;
 
 impl From<AllocError> for Memory {
+    ghost from_gives = { λ _ error. error ≡ record {} };
+
     fn from(_error: AllocError) -> Memory {
         Memory
     }
 }
 
 impl<T: Drop> From<AllocFailed<T>> for Memory {
+    ghost from_gives = { λ _ error. error ≡ record {} };
+
     fn from(_error: AllocFailed<T>) -> Memory {
         Memory
     }
