@@ -1,2 +1,5 @@
+pub mod Cells
 pub mod Headings
 pub mod Names
+pub mod Relations
+pub mod Walks

@@ -28,7 +28,7 @@ opened_by b = cond (b == open_bracket) 1 0
 abbrev closed_by : ℕ → ℕ
 closed_by b = cond (b == close_bracket) 1 0
 
-other_byte : (p : ℕ → Bool) (b c : ℕ) → p b ≡ true → p c ≡ false → (b == c) ≡ false
+pub other_byte : (p : ℕ → Bool) (b c : ℕ) → p b ≡ true → p c ≡ false → (b == c) ≡ false
 other_byte p b c h k = ne_eqb b c (λ e. true≢false (sym h ∙ ap p e ∙ k))
 
 no_bracket : (b : ℕ) → (b == open_bracket) ≡ false → (b == close_bracket) ≡ false → opened_by b ≡ closed_by b

@@ -8,7 +8,8 @@ use Rattle.struct_text.specs.declared.error.StructError.{StructError}
 use Rattle.struct_text.specs.declared.error.StructError.TheVariants.{Syntax, Floating, Repeated, TooDeep, TooMany, TooLong, Memory}
 use Rattle.struct_text.proofs.Walk.{Brackets, State, name_start, in_name, kind, after, stuck, step, walk, start, walk-append, walk-stuck}
 use Rattle.struct_text.proofs.Reach.{ends_well, loose_from_walk, walk_from_loose}
-use Rattle.struct_text.proofs.Flaws.{is_stuck, is_whole, floats, deepens, is_full, is_long, repeats, first_of_six, flaw, or_else, first_flaw, Holds, IsPicked, picks}
+use Rattle.struct_text.specs.Flaws.{flaw}
+use Rattle.struct_text.proofs.Flaws.{is_stuck, is_whole, floats, deepens, is_full, is_long, repeats, first_of_six, or_else, first_flaw, Holds, IsPicked, picks}
 use Rattle.struct_text.proofs.Local.{alive_by_test, Tests, test_of_offence, offence_of_test}
 
 -- no offence stands before the place

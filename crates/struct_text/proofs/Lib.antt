@@ -4,3 +4,10 @@ pub mod Depth
 pub mod Flaws
 pub mod Local
 pub mod FirstFlaw
+pub mod Moves
+pub mod NameParts
+pub mod LetterParts
+pub mod PropertyParts
+pub mod Unique
+pub mod Strict
+pub mod Whole

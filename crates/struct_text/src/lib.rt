@@ -2,5 +2,8 @@
 #![tactic(auto)]
 
 mod error;
+mod names;
+mod reading;
 
 pub use error::StructError;
+pub use reading::parse;

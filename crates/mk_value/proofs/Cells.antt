@@ -1,0 +1,28 @@
+-- The values of a table by row and column.
+use Rattle.std.proofs.Common.{◌≡◌, ℕ, ◌<◌, ◌≤◌, List, [], length, get_or, map, pos, ap, sym, subst, ◌∙◌, arith}
+use Rattle.std.proofs.lemmas.List.{length-map, get_or-map}
+use Rattle.mk_value.specs.Heading.{Attribute}
+use Rattle.mk_value.specs.Data.{Datum, integer, AreRowsOf, IsRowOf, cell}
+use Rattle.mk_value.specs.Values.{datum_of}
+use Rattle.mk_value.specs.declared.value.Value.{Value}
+use Rattle.mk_value.proofs.Relations.{row_fits_length}
+use Rattle.mk_value.proofs.Walks.{same_default}
+
+-- a row that was read is one of the schema, and so has a value for each property
+pub row_read : (rows : List (List Datum)) (schema : List Attribute) (i : ℕ) (row : List Datum) → AreRowsOf rows schema → i < length rows → row ≡ get_or rows i row → IsRowOf row schema
+row_read rows schema i row whole p e = subst (λ r. IsRowOf r schema) (sym e) (whole.whole i row p)
+
+pub row_read_length : (rows : List (List Datum)) (schema : List Attribute) (i : ℕ) (row : List Datum) → AreRowsOf rows schema → i < length rows → row ≡ get_or rows i row → length row ≡ length schema
+row_read_length rows schema i row whole p e = row_fits_length row schema (row_read rows schema i row whole p e)
+
+-- a value that was read from a row that was read is the table's cell
+pub cell_read : (rows : List (List Datum)) (i j : ℕ) (row : List Datum) (d : Datum) → i < length rows → j < length row → row ≡ get_or rows i row → d ≡ get_or row j d → d ≡ cell rows i j
+cell_read rows i j row d p q e f =
+    f ∙ same_default row j d (integer (pos 0)) q ∙ ap (λ r. get_or r j (integer (pos 0))) (e ∙ same_default rows i row [] p)
+
+-- a column of the schema is one of each row's values
+pub column_in : (rows : List (List Datum)) (schema : List Attribute) (i j : ℕ) (row : List Datum) (values : List Value) → AreRowsOf rows schema → i < length rows → j < length schema
+    → row ≡ get_or rows i row → map datum_of values ≡ row → j < length values
+column_in rows schema i j row values whole p q e f =
+    let all = ap length f in
+    omega (arith, all, length-map values datum_of, row_read_length rows schema i row whole p e)

@@ -1,0 +1,197 @@
+ghost use Rattle.std.specs.Prelude.{◌≡◌, ◌↔◌, ◌++◌, ◌∷◌, [], length, map, IsTrue, IfOk, OnOk, OnErr};
+ghost use Rattle.mk_value.specs.Data.{IsOf, default_of};
+
+use crate::{Bytes, Kind, Memory, Schema, Text};
+use std::alloc::Global;
+use std::marker::Model;
+
+/// A value of a property.
+#[cycle(value)]
+#[derive(Debug, Drop)]
+pub enum Value {
+    /// A number of 32 bits.
+    I(i32),
+    /// A number of 64 bits.
+    L(i64),
+    /// A text. Its length and its bytes are within the limits of kind S where `fits` says so.
+    S(Text),
+    /// A byte string.
+    B(Bytes),
+    /// The rows of a view.
+    V(Rows),
+}
+
+/// A row: a list of values.
+#[cycle(value)]
+#[derive(Debug, Drop)]
+pub struct Row {
+    cells: Vec<Value>,
+}
+
+/// A list of rows.
+#[cycle(value)]
+#[derive(Debug, Drop)]
+pub struct Rows {
+    items: Vec<Row>,
+}
+
+impl Model for Row {
+    ghost use Rattle.std.specs.Prelude.{List, map};
+    ghost use Rattle.mk_value.specs.Data.{Datum, row_weight};
+    ghost use Rattle.mk_value.specs.DataCode.{row_code};
+
+    ghost Value = { List Datum };
+
+    ghost coded = { row_code };
+
+    ghost use Rattle.mk_value.specs.Values.{datum_of};
+
+    ghost view = { λ r. map datum_of r.cells.items };
+
+    ghost size = { row_weight };
+
+    ghost use Rattle.mk_value.specs.DataFalls.{row_falls};
+
+    ghost size_decreases = { λ r _. row_falls r };
+}
+
+impl Model for Rows {
+    ghost use Rattle.std.specs.Prelude.{List};
+    ghost use Rattle.mk_value.specs.Data.{Datum, rows_weight};
+    ghost use Rattle.mk_value.specs.DataCode.{rows_code};
+
+    ghost Value = { List (List Datum) };
+
+    ghost coded = { rows_code };
+
+    ghost view = { λ r. r.items.items };
+
+    ghost size = { rows_weight };
+
+    ghost use Rattle.mk_value.specs.DataFalls.{rows_fall};
+
+    ghost size_decreases = { λ r _. rows_fall r };
+}
+
+impl Value {
+    ghost use Rattle.mk_value.specs.Values.{datum_of};
+    ghost use Rattle.mk_value.specs.Kinds.{domain_of};
+
+    /// An equal value, which has memory of its own.
+    #[cycle(copy_value)]
+    pub fn copy(&self) -> Result<Value, Memory>
+        ensures { IfOk result (λ value. datum_of value ≡ datum_of self.now) }
+    {
+        match self {
+            Value::I(number) => Ok(Value::I(*number)),
+            Value::L(number) => Ok(Value::L(*number)),
+            Value::S(text) => Ok(Value::S(text.copy()?)),
+            Value::B(bytes) => Ok(Value::B(bytes.copy()?)),
+            Value::V(rows) => Ok(Value::V(rows.copy()?)),
+        }
+    }
+}
+
+impl Row {
+    ghost use Rattle.mk_value.specs.Values.{datum_of};
+
+    /// The empty row.
+    pub fn new(alloc: Global) -> Row
+        ensures { result ≡ [] }
+    {
+        Row {
+            cells: Vec::new(alloc),
+        }
+    }
+
+    /// Appends a value.
+    pub fn push(&mut self, value: Value) -> Result<(), Memory>
+        ensures ok { OnOk result (self.new ≡ self.old ++ datum_of value ∷ []) }
+        ensures err { OnErr result (self.new ≡ self.old) }
+    {
+        self.cells.push(value)?;
+        Ok(())
+    }
+
+    pub fn as_slice(&self) -> &[Value]
+        ensures { map datum_of result.now ≡ self.now }
+    {
+        self.cells.as_slice()
+    }
+
+    /// The number of values.
+    pub fn len(&self) -> usize
+        ensures { result ≡ length self.now }
+    {
+        self.cells.len()
+    }
+
+    pub fn is_empty(&self) -> bool
+        ensures { IsTrue result ↔ (self.now ≡ []) }
+    {
+        self.cells.is_empty()
+    }
+
+    /// An equal row, which has memory of its own.
+    #[cycle(copy_value)]
+    pub fn copy(&self) -> Result<Row, Memory>
+        ensures { IfOk result (λ row. row ≡ self.now) }
+    {
+        let mut copy = Row::new(*self.cells.allocator());
+        for value in self.cells.iter() {
+            copy.push(value.copy()?)?;
+        }
+        Ok(copy)
+    }
+}
+
+impl Rows {
+    /// No rows.
+    pub fn new(alloc: Global) -> Rows
+        ensures { result ≡ [] }
+    {
+        Rows {
+            items: Vec::new(alloc),
+        }
+    }
+
+    /// Appends a row.
+    pub fn push(&mut self, row: Row) -> Result<(), Memory>
+        ensures ok { OnOk result (self.new ≡ self.old ++ row ∷ []) }
+        ensures err { OnErr result (self.new ≡ self.old) }
+    {
+        self.items.push(row)?;
+        Ok(())
+    }
+
+    pub fn as_slice(&self) -> &[Row]
+        ensures { result.now ≡ self.now }
+    {
+        self.items.as_slice()
+    }
+
+    /// The number of rows.
+    pub fn len(&self) -> usize
+        ensures { result ≡ length self.now }
+    {
+        self.items.len()
+    }
+
+    pub fn is_empty(&self) -> bool
+        ensures { IsTrue result ↔ (self.now ≡ []) }
+    {
+        self.items.is_empty()
+    }
+
+    /// Equal rows, which have memory of their own.
+    #[cycle(copy_value)]
+    pub fn copy(&self) -> Result<Rows, Memory>
+        ensures { IfOk result (λ rows. rows ≡ self.now) }
+    {
+        let mut copy = Rows::new(*self.items.allocator());
+        for row in self.items.iter() {
+            copy.push(row.copy()?)?;
+        }
+        Ok(copy)
+    }
+}
