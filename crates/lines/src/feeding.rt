@@ -59,10 +59,10 @@ pub fn feed_piece<H: Host, S: Session<H>>(
     let mut from = 0;
     'lines: while let Some(len) = find_newline(&piece[from..]) {
         keep(room, &piece[from..from + len]);
-        if answer_line(session, host, room.as_slice(), out)? == Flow::Ends {
-            return Ok(Flow::Ends);
+        match answer_line(session, host, room.as_slice(), out)? {
+            Flow::Goes => room.clear(),
+            Flow::Ends => return Ok(Flow::Ends),
         }
-        room.clear();
         from += len + 1;
     }
     keep(room, &piece[from..]);
