@@ -34,9 +34,9 @@ IsSound-written left place bytes disk within sound =
 -- a place is within a range or it is not
 within_or_not : (at place n : ℕ) → IsWithin at (record { start = place; count = n }) ⊎ (¬ IsWithin at (record { start = place; count = n }))
 within_or_not at place n = ⊎_elim
-  (λ before. inr (λ within. omega (arith, within.0)))
-  (λ behind. ⊎_elim (λ inside. inl (behind, inside)) (λ past. inr (λ within. omega (arith, within.1))) (cases_lt at (place + n)))
-  (cases_lt at place)
+    (λ before. inr (λ within. omega (arith, within.0)))
+    (λ behind. ⊎_elim (λ inside. inl (behind, inside)) (λ past. inr (λ within. omega (arith, within.1))) (cases_lt at (place + n)))
+    (cases_lt at place)
 
 -- a range more of `ff`
 module _ (left : Effect) (place : ℕ) (bytes : List ℕ) (disk : DiskState) (image : List ℕ) (ones : IsOnes disk image) (within : place ≤ length image) where

@@ -130,6 +130,7 @@ abbrev pub after_write : ℕ → List ℕ → HostState → HostState
 after_write place bytes host = after_disk_call (is_refused (length bytes) host) history host where
   moment : Moment
   moment = record { disk = written (unwrap_or (due host) Whole) place bytes (now_of host).disk; said = (now_of host).said }
+
   history : History
   history = if has_room (length bytes) host.history then recorded (risen host.calls) moment (length bytes) host.history else host.history
 
@@ -137,6 +138,7 @@ abbrev pub after_sync : HostState → HostState
 after_sync host = after_disk_call (is_refused 0 host) history host where
   moment : Moment
   moment = record { disk = settled (now_of host).disk.seen; said = (now_of host).said }
+
   history : History
   history = if is_refused 0 host then host.history else recorded (risen host.calls) moment 0 host.history
 
@@ -163,8 +165,10 @@ after_say piece host = record host {
 } where
   front : List ℕ
   front = said_front piece host
+
   refused : Bool
   refused = is_refused (length front) host
+
   moment : Moment
   moment = record { disk = (now_of host).disk; said = (now_of host).said ++ front }
 
@@ -179,7 +183,7 @@ pub record IsOnes (disk : DiskState) (image : List ℕ) : Type 0 where
   pub touched : (place : ℕ) → IsTouched place disk.pending → slice_index image place ≡ 255
   pub past : (place : ℕ) → length disk.synced ≤ place → place < length image → slice_index image place ≡ 255
   pub kept : (place : ℕ) → place < length disk.synced → IsUntouched place disk.pending
-    → slice_index image place ≡ slice_index disk.synced place
+      → slice_index image place ≡ slice_index disk.synced place
 
 -- the image of a crash that leaves the pending bytes as at the last sync, as they were written, or all `ff`
 abbrev pub IsLeft : Effect → DiskState → List ℕ → Type 0

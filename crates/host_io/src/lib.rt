@@ -13,6 +13,8 @@ mod fault;
 mod file;
 mod log;
 mod memory_host;
+#[cfg(test)]
+mod tests;
 mod traits;
 
 pub use fault::{Effect, Fault};

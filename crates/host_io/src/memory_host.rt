@@ -35,14 +35,14 @@ impl Model for MemHost {
     ghost Value = { HostState };
 
     ghost view = { λ host. record {
-        history = host.log;
-        input = drop host.taken host.input.items;
-        calls = host.calls;
-        script = host.script.items;
-        most = host.most;
-        disk_faults = host.disk_faults;
-        take_faults = host.take_faults;
-        say_faults = host.say_faults;
+      history = host.log;
+      input = drop host.taken host.input.items;
+      calls = host.calls;
+      script = host.script.items;
+      most = host.most;
+      disk_faults = host.disk_faults;
+      take_faults = host.take_faults;
+      say_faults = host.say_faults;
     } };
 
     ghost invariant = { λ host. host.taken ≤ length host.input.items };
@@ -70,9 +70,15 @@ impl MemHost {
         room: usize,
     ) -> Result<MemHost, Memory>
         ensures { IfOk result (λ host. host ≡ record {
-            history = record { trail = first_trail image.now; moments_left = room; bytes_left = room };
-            input = input.now; calls = 0; script = script.now; most = most;
-            disk_faults = 0; take_faults = 0; say_faults = 0 }) }
+          history = record { trail = first_trail image.now; moments_left = room; bytes_left = room };
+          input = input.now;
+          calls = 0;
+          script = script.now;
+          most = most;
+          disk_faults = 0;
+          take_faults = 0;
+          say_faults = 0;
+        }) }
     {
         Ok(MemHost {
             log: Log::new(alloc, image, room)?,
