@@ -7,6 +7,8 @@
 mod rooms;
 mod running;
 mod status;
+#[cfg(test)]
+mod tests;
 mod words;
 
 pub use running::run;

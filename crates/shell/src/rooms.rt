@@ -1,5 +1,5 @@
 ghost use Rattle.std.specs.Prelude.{IfOk};
-ghost use Rattle.lines.specs.Steps.{IsClear};
+ghost use Rattle.lines.specs.Rooms.{IsClear};
 
 use lines::MAX_LINE;
 use mk_value::{Bytes, Memory, Text};

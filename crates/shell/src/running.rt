@@ -2,7 +2,7 @@ ghost use Rattle.std.specs.Prelude.{◌≡◌, ◌⊎◌, ◌≢◌, ◌+◌, �
 ghost use Rattle.host_io.specs.Disk.{IsSettled};
 ghost use Rattle.host_io.specs.Outside.{Outside};
 ghost use Rattle.host_io.specs.Calls.{CountsDisk, Looks, Rose};
-ghost use Rattle.lines.specs.Steps.{IsClear};
+ghost use Rattle.lines.specs.Rooms.{IsClear};
 ghost use Rattle.shell.specs.Words.{AreWords, texts_of};
 ghost use Rattle.shell.specs.Ran.{Ran, GoesWell, AttachesEmpty, IsServed};
 
