@@ -168,3 +168,43 @@ impl Host for RealHost {
         counted(answer, &mut self.say_faults)
     }
 }
+
+#[cfg(test)]
+mod tests {
+    use super::RealHost;
+    use host_io::{Disk, Failed};
+    use std::test::Fail;
+    use std::{fs, process};
+
+    /// The few lines reach a real file: what is written is read back, and a call that cannot be done is counted.
+    #[test]
+    fn reaches_a_real_file(rt: HostRuntime) -> Result<(), Fail> {
+        let folder = std::env::temp_dir(&rt)?;
+        let name = format!(in rt.alloc();
+            "{}/real_host_{}",
+            folder.display(),
+            process::id(rt.process())
+        )?;
+        let mut host = RealHost::new(rt);
+        assert_eq!(rt; host.attach(name.as_str(), false), Err(Failed));
+        assert_eq!(rt; host.len(), Err(Failed));
+        assert_eq!(rt; host.disk_faults, 2);
+
+        assert_eq!(rt; host.attach(name.as_str(), true), Ok(()));
+        assert_eq!(rt; host.len(), Ok(0));
+        assert_eq!(rt; host.write_at(0, b"column"), Ok(()));
+        assert_eq!(rt; host.write_at(6, b"s"), Ok(()));
+        assert_eq!(rt; host.sync(), Ok(()));
+        assert_eq!(rt; host.len(), Ok(7));
+        let mut piece = [0; 4];
+        assert_eq!(rt; host.read_at(3, &mut piece), Ok(()));
+        assert_eq!(rt; piece.as_slice(), b"umns".as_slice());
+        assert_eq!(rt; host.disk_faults, 2);
+
+        // A file that ends within a read is a failure.
+        assert_eq!(rt; host.read_at(4, &mut piece), Err(Failed));
+        assert_eq!(rt; host.disk_faults, 3);
+        fs::remove_file(&rt, name.as_str())?;
+        Ok(())
+    }
+}
