@@ -52,11 +52,11 @@ IsTorn-same place n file = record { before = refl; after = refl; no_shorter = om
 -- a write that is cut short leaves each byte outside of its range
 pub slice_index-torn : (place n : ℕ) (old new : List ℕ) (at : ℕ) → IsTorn place n old new → ¬ IsWithin at (record { start = place; count = n }) → slice_index new at ≡ slice_index old at
 slice_index-torn place n old new at torn outside = ⊎_elim
-  (λ before. sym (get_or-take place new at 0 before) ∙ ap (λ (l : List ℕ). slice_index l at) torn.before ∙ get_or-take place old at 0 before)
-  (λ behind. ⊎_elim (λ inside. absurd (outside (behind, inside)))
+    (λ before. sym (get_or-take place new at 0 before) ∙ ap (λ (l : List ℕ). slice_index l at) torn.before ∙ get_or-take place old at 0 before)
+    (λ behind. ⊎_elim (λ inside. absurd (outside (behind, inside)))
     (λ past. subst (λ (k : ℕ). slice_index new k ≡ slice_index old k) (back past) (sym (get_or-drop (place + n) new (at - (place + n)) 0) ∙ ap (λ (l : List ℕ). slice_index l (at - (place + n))) torn.after ∙ get_or-drop (place + n) old (at - (place + n)) 0))
     (cases_lt at (place + n)))
-  (cases_lt at place)
+    (cases_lt at place)
   where
     back : place + n ≤ at → place + n + (at - (place + n)) ≡ at
     back past = omega arith

@@ -7,9 +7,9 @@ use Rattle.std.proofs.lemmas.Bool.{cases_lt}
 -- a count that rose first and then didn't fall, rose
 pub Rose-first : (before mid now : ℕ) → before ≤ mid → Rose before mid → mid ≤ now → Rose before now
 Rose-first before mid now later rose further = ⊎_elim
-  (λ above. inl (omega arith))
-  (λ last. ⊎_elim (λ above. inl (omega arith)) (λ same. inr (omega arith)) (cases_lt mid now))
-  rose
+    (λ above. inl (omega arith))
+    (λ last. ⊎_elim (λ above. inl (omega arith)) (λ same. inr (omega arith)) (cases_lt mid now))
+    rose
 
 -- a count that didn't fall first and then rose, rose
 pub Rose-last : (before mid now : ℕ) → before ≤ mid → Rose mid now → Rose before now

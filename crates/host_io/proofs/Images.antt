@@ -35,7 +35,7 @@ IsImage-widened place n disk image is = record {
 }
 
 -- a write that is cut short leaves an image
-IsSound-torn : (place n : ℕ) (disk : DiskState) (file : List ℕ) → place ≤ length disk.seen → IsTorn place n disk.seen file → IsSound disk → IsImage (widened place n disk) file
+pub IsSound-torn : (place n : ℕ) (disk : DiskState) (file : List ℕ) → place ≤ length disk.seen → IsTorn place n disk.seen file → IsSound disk → IsImage (widened place n disk) file
 IsSound-torn place n disk file within torn sound = record {
   no_shorter = omega (arith, torn.no_shorter, sound.no_shorter);
   no_longer = omega (arith, torn.no_longer, sound.no_longer);
@@ -43,13 +43,13 @@ IsSound-torn place n disk file within torn sound = record {
 }
 
 -- the same images where the synced bytes, the pending ranges and the greatest length are the same
-same_images : (disk other : DiskState) (image : List ℕ) → other.synced ≡ disk.synced → other.pending ≡ disk.pending → other.longest ≡ disk.longest → IsImage disk image → IsImage other image
+pub same_images : (disk other : DiskState) (image : List ℕ) → other.synced ≡ disk.synced → other.pending ≡ disk.pending → other.longest ≡ disk.longest → IsImage disk image → IsImage other image
 same_images disk other image synced pending longest is = record {
   no_shorter = omega (arith, is.no_shorter, ap length synced);
   no_longer = omega (arith, is.no_longer, longest);
   kept = λ at within untouched.
-  is.kept at (omega (arith, within, ap length synced)) (subst (λ (ranges : List Range). IsUntouched at ranges) pending untouched)
-  ∙ ap (λ (l : List ℕ). slice_index l at) (sym synced);
+      is.kept at (omega (arith, within, ap length synced)) (subst (λ (ranges : List Range). IsUntouched at ranges) pending untouched)
+      ∙ ap (λ (l : List ℕ). slice_index l at) (sym synced);
 }
 
 module _ {old new : Outside} where
@@ -71,18 +71,18 @@ module _ {old new : Outside} where
   pub IsImage-writes : {T E : Type 0} {result : Result T E} {place : ℕ} {bytes : List ℕ} (image : List ℕ) → Writes place bytes old new result → IsImage new.now.disk image → IsImage (widened place (length bytes) old.now.disk) image
   IsImage-writes {result = Ok x} image writes is = images_widened image writes.ok.1 is
   IsImage-writes {result = Err e} {place = place} {bytes = bytes} image writes is = ⊎_elim
-    (λ torn. images_widened image torn.1 is)
-    (λ still. IsImage-widened place (length bytes) old.now.disk image (IsImage-still image still is))
-    writes.err
+      (λ torn. images_widened image torn.1 is)
+      (λ still. IsImage-widened place (length bytes) old.now.disk image (IsImage-still image still is))
+      writes.err
 
   pub IsSound-writes : {T E : Type 0} {result : Result T E} {place : ℕ} {bytes : List ℕ} → place ≤ length old.now.disk.seen → Writes place bytes old new result → IsSound old.now.disk → IsSound new.now.disk
   IsSound-writes {result = Ok x} {place = place} {bytes = bytes} within writes sound =
       images_narrowed new.now.disk.seen writes.ok.1
       (IsSound-torn place (length bytes) old.now.disk new.now.disk.seen within (subst (λ (l : List ℕ). IsTorn place (length bytes) old.now.disk.seen l) (sym writes.ok.0) (IsTorn-put_bytes old.now.disk.seen place bytes within)) sound)
   IsSound-writes {result = Err e} {place = place} {bytes = bytes} within writes sound = ⊎_elim
-    (λ torn. images_narrowed new.now.disk.seen torn.1 (IsSound-torn place (length bytes) old.now.disk new.now.disk.seen within torn.0 sound))
-    (λ still. IsSound-still still sound)
-    writes.err
+      (λ torn. images_narrowed new.now.disk.seen torn.1 (IsSound-torn place (length bytes) old.now.disk new.now.disk.seen within torn.0 sound))
+      (λ still. IsSound-still still sound)
+      writes.err
 
   -- after a sync that succeeded the disk is settled
   pub IsSettled-syncs : {T E : Type 0} {x : T} → Syncs {E = E} old new (Ok x) → IsSettled new.now.disk

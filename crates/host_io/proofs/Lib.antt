@@ -1,4 +1,5 @@
 pub mod Bytes
+mod Crashes
 pub mod Faults
 pub mod Images
 pub mod Moments

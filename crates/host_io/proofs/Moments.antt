@@ -90,9 +90,9 @@ only_now outside image n left =
 LeftAt-append : {P : Moment → Type 0} (since : ℕ) (added before : List Moment) (image : List ℕ) (n : ℕ) → Each P added → LeftAt since (added ++ before) image n → LeftAt since before image n ⊎ LeftBy P image n
 LeftAt-append since [] before image n each left = inl left
 LeftAt-append since (m ∷ added) before image n each left = ⊎_elim
-  (λ here. inr (record { at = m; holds = each.0; is_image = here.0; said = here.1 }))
-  (λ there. LeftAt-append since added before image n each.1 there)
-  left.1
+    (λ here. inr (record { at = m; holds = each.0; is_image = here.0; said = here.1 }))
+    (λ there. LeftAt-append since added before image n each.1 there)
+    left.1
 
 -- what may have been left after a run was left before it, or by one of its moments
 pub Left-goes : {P : Moment → Type 0} {old new : Outside} (since : ℕ) (image : List ℕ) (n : ℕ) → Goes P old new → Left since new image n → Left since old image n ⊎ LeftBy P image n

@@ -8,7 +8,7 @@ use Rattle.host_io.specs.Calls.{put_bytes}
 use Rattle.host_io.specs.Memory.{Timed, Trail, History, left_by, written, extended, recorded}
 use Rattle.host_io.specs.declared.fault.Effect.{Effect}
 use Rattle.host_io.specs.declared.fault.Effect.TheVariants.{Nothing, Whole, Ones}
-use Rattle.host_io.specs.Log.{piece_bytes, disk_after, said_after, next_moment, replayed, disk_at, first_trail, EventFits, EntriesFit, history_of, IsLog}
+use Rattle.host_io.specs.Log.{piece_bytes, disk_after, said_after, next_moment, replayed, disk_at, first_trail, WriteFits, WritesFit, SayFits, SaysFit, history_of, IsLog}
 use Rattle.host_io.specs.declared.entry.Piece.{Piece}
 use Rattle.host_io.specs.declared.entry.Event.{Event}
 use Rattle.host_io.specs.declared.entry.Event.TheVariants.{Write, Sync, Say}
@@ -30,9 +30,13 @@ pub disk_at-push : (all : List ℕ) (disk : DiskState) (entries : List Entry) (e
 disk_at-push all disk [] entry = refl
 disk_at-push all disk (e ∷ entries) entry = disk_at-push all (disk_after all e.event disk) entries entry
 
-pub EntriesFit-push : (all said : List ℕ) (disk : DiskState) (entries : List Entry) (entry : Entry) → EntriesFit all said disk entries → EventFits all said (disk_at all disk entries) entry.event → EntriesFit all said disk (entries ++ entry ∷ [])
-EntriesFit-push all said disk [] entry fit last = (last, tt)
-EntriesFit-push all said disk (e ∷ entries) entry fit last = (fit.0, EntriesFit-push all said (disk_after all e.event disk) entries entry fit.1 last)
+pub WritesFit-push : (all : List ℕ) (disk : DiskState) (entries : List Entry) (entry : Entry) → WritesFit all disk entries → WriteFits all (disk_at all disk entries) entry.event → WritesFit all disk (entries ++ entry ∷ [])
+WritesFit-push all disk [] entry fit last = (last, tt)
+WritesFit-push all disk (e ∷ entries) entry fit last = (fit.0, WritesFit-push all (disk_after all e.event disk) entries entry fit.1 last)
+
+pub SaysFit-push : (said : List ℕ) (entries : List Entry) (entry : Entry) → SaysFit said entries → SayFits said entry.event → SaysFit said (entries ++ entry ∷ [])
+SaysFit-push said [] entry fit last = (last, tt)
+SaysFit-push said (e ∷ entries) entry fit last = (fit.0, SaysFit-push said entries entry fit.1 last)
 
 piece_bytes-append : (all more : List ℕ) (piece : Piece) → piece.from + piece.count ≤ length all → piece_bytes (all ++ more) piece ≡ piece_bytes all piece
 piece_bytes-append all more piece fit =
@@ -40,37 +44,46 @@ piece_bytes-append all more piece fit =
     let within : piece.count ≤ length (drop piece.from all) = omega (arith, length-drop piece.from all) in
     ap (λ (l : List ℕ). take piece.count l) behind ∙ take-append-le piece.count (drop piece.from all) more within
 
-disk_after-append : (all more said : List ℕ) (disk : DiskState) (event : Event) → EventFits all said disk event → disk_after (all ++ more) event disk ≡ disk_after all event disk
-disk_after-append all more said disk (Write piece) fit = ap (λ (l : List ℕ). written piece.left piece.at l disk) (piece_bytes-append all more piece fit.0)
-disk_after-append all more said disk Sync fit = refl
-disk_after-append all more said disk (Say end) fit = refl
+disk_after-append : (all more : List ℕ) (disk : DiskState) (event : Event) → WriteFits all disk event → disk_after (all ++ more) event disk ≡ disk_after all event disk
+disk_after-append all more disk (Write piece) fit = ap (λ (l : List ℕ). written piece.left piece.at l disk) (piece_bytes-append all more piece fit.0)
+disk_after-append all more disk Sync fit = refl
+disk_after-append all more disk (Say end) fit = refl
 
-said_after-append : (all said more : List ℕ) (disk : DiskState) (event : Event) (before : List ℕ) → EventFits all said disk event → said_after (said ++ more) event before ≡ said_after said event before
-said_after-append all said more disk (Write piece) before fit = refl
-said_after-append all said more disk Sync before fit = refl
-said_after-append all said more disk (Say end) before fit = take-append-le end said more fit
+said_after-append : (said more : List ℕ) (event : Event) (before : List ℕ) → SayFits said event → said_after (said ++ more) event before ≡ said_after said event before
+said_after-append said more (Write piece) before fit = refl
+said_after-append said more Sync before fit = refl
+said_after-append said more (Say end) before fit = take-append-le end said more fit
 
-EventFits-append : (all more said more_said : List ℕ) (disk : DiskState) (event : Event) → EventFits all said disk event → EventFits (all ++ more) (said ++ more_said) disk event
-EventFits-append all more said more_said disk (Write piece) fit = (omega (arith, length-append all more, fit.0), fit.1)
-EventFits-append all more said more_said disk Sync fit = tt
-EventFits-append all more said more_said disk (Say end) fit = omega (arith, length-append said more_said, fit)
+WriteFits-append : (all more : List ℕ) (disk : DiskState) (event : Event) → WriteFits all disk event → WriteFits (all ++ more) disk event
+WriteFits-append all more disk (Write piece) fit = (omega (arith, length-append all more, fit.0), fit.1)
+WriteFits-append all more disk Sync fit = tt
+WriteFits-append all more disk (Say end) fit = tt
 
-pub EntriesFit-append : (all more said more_said : List ℕ) (disk : DiskState) (entries : List Entry) → EntriesFit all said disk entries → EntriesFit (all ++ more) (said ++ more_said) disk entries
-EntriesFit-append all more said more_said disk [] fit = tt
-EntriesFit-append all more said more_said disk (e ∷ entries) fit = (
-  EventFits-append all more said more_said disk e.event fit.0,
-  subst (λ (d : DiskState). EntriesFit (all ++ more) (said ++ more_said) d entries) (sym (disk_after-append all more said disk e.event fit.0)) (EntriesFit-append all more said more_said (disk_after all e.event disk) entries fit.1),
+pub WritesFit-append : (all more : List ℕ) (disk : DiskState) (entries : List Entry) → WritesFit all disk entries → WritesFit (all ++ more) disk entries
+WritesFit-append all more disk [] fit = tt
+WritesFit-append all more disk (e ∷ entries) fit = (
+  WriteFits-append all more disk e.event fit.0,
+  subst (λ (d : DiskState). WritesFit (all ++ more) d entries) (sym (disk_after-append all more disk e.event fit.0)) (WritesFit-append all more (disk_after all e.event disk) entries fit.1),
 )
 
+SayFits-append : (said more : List ℕ) (event : Event) → SayFits said event → SayFits (said ++ more) event
+SayFits-append said more (Write piece) fit = tt
+SayFits-append said more Sync fit = tt
+SayFits-append said more (Say end) fit = omega (arith, length-append said more, fit)
+
+pub SaysFit-append : (said more : List ℕ) (entries : List Entry) → SaysFit said entries → SaysFit (said ++ more) entries
+SaysFit-append said more [] fit = tt
+SaysFit-append said more (e ∷ entries) fit = (SayFits-append said more e.event fit.0, SaysFit-append said more entries fit.1)
+
 -- what comes behind changes nothing of what the entries so far stand for
-pub replayed-append : (all more said more_said : List ℕ) (trail : Trail) (entries : List Entry) → EntriesFit all said trail.latest.moment.disk entries → replayed (all ++ more) (said ++ more_said) trail entries ≡ replayed all said trail entries
-replayed-append all more said more_said trail [] fit = refl
-replayed-append all more said more_said trail (e ∷ entries) fit =
+pub replayed-append : (all more said more_said : List ℕ) (trail : Trail) (entries : List Entry) → WritesFit all trail.latest.moment.disk entries → SaysFit said entries → replayed (all ++ more) (said ++ more_said) trail entries ≡ replayed all said trail entries
+replayed-append all more said more_said trail [] fit says = refl
+replayed-append all more said more_said trail (e ∷ entries) fit says =
     let moment = trail.latest.moment in
     let same : next_moment (all ++ more) (said ++ more_said) e.event moment ≡ next_moment all said e.event moment =
-    (let disks = disk_after-append all more said moment.disk e.event fit.0 in let saids = said_after-append all said more_said moment.disk e.event moment.said fit.0 in cc) in
+    (let disks = disk_after-append all more moment.disk e.event fit.0 in let saids = said_after-append said more_said e.event moment.said says.0 in cc) in
     ap (λ (m : Moment). replayed (all ++ more) (said ++ more_said) (extended e.calls m trail) entries) same
-    ∙ replayed-append all more said more_said (extended e.calls (next_moment all said e.event moment) trail) entries fit.1
+    ∙ replayed-append all more said more_said (extended e.calls (next_moment all said e.event moment) trail) entries fit.1 says.1
 
 length-put_bytes : (file : List ℕ) (place : ℕ) (bytes : List ℕ) → place ≤ length file → length (put_bytes file place bytes) ≡ max (length file) (place + length bytes)
 length-put_bytes file place bytes within =
@@ -90,19 +103,18 @@ module _ (image all more said more_said : List ℕ) (entries : List Entry) (entr
   abbrev pub next : Moment
   next = next_moment (all ++ more) (said ++ more_said) entry.event now
 
-  pub replayed-grown : EntriesFit all said (settled image) entries
+  pub replayed-grown : WritesFit all (settled image) entries → SaysFit said entries
       → replayed (all ++ more) (said ++ more_said) (first_trail image) (entries ++ entry ∷ []) ≡ extended entry.calls next (replayed all said (first_trail image) entries)
-  replayed-grown fit =
+  replayed-grown fit says =
       replayed-push (all ++ more) (said ++ more_said) (first_trail image) entries entry
-      ∙ ap (λ (t : Trail). extended entry.calls (next_moment (all ++ more) (said ++ more_said) entry.event t.latest.moment) t) (replayed-append all more said more_said (first_trail image) entries fit)
+      ∙ ap (λ (t : Trail). extended entry.calls (next_moment (all ++ more) (said ++ more_said) entry.event t.latest.moment) t) (replayed-append all more said more_said (first_trail image) entries fit says)
 
-  pub EntriesFit-grown : EntriesFit all said (settled image) entries → EventFits (all ++ more) (said ++ more_said) now.disk entry.event
-      → EntriesFit (all ++ more) (said ++ more_said) (settled image) (entries ++ entry ∷ [])
-  EntriesFit-grown fit last =
+  pub WritesFit-grown : WritesFit all (settled image) entries → SaysFit said entries → WriteFits (all ++ more) now.disk entry.event → WritesFit (all ++ more) (settled image) (entries ++ entry ∷ [])
+  WritesFit-grown fit says last =
       let disks : disk_at (all ++ more) (settled image) entries ≡ now.disk =
-      sym (disk-replayed (all ++ more) (said ++ more_said) (first_trail image) entries) ∙ ap (λ (t : Trail). t.latest.moment.disk) (replayed-append all more said more_said (first_trail image) entries fit) in
-      EntriesFit-push (all ++ more) (said ++ more_said) (settled image) entries entry (EntriesFit-append all more said more_said (settled image) entries fit)
-      (subst (λ (d : DiskState). EventFits (all ++ more) (said ++ more_said) d entry.event) (sym disks) last)
+      sym (disk-replayed (all ++ more) (said ++ more_said) (first_trail image) entries) ∙ ap (λ (t : Trail). t.latest.moment.disk) (replayed-append all more said more_said (first_trail image) entries fit says) in
+      WritesFit-push (all ++ more) (settled image) entries entry (WritesFit-append all more (settled image) entries fit)
+      (subst (λ (d : DiskState). WriteFits (all ++ more) d entry.event) (sym disks) last)
 
 -- a log's parts before and after one entry more
 pub record Grows (image seen seen' all all' said said' : Vec ℕ Global) (entries entries' : Vec Entry Global) (room bytes : ℕ) (entry : Entry) (more more_said : List ℕ) (moment : Moment) : Type 0 where
@@ -110,7 +122,8 @@ pub record Grows (image seen seen' all all' said said' : Vec ℕ Global) (entrie
   pub all_is : all'.items ≡ all.items ++ more
   pub said_is : said'.items ≡ said.items ++ more_said
   pub entries_is : entries'.items ≡ entries.items ++ entry ∷ []
-  pub event : EventFits (all.items ++ more) (said.items ++ more_said) (now image.items all.items more said.items more_said entries.items entry).disk entry.event
+  pub write : WriteFits (all.items ++ more) (now image.items all.items more said.items more_said entries.items entry).disk entry.event
+  pub say : SayFits (said.items ++ more_said) entry.event
   pub moment_is : next image.items all.items more said.items more_said entries.items entry ≡ moment
   pub seen_is : moment.disk.seen ≡ seen'.items
   pub said_now : moment.said ≡ said'.items
@@ -126,7 +139,7 @@ pub record Grows (image seen seen' all all' said said' : Vec ℕ Global) (entrie
 module _ {image seen seen' all all' said said' : Vec ℕ Global} {entries entries' : Vec Entry Global} {room bytes : ℕ} {entry : Entry} {more more_said : List ℕ} {moment : Moment}
     (g : Grows image seen seen' all all' said said' entries entries' room bytes entry more more_said moment) where
   trail_is : replayed all'.items said'.items (first_trail image.items) entries'.items ≡ extended entry.calls moment (replayed all.items said.items (first_trail image.items) entries.items)
-  trail_is = rw (g.all_is, g.said_is, g.entries_is, ← g.moment_is) (replayed-grown image.items all.items more said.items more_said entries.items entry g.log.fits)
+  trail_is = rw (g.all_is, g.said_is, g.entries_is, ← g.moment_is) (replayed-grown image.items all.items more said.items more_said entries.items entry g.log.writes g.log.says)
 
   pub history-grown : history_of image.items all'.items said'.items entries'.items room ≡ recorded entry.calls moment bytes (history_of image.items all.items said.items entries.items room)
   history-grown =
@@ -140,7 +153,8 @@ module _ {image seen seen' all all' said said' : Vec ℕ Global} {entries entrie
       let alls : length all'.items ≡ length all.items + length more = rw g.all_is (length-append all.items more) in
       let saids : length said'.items ≡ length said.items + length more_said = rw g.said_is (length-append said.items more_said) in
       let count : length entries'.items ≡ length entries.items + 1 = rw g.entries_is (length_push entries.items entry) in record {
-        fits = rw (g.all_is, g.said_is, g.entries_is) (EntriesFit-grown image.items all.items more said.items more_said entries.items entry g.log.fits g.event);
+        writes = rw (g.all_is, g.entries_is) (WritesFit-grown image.items all.items more said.items more_said entries.items entry g.log.writes g.log.says g.write);
+        says = rw (g.said_is, g.entries_is) (SaysFit-push (said.items ++ more_said) entries.items entry (SaysFit-append said.items more_said entries.items g.log.says) g.say);
         is_seen = ap (λ (t : Trail). t.latest.moment.disk.seen) trail_is ∙ g.seen_is;
         is_said = ap (λ (t : Trail). t.latest.moment.said) trail_is ∙ g.said_now;
         moments = omega (arith, g.moments_left, g.log.moments);
@@ -164,7 +178,8 @@ Grows-sync {image} {seen} {all} {said} {entries} {entries'} log entries_is left 
   all_is = sym (append-nil all.items);
   said_is = sym (append-nil said.items);
   entries_is = entries_is;
-  event = tt;
+  write = tt;
+  say = tt;
   moment_is = refl;
   seen_is = log.is_seen;
   said_now = log.is_said;
@@ -190,7 +205,8 @@ Grows-say {image} {seen} {all} {said} {said'} {entries} {entries'} piece end end
       all_is = sym (append-nil all.items);
       said_is = said_is;
       entries_is = entries_is;
-      event = omega (arith, at_end, ap length said_is);
+      write = tt;
+      say = omega (arith, at_end, ap length said_is);
       moment_is = ap (λ (l : List ℕ). let m : Moment = record { disk = (latest_of image.items all.items said.items entries.items).disk; said = l } in m) all_of_it;
       seen_is = log.is_seen;
       said_now = spoken;
@@ -217,7 +233,8 @@ Grows-write {image} {seen} {seen'} {all} {all'} {said} {entries} {entries'} at f
       all_is = all_is;
       said_is = sym (append-nil said.items);
       entries_is = entries_is;
-      event = (omega (arith, from_is, length-append all.items bytes), omega (arith, ap length log.is_seen));
+      write = (omega (arith, from_is, length-append all.items bytes), omega (arith, ap length log.is_seen));
+      say = tt;
       moment_is = ap (λ (l : List ℕ). let m : Moment = record { disk = written left at l (latest_of image.items all.items said.items entries.items).disk; said = (latest_of image.items all.items said.items entries.items).said } in m) piece;
       seen_is = ap (λ (l : List ℕ). left_by left at bytes l) log.is_seen ∙ sym seen_is;
       said_now = log.is_said;

@@ -1,9 +1,11 @@
 -- What the entries of a log stand for.
-use Rattle.std.specs.Prelude.{◌≡◌, ℕ, ◌+◌, ◌-◌, ◌≤◌, List, [], ◌∷◌, length, take, drop, Vec, vec_capacity}
+use Rattle.std.specs.Prelude.{◌≡◌, ◌≢◌, ℕ, ◌+◌, ◌-◌, ◌<◌, ◌≤◌, List, [], ◌∷◌, length, take, drop, Vec, vec_capacity}
 use Rattle.std.specs.declared.alloc.Global.{Global}
-use Rattle.host_io.specs.Disk.{DiskState, settled}
+use Rattle.host_io.specs.Disk.{DiskState, settled, IsSound}
 use Rattle.host_io.specs.Outside.{Moment}
-use Rattle.host_io.specs.Memory.{Timed, Trail, History, written, extended}
+use Rattle.host_io.specs.Memory.{Timed, Trail, History, written, extended, IsLeft}
+use Rattle.host_io.specs.declared.fault.Effect.{Effect}
+use Rattle.host_io.specs.declared.fault.Effect.TheVariants.{Nothing}
 use Rattle.host_io.specs.declared.entry.Piece.{Piece}
 use Rattle.host_io.specs.declared.entry.Event.{Event}
 use Rattle.host_io.specs.declared.entry.Event.TheVariants.{Write, Sync, Say}
@@ -43,16 +45,25 @@ disk_at all disk (entry ∷ entries) = disk_at all (disk_after all entry.event d
 abbrev pub first_trail : List ℕ → Trail
 first_trail image = record { latest = record { calls = 0; moment = record { disk = settled image; said = [] } }; earlier = [] }
 
--- an event's bytes are there, and a write began within the file
-abbrev pub EventFits : List ℕ → List ℕ → DiskState → Event → Type 0
-EventFits all all_said disk (Write piece) = (piece.from + piece.count ≤ length all) × (piece.at ≤ length disk.seen)
-EventFits all all_said disk Sync = Unit {0}
-EventFits all all_said disk (Say end) = end ≤ length all_said
+-- a write's bytes are there, and it began within the file
+abbrev pub WriteFits : List ℕ → DiskState → Event → Type 0
+WriteFits all disk (Write piece) = (piece.from + piece.count ≤ length all) × (piece.at ≤ length disk.seen)
+WriteFits all disk Sync = Unit {0}
+WriteFits all disk (Say end) = Unit {0}
 
-abbrev pub EntriesFit : List ℕ → List ℕ → DiskState → List Entry → Type 0
-EntriesFit all all_said disk [] = Unit {0}
-EntriesFit all all_said disk (entry ∷ entries) =
-    EventFits all all_said disk entry.event × EntriesFit all all_said (disk_after all entry.event disk) entries
+abbrev pub WritesFit : List ℕ → DiskState → List Entry → Type 0
+WritesFit all disk [] = Unit {0}
+WritesFit all disk (entry ∷ entries) = WriteFits all disk entry.event × WritesFit all (disk_after all entry.event disk) entries
+
+-- the bytes of a piece said are there
+abbrev pub SayFits : List ℕ → Event → Type 0
+SayFits all_said (Say end) = end ≤ length all_said
+SayFits all_said (Write piece) = Unit {0}
+SayFits all_said Sync = Unit {0}
+
+abbrev pub SaysFit : List ℕ → List Entry → Type 0
+SaysFit all_said [] = Unit {0}
+SaysFit all_said (entry ∷ entries) = SayFits all_said entry.event × SaysFit all_said entries
 
 -- the history that a log with so much room stands for
 abbrev pub history_of : List ℕ → List ℕ → List ℕ → List Entry → ℕ → History
@@ -64,7 +75,8 @@ history_of image all all_said entries room = record {
 
 -- A log tells the truth, and its room is there: for the entries, for their bytes, and for the file if all of them go past its end.
 pub record IsLog (image seen all said : Vec ℕ Global) (entries : Vec Entry Global) (room : ℕ) : Type 0 where
-  pub fits : EntriesFit all.items said.items (settled image.items) entries.items
+  pub writes : WritesFit all.items (settled image.items) entries.items
+  pub says : SaysFit said.items entries.items
   pub is_seen : (replayed all.items said.items (first_trail image.items) entries.items).latest.moment.disk.seen ≡ seen.items
   pub is_said : (replayed all.items said.items (first_trail image.items) entries.items).latest.moment.said ≡ said.items
   pub moments : length entries.items ≤ room
@@ -73,3 +85,21 @@ pub record IsLog (image seen all said : Vec ℕ Global) (entries : Vec Entry Glo
   pub all_room : room ≤ vec_capacity all
   pub said_room : room ≤ vec_capacity said
   pub seen_room : length seen.items + (room - (length all.items + length said.items)) ≤ vec_capacity seen
+
+-- each of these entries came after so many calls
+abbrev pub AreLater : ℕ → List Entry → Type 0
+AreLater calls [] = Unit {0}
+AreLater calls (entry ∷ entries) = (calls < entry.calls) × AreLater calls entries
+
+-- the file as a read gives it and as a crash leaves it, of a disk whose pending ranges it leaves so
+pub record IsRedone (choice : Effect) (disk : DiskState) (seen image : List ℕ) : Type 0 where
+  pub seen_is : seen ≡ disk.seen
+  pub left : IsLeft choice disk image
+  pub sound : IsSound disk
+
+-- an event's bytes are there, and a write begins within both files, or within the first where the other ignores it
+abbrev pub CanRedo : Effect → List ℕ → ℕ → ℕ → Event → Type 0
+CanRedo choice all seen_len image_len (Write piece) =
+    (piece.from + piece.count ≤ length all) × (piece.at ≤ seen_len) × (choice ≢ Nothing → piece.at ≤ image_len)
+CanRedo choice all seen_len image_len Sync = Unit {0}
+CanRedo choice all seen_len image_len (Say end) = Unit {0}

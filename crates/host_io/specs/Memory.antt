@@ -1,6 +1,6 @@
 -- A host in memory: what it went through, what room it has left, and what each call does to it.
-use Rattle.std.specs.Prelude.{◌≡◌, ℕ, ◌+◌, ◌-◌, ◌^◌, ◌<◌, ◌≤◌, Bool, ◌&&◌, ◌||◌, not, nat_lt, nat_le, ◌==◌, if◌then◌else◌, List, [], ◌∷◌, ◌++◌, length, map, replicate, take, drop, min, max, Option, Some, None, is_some, unwrap_or}
-use Rattle.host_io.specs.Disk.{Range, DiskState, settled}
+use Rattle.std.specs.Prelude.{◌≡◌, ℕ, ◌+◌, ◌-◌, ◌^◌, ◌<◌, ◌≤◌, Bool, ◌&&◌, ◌||◌, not, nat_lt, nat_le, ◌==◌, if◌then◌else◌, List, [], ◌∷◌, ◌++◌, length, slice_index, ◌⊎◌, map, replicate, take, drop, min, max, Option, Some, None, is_some, unwrap_or}
+use Rattle.host_io.specs.Disk.{Range, DiskState, IsWithin, IsUntouched, settled}
 use Rattle.host_io.specs.Outside.{Moment, Outside}
 use Rattle.host_io.specs.Calls.{put_bytes}
 use Rattle.host_io.specs.declared.fault.Effect.{Effect}
@@ -130,6 +130,7 @@ abbrev pub after_write : ℕ → List ℕ → HostState → HostState
 after_write place bytes host = after_disk_call (is_refused (length bytes) host) history host where
   moment : Moment
   moment = record { disk = written (unwrap_or (due host) Whole) place bytes (now_of host).disk; said = (now_of host).said }
+
   history : History
   history = if has_room (length bytes) host.history then recorded (risen host.calls) moment (length bytes) host.history else host.history
 
@@ -137,6 +138,7 @@ abbrev pub after_sync : HostState → HostState
 after_sync host = after_disk_call (is_refused 0 host) history host where
   moment : Moment
   moment = record { disk = settled (now_of host).disk.seen; said = (now_of host).said }
+
   history : History
   history = if is_refused 0 host then host.history else recorded (risen host.calls) moment 0 host.history
 
@@ -163,7 +165,34 @@ after_say piece host = record host {
 } where
   front : List ℕ
   front = said_front piece host
+
   refused : Bool
   refused = is_refused (length front) host
+
   moment : Moment
   moment = record { disk = (now_of host).disk; said = (now_of host).said ++ front }
+
+-- some write since the last sync was at this place
+abbrev pub IsTouched : ℕ → List Range → Type 0
+IsTouched place [] = ⊥
+IsTouched place (range ∷ ranges) = IsWithin place range ⊎ IsTouched place ranges
+
+-- an image of the greatest length, with `ff` in each pending range and past the synced bytes
+pub record IsOnes (disk : DiskState) (image : List ℕ) : Type 0 where
+  pub longest : length image ≡ disk.longest
+  pub touched : (place : ℕ) → IsTouched place disk.pending → slice_index image place ≡ 255
+  pub past : (place : ℕ) → length disk.synced ≤ place → place < length image → slice_index image place ≡ 255
+  pub kept : (place : ℕ) → place < length disk.synced → IsUntouched place disk.pending
+      → slice_index image place ≡ slice_index disk.synced place
+
+-- the image of a crash that leaves the pending bytes as at the last sync, as they were written, or all `ff`
+abbrev pub IsLeft : Effect → DiskState → List ℕ → Type 0
+IsLeft Nothing disk image = image ≡ disk.synced
+IsLeft Whole disk image = image ≡ disk.seen
+IsLeft Ones disk image = IsOnes disk image
+
+-- what a crash leaves of a pending write, which left `left` of its bytes
+abbrev pub left_pending : Effect → Effect → ℕ → List ℕ → List ℕ → List ℕ
+left_pending Nothing left place bytes image = image
+left_pending Whole left place bytes image = left_by left place bytes image
+left_pending Ones left place bytes image = put_bytes image place (replicate (length bytes) 255)

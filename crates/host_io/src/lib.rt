@@ -7,11 +7,14 @@
 //! failed.
 #![tactic(auto)]
 
+mod crash;
 mod entry;
 mod fault;
 mod file;
 mod log;
 mod memory_host;
+#[cfg(test)]
+mod tests;
 mod traits;
 
 pub use fault::{Effect, Fault};

@@ -1,10 +1,11 @@
 // All that a host in memory went through: the file and the bytes said, and an entry for each moment.
 ghost use Rattle.std.specs.Prelude.{◌≡◌, ◌+◌, ◌-◌, ◌<◌, ◌≤◌, ◌++◌, length, ◌^◌, IsTrue, IfOk, vec_len, vec_capacity};
-ghost use Rattle.host_io.specs.Disk.{settled};
-ghost use Rattle.host_io.specs.Memory.{History, written, recorded, has_room};
+ghost use Rattle.host_io.specs.Disk.{IsImage, settled};
+ghost use Rattle.host_io.specs.Memory.{History, written, recorded, has_room, IsLeft, moment_after};
 ghost use Rattle.host_io.specs.Log.{first_trail};
 
 use crate::Effect;
+use crate::crash::{count_within, crash_image};
 use crate::entry::{Entry, Event, Piece};
 use crate::file::leave;
 use std::alloc::{AllocError, Global};
@@ -127,5 +128,16 @@ impl Log {
             calls,
             event: Event::Say(self.said.len()),
         });
+    }
+
+    /// The image of a crash after so many calls that leaves this of all that was pending then.
+    pub fn crash(&self, after: u64, choice: Effect) -> Result<Vec<u8>, AllocError>
+        ensures left { IfOk result (λ image. IsLeft choice (moment_after after self.now.trail).disk image.items) }
+        ensures possible { IfOk result (λ image. IsImage (moment_after after self.now.trail).disk image.items) }
+    {
+        let count = count_within(&self.entries, after);
+        let entries = &self.entries[..count];
+        let alloc = *self.image.allocator();
+        crash_image(alloc, &self.image, &self.all, entries, choice)
     }
 }

@@ -1,14 +1,15 @@
 // A host in memory, which fails where its script says.
 ghost use Rattle.std.specs.Prelude.{◌≡◌, ◌↔◌, ℕ, ◌+◌, ◌^◌, ◌<◌, ◌≤◌, [], length, ◌++◌, take, drop, IfOk, OnOk, IsErr, IsTrue};
 ghost use Rattle.host_io.specs.Calls.{Rose, CountsDisk, CountsTake, CountsSay, Looks, Writes, Syncs, Takes, Says};
-ghost use Rattle.host_io.specs.Memory.{HostState, outside_of, risen, risen_if, is_due, due, is_refused, take_count, said_front, bounded, after_disk_call, after_look, after_write, after_sync, after_take, after_say};
+ghost use Rattle.host_io.specs.Memory.{HostState, outside_of, risen, risen_if, is_due, due, is_refused, take_count, said_front, bounded, after_disk_call, after_look, after_write, after_sync, after_take, after_say, IsLeft, moment_after};
+ghost use Rattle.host_io.specs.Disk.{IsImage};
 ghost use Rattle.host_io.specs.Log.{first_trail};
 
 use crate::fault::find_effect;
 use crate::log::Log;
 use crate::traits::MAX_WRITE;
 use crate::{Disk, Effect, Failed, Fault, Host};
-use mk_value::Memory;
+use mk_value::{Bytes, Memory};
 use std::alloc::Global;
 use std::marker::Model;
 
@@ -34,14 +35,14 @@ impl Model for MemHost {
     ghost Value = { HostState };
 
     ghost view = { λ host. record {
-        history = host.log;
-        input = drop host.taken host.input.items;
-        calls = host.calls;
-        script = host.script.items;
-        most = host.most;
-        disk_faults = host.disk_faults;
-        take_faults = host.take_faults;
-        say_faults = host.say_faults;
+      history = host.log;
+      input = drop host.taken host.input.items;
+      calls = host.calls;
+      script = host.script.items;
+      most = host.most;
+      disk_faults = host.disk_faults;
+      take_faults = host.take_faults;
+      say_faults = host.say_faults;
     } };
 
     ghost invariant = { λ host. host.taken ≤ length host.input.items };
@@ -69,9 +70,15 @@ impl MemHost {
         room: usize,
     ) -> Result<MemHost, Memory>
         ensures { IfOk result (λ host. host ≡ record {
-            history = record { trail = first_trail image.now; moments_left = room; bytes_left = room };
-            input = input.now; calls = 0; script = script.now; most = most;
-            disk_faults = 0; take_faults = 0; say_faults = 0 }) }
+          history = record { trail = first_trail image.now; moments_left = room; bytes_left = room };
+          input = input.now;
+          calls = 0;
+          script = script.now;
+          most = most;
+          disk_faults = 0;
+          take_faults = 0;
+          say_faults = 0;
+        }) }
     {
         Ok(MemHost {
             log: Log::new(alloc, image, room)?,
@@ -105,6 +112,18 @@ impl MemHost {
         ensures { result ≡ self.now.calls }
     {
         self.calls
+    }
+
+    /// The file's image after a crash that comes when so many calls were made, and that leaves all that was pending
+    /// then as at the last sync, as it was written, or all `ff`.
+    pub fn crash(&self, after: u64, choice: Effect) -> Result<Bytes, Memory>
+        requires { after ≤ self.now.calls }
+        ensures left { IfOk result (λ image. IsLeft choice (moment_after after self.now.history.trail).disk image.bytes) }
+
+        // It is one that a crash may leave.
+        ensures possible { IfOk result (λ image. IsImage (moment_after after self.now.history.trail).disk image.bytes) }
+    {
+        Ok(Bytes::from(self.log.crash(after, choice)?))
     }
 
     // Counts a call, and gives what the script says of it.

@@ -27,3 +27,8 @@ pub record IsReady {W : Type 0} (machine : Machine W) (world : W) (disk : DiskSt
 pub record IsWithin {W : Type 0} (machine : Machine W) (world : W) (line : List ℕ) (said : List ℕ) (at : Moment) : Type 0 where
   pub silent : at.said ≡ said
   pub images : (image : List ℕ) → IsImage at.disk image → machine.allowed world image ⊎ machine.under_way world line image
+
+-- An empty reply stands whole at once: what a crash may have left before its line and while that was being answered is
+-- allowed after it too.
+abbrev pub KeepsImages : {W : Type 0} → Machine W → W → List ℕ → W → Type 0
+KeepsImages machine world line after = (image : List ℕ) → machine.allowed world image ⊎ machine.under_way world line image → machine.allowed after image

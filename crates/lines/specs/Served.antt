@@ -11,17 +11,20 @@ use Rattle.lines.specs.Crash.{IsCrashSafe}
 abbrev pub state_of : {W : Type 0} → W → Outside → State W
 state_of world outside = record { world = world; disk_faults = outside.disk_faults }
 
--- All of the input was taken, or the session was ended, and every line was answered and said.
+-- All of the input was taken and every line of it was answered and said, or a line that had ended ended the session.
 pub record IsDone {W : Type 0} (machine : Machine W) (budget : ℕ) (old last : State W) (taken left said : List ℕ) (turns : List (Turn W)) : Type 0 where
   pub within : length taken ≤ budget
-  pub answered : (lines : List (List ℕ)) × AreLinesOf taken lines × Run machine old lines turns last
+  pub lines : List (List ℕ)
+  pub whole : ((left ≡ []) × AreLinesOf taken lines) ⊎ (HasEnded machine turns × AreEndedLinesOf taken lines)
+  pub answered : Run machine old lines turns last
   pub spoken : said ≡ replies turns
-  pub whole : (left ≡ []) ⊎ HasEnded machine turns
 
 -- The input failed. The lines that had ended were answered and said.
 pub record IsCutOff {W : Type 0} (machine : Machine W) (budget : ℕ) (old last : State W) (taken said : List ℕ) (turns : List (Turn W)) : Type 0 where
   pub within : length taken ≤ budget
-  pub answered : (lines : List (List ℕ)) × AreEndedLinesOf taken lines × Run machine old lines turns last
+  pub lines : List (List ℕ)
+  pub whole : AreEndedLinesOf taken lines
+  pub answered : Run machine old lines turns last
   pub spoken : said ≡ replies turns
   pub goes_on : ¬ HasEnded machine turns
 
@@ -31,14 +34,19 @@ pub record IsTooMuch {W : Type 0} (machine : Machine W) (budget : ℕ) (old last
   pub byte : ℕ
   pub more : taken ≡ front ++ byte ∷ []
   pub full : length front ≡ budget
-  pub answered : (lines : List (List ℕ)) × AreEndedLinesOf front lines × Run machine old lines turns last
+  pub lines : List (List ℕ)
+  pub whole : AreEndedLinesOf front lines
+  pub answered : Run machine old lines turns last
   pub spoken : said ≡ replies turns
   pub goes_on : ¬ HasEnded machine turns
 
 -- The output failed within the reply to the last line that was answered, and the replies before it stand whole.
-pub record IsUnsaid {W : Type 0} (machine : Machine W) (budget : ℕ) (old last : State W) (taken said : List ℕ) (turns : List (Turn W)) : Type 0 where
+pub record IsUnsaid {W : Type 0} (machine : Machine W) (budget : ℕ) (old last : State W) (taken left said : List ℕ) (turns : List (Turn W)) : Type 0 where
   pub within : length taken ≤ budget
-  pub answered : (lines : List (List ℕ)) × (later : List (List ℕ)) × (AreLinesOf taken (lines ++ later) ⊎ AreEndedLinesOf taken (lines ++ later)) × Run machine old lines turns last
+  pub lines : List (List ℕ)
+  pub later : List (List ℕ)
+  pub whole : ((left ≡ []) × AreLinesOf taken (lines ++ later)) ⊎ AreEndedLinesOf taken (lines ++ later)
+  pub answered : Run machine old lines turns last
   pub before : List (Turn W)
   pub final : Turn W
   pub split : turns ≡ before ++ final ∷ []
@@ -50,7 +58,7 @@ abbrev pub EndsAs : {W : Type 0} → End → Machine W → ℕ → State W → S
 EndsAs Done machine budget old last taken left said turns = IsDone machine budget old last taken left said turns
 EndsAs TakeFault machine budget old last taken left said turns = IsCutOff machine budget old last taken said turns
 EndsAs TooMuch machine budget old last taken left said turns = IsTooMuch machine budget old last taken said turns
-EndsAs SayFault machine budget old last taken left said turns = IsUnsaid machine budget old last taken said turns
+EndsAs SayFault machine budget old last taken left said turns = IsUnsaid machine budget old last taken left said turns
 
 -- A whole run: which bytes were taken, which turns answered their lines, what was said, and what a crash at any moment
 -- of it would have left.

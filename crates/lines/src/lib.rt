@@ -5,8 +5,16 @@
 //! were said, and what a crash at any moment of it would have left. What a line means is the session's.
 #![tactic(auto)]
 
+mod answering;
+mod feeding;
+mod laws;
+mod saying;
 mod serving;
 mod session;
+#[cfg(test)]
+mod tests;
 
-pub use serving::{End, serve};
-pub use session::{Flow, Session};
+pub use laws::lines_are_one;
+pub use saying::say_all;
+pub use serving::{End, MAX_BUDGET, serve};
+pub use session::{Flow, MAX_LINE, Session};

@@ -1,12 +1,15 @@
 ghost use Rattle.std.specs.Prelude.{◌≡◌, ◌+◌, ◌≤◌, ◌↔◌, [], length, true};
 ghost use Rattle.host_io.specs.Outside.{Outside, Goes};
 ghost use Rattle.lines.specs.Machine.{Machine};
-ghost use Rattle.lines.specs.Crash.{IsReady, IsWithin};
+ghost use Rattle.lines.specs.Crash.{IsReady, IsWithin, KeepsImages};
 ghost use Rattle.lines.specs.Served.{state_of};
 ghost use Rattle.lines.specs.Lines.{max_line};
 
 use host_io::Host;
 use mk_value::Text;
+
+/// The most bytes of a line, its newline not counted. A longer line is answered `err 8 limit` and looked at no further.
+pub const MAX_LINE: usize = 1_048_576;
 
 /// Whether a session goes on after a line.
 #[derive(Clone, Copy, Debug, PartialEq, Eq)]
@@ -22,6 +25,7 @@ pub trait Session<H: Host> {
 
     /// Answers one line of at most `MAX_LINE` bytes: appends the answer to the empty `out`, with the newline of each
     /// of its lines, and tells whether the session is over. It makes no other call of the host than those on its disk.
+    /// A line that is answered by nothing leaves each image that a crash may leave allowed.
     fn answer(&mut self, host: &mut H, line: &[u8], out: &mut Text) -> Flow
         requires short { length line.now ≤ max_line }
         requires empty { out.old.bytes ≡ [] }
@@ -34,6 +38,7 @@ pub trait Session<H: Host> {
 
         ensures ready { H.tells → IsReady machine self.new (H.outside host.new).now.disk }
         ensures moments { H.tells → Goes (IsWithin machine self.old line.now (H.outside host.old).now.said) (H.outside host.old) (H.outside host.new) }
+        ensures quiet { H.tells → out.new.bytes ≡ [] → KeepsImages machine self.old line.now self.new }
         ensures said { H.tells → (H.outside host.new).now.said ≡ (H.outside host.old).now.said }
         ensures input { H.tells → (H.outside host.new).input ≡ (H.outside host.old).input }
         ensures disk_faults { (H.outside host.old).disk_faults ≤ (H.outside host.new).disk_faults }

@@ -1,0 +1,162 @@
+-- One line: it is answered, and its answer is said.
+use Rattle.std.proofs.Common.{◌≡◌, ℕ, zero, suc, ◌+◌, ◌-◌, ◌<◌, ◌≤◌, ◌↔◌, Bool, true, false, List, [], ◌∷◌, ◌++◌, length, take, Result, Ok, Err, IfOk, OnOk, OnErr, refl, sym, ap, ◌∙◌, subst, ◌⊎◌, inl, inr, length-append, length-take, arith}
+use Rattle.std.proofs.lemmas.List.{take_all, length-take-le}
+use Rattle.std.proofs.lemmas.Bool.{cases_lt, false≢true}
+use Rattle.std.proofs.lemmas.Result.{IfOk-weaker}
+use Rattle.host_io.specs.Disk.{DiskState, IsImage}
+use Rattle.host_io.specs.Outside.{Moment, Outside, moments, Each, Goes}
+use Rattle.lines.specs.declared.session.Flow.{Flow}
+use Rattle.lines.specs.declared.session.Flow.TheVariants.{Goes as GoesOn, Ends}
+use Rattle.lines.specs.Lines.{max_line, IsTooLong}
+use Rattle.lines.specs.Machine.{Machine, State, Turn, Answers, IsLast, limit_reply}
+use Rattle.lines.specs.Crash.{MayStand, IsReady, IsWithin, KeepsImages}
+use Rattle.lines.specs.Served.{state_of}
+use Rattle.lines.specs.Spoken.{IsSaying, SaysAll}
+use Rattle.lines.specs.Steps.{IsTurning, AnswersLine}
+use Rattle.host_io.proofs.Moments.{begins, joins, weaker}
+
+-- a room that is not full holds the whole line
+pub whole_line : (held line : List ℕ) → held ≡ take (max_line + 1) line → length held ≤ max_line → held ≡ line
+whole_line held line is short =
+    let sizes = ap length is ∙ length-take (max_line + 1) line in
+    is ∙ take_all (max_line + 1) line (omega arith)
+
+pub long_line : (held line : List ℕ) → held ≡ take (max_line + 1) line → max_line < length held → IsTooLong line
+long_line held line is long =
+    let sizes = ap length is ∙ length-take (max_line + 1) line in
+    omega arith
+
+heads : (xs ys : List Moment) (x y : Moment) → x ∷ xs ≡ y ∷ ys → x ≡ y
+heads xs ys x y is = cc
+
+by_added : (P : Moment → Type 0) (added : List Moment) (old new : Outside) → moments new ≡ added ++ moments old → Each P added → P old.now → P new.now
+by_added P [] old new follows each before = subst P (sym (heads new.past old.past new.now old.now follows)) before
+by_added P (at ∷ added) old new follows each before = subst P (sym (heads new.past (added ++ moments old) new.now at follows)) each.0
+
+-- what holds at the first moment and at each that came holds now
+Goes-now : (P : Moment → Type 0) (old new : Outside) → Goes P old new → P old.now → P new.now
+Goes-now P old new goes before = by_added P goes.added old new goes.follows goes.each before
+
+-- a line was answered, and nothing was said yet
+pub record Answered {W : Type 0} (machine : Machine W) (line reply : List ℕ) (world after : W) (old mid : Outside) : Type 0 where
+  pub answers : Answers machine (state_of world old) line reply (state_of after mid)
+  pub ready : IsReady machine after mid.now.disk
+  pub moments : Goes (IsWithin machine world line old.now.said) old mid
+  pub quiet : reply ≡ [] → KeepsImages machine world line after
+  pub said : mid.now.said ≡ old.now.said
+  pub input : mid.input ≡ old.input
+
+-- what may stand where nothing of the reply has been said
+stands_first : {W : Type 0} (machine : Machine W) (line reply : List ℕ) (world : W) (after : State W) (image : List ℕ)
+    → (reply ≡ [] → KeepsImages machine world line after.world) → machine.allowed world image ⊎ machine.under_way world line image
+    → MayStand machine world ((record { line = line; reply = reply; after = after }) ∷ []) 0 image
+stands_first machine line [] world after image quiet stands = inl (omega arith, quiet refl image stands)
+stands_first machine line (byte ∷ reply) world after image quiet stands = inr (omega arith, stands)
+
+-- what may stand where a front of the reply has been said
+stands_later : {W : Type 0} (machine : Machine W) (line reply : List ℕ) (world : W) (after : State W) (part : ℕ) (image : List ℕ)
+    → machine.allowed after.world image → machine.allowed world image ⊎ machine.under_way world line image
+    → MayStand machine world ((record { line = line; reply = reply; after = after }) ∷ []) part image
+stands_later machine line reply world after part image next stands = elim (cases_lt part (length reply)) [
+      inl short ↦ inr (short, stands)
+    | inr whole ↦ inl (whole, next)
+    ]
+
+within_now : {W : Type 0} (machine : Machine W) (line reply : List ℕ) (world after : W) (old mid : Outside)
+    → IsReady machine world old.now.disk → Answered machine line reply world after old mid → IsWithin machine world line old.now.said mid.now
+within_now machine line reply world after old mid ready answered =
+    Goes-now (IsWithin machine world line old.now.said) old mid answered.moments
+      (record { silent = refl; images = λ image is. inl (ready.allowed image is) })
+
+-- the moments while it is answered, and while the answer is said
+turning : {W T E : Type 0} (machine : Machine W) (line reply : List ℕ) (world after : W) (old mid new : Outside) (result : Result T E) (turn : Turn W)
+    → turn ≡ record { line = line; reply = reply; after = state_of after new }
+    → IsReady machine world old.now.disk → Answered machine line reply world after old mid → SaysAll reply mid new result
+    → Goes (IsTurning machine world turn old.now) old new
+turning {W} machine line reply world after old mid new result turn is ready answered says =
+    let this : Turn W = record { line = line; reply = reply; after = state_of after new } in
+    let now = within_now machine line reply world after old mid ready answered in
+    let by_answer : (at : Moment) → IsWithin machine world line old.now.said at → IsTurning machine world this old.now at =
+      λ at within. record {
+        part = 0;
+        within = omega arith;
+        said = let sizes = ap length within.silent in omega arith;
+        images = λ image here. stands_first machine line reply world (state_of after new) image answered.quiet (within.images image here);
+      } in
+    let by_saying : (at : Moment) → IsSaying reply mid.now at → IsTurning machine world this old.now at =
+      λ at saying. record {
+        part = saying.part;
+        within = saying.within;
+        said = let sizes = ap length saying.said ∙ length-append mid.now.said (take saying.part reply) in
+          let same = ap length answered.said in
+          let part = length-take-le saying.part reply saying.within in
+          omega arith;
+        images = λ image here.
+          let P : DiskState → Type 0 = λ disk. IsImage disk image in
+          let image_of = subst P saying.disk here in
+          stands_later machine line reply world (state_of after new) saying.part image (answered.ready.allowed image image_of) (now.images image image_of);
+      } in
+    let Q : Turn W → Type 0 = λ t. Goes (IsTurning machine world t old.now) old new in
+    subst Q (sym is) (joins (weaker by_answer answered.moments) (weaker by_saying says.moments))
+
+-- the line is answered and its answer said, whole or in part
+pub answers_line : {W T E : Type 0} (machine : Machine W) (line reply : List ℕ) (world after : W) (old mid new : Outside) (result : Result T E) (outcome : Result Flow E)
+    → IsReady machine world old.now.disk → Answered machine line reply world after old mid
+    → (says : SaysAll reply mid new result) → new.disk_faults ≡ mid.disk_faults
+    → OnOk outcome (says.part ≡ length reply) → OnErr outcome (says.part < length reply) → IfOk outcome (λ flow. (flow ≡ Ends) ↔ IsLast machine line)
+    → AnswersLine machine line world after old new outcome
+answers_line {W} machine line reply world after old mid new result outcome ready answered says counts ok err ends =
+    let A : ℕ → Type 0 = λ faults. Answers machine (state_of world old) line reply (record { world = after; disk_faults = faults }) in
+    record {
+      turn = record { line = line; reply = reply; after = state_of after new };
+      asked = refl;
+      answers = subst A (sym counts) answered.answers;
+      left = refl;
+      ends = ends;
+      part = says.part;
+      spoke = says.spoke ∙ ap (λ (x : List ℕ). x ++ take says.part reply) answered.said;
+      ok = ok;
+      err = err;
+      input = says.input ∙ answered.input;
+      moments = turning machine line reply world after old mid new result _ refl ready answered says;
+      before = λ image allowed. stands_first machine line reply world (state_of after new) image answered.quiet (inl allowed);
+    }
+
+-- a line that is too long
+pub Answered-limit : {W : Type 0} (machine : Machine W) (line : List ℕ) (world : W) (outside : Outside)
+    → IsTooLong line → IsReady machine world outside.now.disk → Answered machine line limit_reply world world outside outside
+Answered-limit machine line world outside long ready = record {
+  answers = inl (long, refl, refl);
+  ready = ready;
+  moments = begins outside;
+  quiet = λ none. absurd (let sizes : 12 ≡ 0 = ap length none in omega arith);
+  said = refl;
+  input = refl;
+}
+
+-- a line that is too long doesn't end the session
+pub goes_on-limit : {W : Type 0} (machine : Machine W) (line : List ℕ) → IsTooLong line → (GoesOn ≡ Ends) ↔ IsLast machine line
+goes_on-limit machine line long = (λ is. cc, λ last. absurd (last.0 long))
+
+-- whether a line that was looked at does
+pub ends-short : {W : Type 0} (machine : Machine W) (line : List ℕ) (flow : Flow) → (¬ IsTooLong line) → ((flow ≡ Ends) ↔ (machine.ends line ≡ true)) → (flow ≡ Ends) ↔ IsLast machine line
+ends-short machine line flow short ends = (λ is. (short, ends.0 is), λ last. ends.1 last.1)
+
+-- a line that the session answered
+pub answers_short : {W T E : Type 0} (machine : Machine W) (held line reply bytes : List ℕ) (world after : W) (old mid new : Outside) (result : Result T E) (outcome : Result Flow E)
+    → held ≡ take (max_line + 1) line → length held ≤ max_line → IsReady machine world old.now.disk
+    → machine.answers (state_of world old) held reply (state_of after mid) → IsReady machine after mid.now.disk
+    → Goes (IsWithin machine world held old.now.said) old mid → (reply ≡ [] → KeepsImages machine world held after)
+    → mid.now.said ≡ old.now.said → mid.input ≡ old.input
+    → bytes ≡ reply → (says : SaysAll bytes mid new result) → new.disk_faults ≡ mid.disk_faults
+    → OnOk outcome (says.part ≡ length bytes) → OnErr outcome (says.part < length bytes) → IfOk outcome (λ flow. (flow ≡ Ends) ↔ (machine.ends held ≡ true))
+    → AnswersLine machine line world after old new outcome
+answers_short {W} {T} {E} machine held line reply bytes world after old mid new result outcome is short ready answers ready' moments quiet said input same says counts ok err ends =
+    let fits : ¬ IsTooLong held = λ long. omega arith in
+    let answered : Answered machine held reply world after old mid = record {
+      answers = inr (fits, answers); ready = ready'; moments = moments; quiet = quiet; said = said; input = input } in
+    let Q : List ℕ → Type 0 = λ line'. AnswersLine machine line' world after old new outcome in
+    let R : List ℕ → Type 0 = λ reply'. (says' : SaysAll reply' mid new result) → OnOk outcome (says'.part ≡ length reply') → OnErr outcome (says'.part < length reply') → AnswersLine machine held world after old new outcome in
+    subst Q (whole_line held line is short)
+      (subst R (sym same) (λ says' ok' err'. answers_line machine held reply world after old mid new result outcome ready answered says' counts ok' err'
+        (IfOk-weaker outcome (λ flow. (flow ≡ Ends) ↔ (machine.ends held ≡ true)) (λ flow. (flow ≡ Ends) ↔ IsLast machine held) (λ flow e. ends-short machine held flow fits e) ends)) says ok err)

@@ -1,0 +1,210 @@
+ghost use Rattle.std.specs.Prelude.{◌≡◌, ◌+◌, ◌<◌, ◌≤◌, ◌^◌, length, IfOk, OnOk};
+ghost use Rattle.host_io.specs.Calls.{Counts};
+ghost use Rattle.mkshell.specs.Untold.{untold};
+
+use host_io::{Disk, Failed, Host};
+use std::fs::{File, OpenOptions};
+use std::io;
+use std::io::{ErrorKind, Read, Write};
+use std::os::unix::fs::FileExt;
+
+/// The greatest length of a file.
+const MAX_LEN: u64 = (1 << 63) - 1;
+
+/// One file, standard input and standard output. It tells no bytes: what reaches the file and the terminal is the
+/// machine's own.
+#[derive(Drop)]
+pub struct RealHost {
+    runtime: HostRuntime,
+    file: Option<File>,
+    disk_faults: u64,
+    take_faults: u64,
+    say_faults: u64,
+}
+
+impl RealHost {
+    /// A host with no file yet, none of whose calls has failed.
+    pub fn new(runtime: HostRuntime) -> RealHost {
+        RealHost {
+            runtime,
+            file: None,
+            disk_faults: 0,
+            take_faults: 0,
+            say_faults: 0,
+        }
+    }
+
+    fn file(&self) -> io::Result<&File> {
+        self.file
+            .as_ref()
+            .ok_or(io::Error::from(ErrorKind::NotFound))
+    }
+}
+
+/// The answer of a call, with its failure counted, up to the last number of the count.
+fn counted<T: Drop>(answer: io::Result<T>, faults: &mut u64) -> Result<T, Failed>
+    ensures counts { Counts faults.old faults.new result }
+    ensures value { IfOk result (λ value. answer ≡ Ok value) }
+{
+    match answer {
+        Ok(value) => Ok(value),
+        Err(_) => {
+            *faults = faults.saturating_add(1);
+            Err(Failed)
+        }
+    }
+}
+
+fn open(runtime: &HostRuntime, name: &str, create: bool) -> io::Result<File> {
+    OpenOptions::new()
+        .read(true)
+        .write(create)
+        .create(create)
+        .open(runtime, name)
+}
+
+/// The file's length, which no file has of 2^63 bytes or more.
+fn measure(file: &File) -> io::Result<u64>
+    ensures { IfOk result (λ len. len < 2 ^ 63) }
+{
+    let len = file.metadata()?.len();
+    if len > MAX_LEN {
+        return Err(ErrorKind::InvalidData.into());
+    }
+    Ok(len)
+}
+
+/// Writes the bytes whole. A file ends below 2^63.
+fn write(file: &File, at: u64, from: &[u8]) -> io::Result<()>
+    requires { at + length from.now < 2 ^ 64 }
+    ensures { OnOk result (at + length from.now < 2 ^ 63) }
+{
+    if at + from.len() as u64 > MAX_LEN {
+        return Err(ErrorKind::InvalidInput.into());
+    }
+    file.write_all_at(from, at)
+}
+
+/// The next bytes of standard input, whose end is an answer of 0. A read that a signal cut short is made again.
+fn read_input(runtime: &HostRuntime, into: &mut [u8]) -> io::Result<usize>
+    ensures { IfOk result (λ n. n ≤ length into.new) }
+{
+    let mut input = runtime.stdin();
+    for _ in 0..u64::MAX {
+        match input.read(into) {
+            Err(error) if error.kind() == ErrorKind::Interrupted => {}
+            answer => return answer,
+        }
+    }
+    Err(ErrorKind::Interrupted.into())
+}
+
+/// The front of the bytes goes to standard output: none of a piece that is not empty is an error.
+fn write_output(runtime: &HostRuntime, from: &[u8]) -> io::Result<usize>
+    ensures within { IfOk result (λ n. n ≤ length from.now) }
+    ensures progress { IfOk result (λ n. 0 < length from.now → 0 < n) }
+{
+    let mut output = runtime.stdout();
+    for _ in 0..u64::MAX {
+        match output.write(from) {
+            Err(error) if error.kind() == ErrorKind::Interrupted => {}
+            Ok(0) if !from.is_empty() => return Err(ErrorKind::WriteZero.into()),
+            answer => return answer,
+        }
+    }
+    Err(ErrorKind::Interrupted.into())
+}
+
+impl Disk for RealHost {
+    ghost tells = { ⊥ };
+
+    ghost outside = { λ host. untold host.disk_faults host.take_faults host.say_faults };
+
+    fn attach(&mut self, name: &str, create: bool) -> Result<(), Failed> {
+        let opened = open(&self.runtime, name, create);
+        let file = counted(opened, &mut self.disk_faults)?;
+        self.file = Some(file);
+        Ok(())
+    }
+
+    fn len(&mut self) -> Result<u64, Failed> {
+        let answer = match self.file() {
+            Ok(file) => measure(file),
+            Err(error) => Err(error),
+        };
+        counted(answer, &mut self.disk_faults)
+    }
+
+    fn read_at(&mut self, at: u64, into: &mut [u8]) -> Result<(), Failed> {
+        let answer = match self.file() {
+            Ok(file) => file.read_exact_at(into, at),
+            Err(error) => Err(error),
+        };
+        counted(answer, &mut self.disk_faults)
+    }
+
+    fn write_at(&mut self, at: u64, from: &[u8]) -> Result<(), Failed> {
+        let answer = match self.file() {
+            Ok(file) => write(file, at, from),
+            Err(error) => Err(error),
+        };
+        counted(answer, &mut self.disk_faults)
+    }
+
+    fn sync(&mut self) -> Result<(), Failed> {
+        let answer = self.file().and_then(|file| file.sync_all());
+        counted(answer, &mut self.disk_faults)
+    }
+}
+
+impl Host for RealHost {
+    fn take(&mut self, into: &mut [u8]) -> Result<usize, Failed> {
+        let answer = read_input(&self.runtime, into);
+        counted(answer, &mut self.take_faults)
+    }
+
+    fn say(&mut self, from: &[u8]) -> Result<usize, Failed> {
+        let answer = write_output(&self.runtime, from);
+        counted(answer, &mut self.say_faults)
+    }
+}
+
+#[cfg(test)]
+mod tests {
+    use super::RealHost;
+    use host_io::{Disk, Failed};
+    use std::test::Fail;
+    use std::{fs, process};
+
+    /// The few lines reach a real file: what is written is read back, and a call that cannot be done is counted.
+    #[test]
+    fn reaches_a_real_file(rt: HostRuntime) -> Result<(), Fail> {
+        let folder = std::env::temp_dir(&rt)?;
+        let name = format!(in rt.alloc();
+            "{}/real_host_{}",
+            folder.display(),
+            process::id(rt.process())
+        )?;
+        let mut host = RealHost::new(rt);
+        assert_eq!(rt; host.attach(name.as_str(), false), Err(Failed));
+        assert_eq!(rt; host.len(), Err(Failed));
+        assert_eq!(rt; host.disk_faults, 2);
+
+        assert_eq!(rt; host.attach(name.as_str(), true), Ok(()));
+        assert_eq!(rt; host.len(), Ok(0));
+        assert_eq!(rt; host.write_at(0, b"column"), Ok(()));
+        assert_eq!(rt; host.write_at(6, b"s"), Ok(()));
+        assert_eq!(rt; host.sync(), Ok(()));
+        assert_eq!(rt; host.len(), Ok(7));
+        let mut piece = [0; 4];
+        assert_eq!(rt; host.read_at(3, &mut piece), Ok(()));
+        assert_eq!(rt; piece.as_slice(), b"umns".as_slice());
+        assert_eq!(rt; host.disk_faults, 2);
+
+        // A file that ends within a read is a failure.
+        assert_eq!(rt; host.read_at(4, &mut piece), Err(Failed));
+        assert_eq!(rt; host.disk_faults, 3);
+        fs::remove_file(&rt, name.as_str())?;
+        Ok(())
+    }
+}

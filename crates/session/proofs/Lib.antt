@@ -1,0 +1,5 @@
+pub mod Named
+pub mod ReadingLaws
+mod Rows
+pub mod Shapes
+pub mod Spaces

@@ -1,0 +1,5 @@
+pub mod Line
+pub mod Readings
+pub mod Replies
+pub mod Step
+pub mod World

@@ -1,0 +1,4 @@
+pub mod Words
+pub mod Said
+pub mod Statuses
+pub mod Ran

@@ -1,0 +1,13 @@
+pub mod Walk
+pub mod Reach
+pub mod Depth
+pub mod Flaws
+pub mod Local
+pub mod FirstFlaw
+pub mod Moves
+pub mod NameParts
+pub mod LetterParts
+pub mod PropertyParts
+pub mod Unique
+pub mod Strict
+pub mod Whole
