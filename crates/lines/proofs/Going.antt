@@ -1,21 +1,19 @@
 -- A run, one step after another, and its ends.
-use Rattle.std.proofs.Common.{◌≡◌, ℕ, zero, suc, ◌+◌, ◌-◌, ◌<◌, ◌≤◌, ◌↔◌, List, [], ◌∷◌, ◌++◌, length, take, drop, get_or, Result, Ok, Err, OnOk, OnErr, refl, sym, ap, ◌∙◌, subst, ◌⊎◌, inl, inr, append_assoc, length-append, length-drop, length-take, arith}
-use Rattle.std.proofs.lemmas.List.{append-nil, take_all, take_rest, length-take-le}
-use Rattle.host_io.specs.Disk.{DiskState, IsImage}
-use Rattle.host_io.specs.Outside.{Moment, Outside, Left, LeftAt, moment, moments, Goes}
+use Rattle.std.proofs.Common.{◌≡◌, ℕ, suc, ◌+◌, ◌-◌, ◌<◌, ◌≤◌, List, [], ◌∷◌, ◌++◌, length, take, Result, Ok, Err, refl, sym, ap, ◌∙◌, subst, ◌⊎◌, inl, inr, append_assoc, length-append, length-take, arith}
+use Rattle.std.proofs.lemmas.List.{append-nil, take_all}
+use Rattle.host_io.specs.Outside.{Moment, Outside, Left, LeftAt, moment, moments}
 use Rattle.host_io.specs.Calls.{StandsStill}
 use Rattle.lines.specs.declared.session.Flow.{Flow}
 use Rattle.lines.specs.declared.session.Flow.TheVariants.{Goes as GoesOn, Ends}
-use Rattle.lines.specs.declared.serving.End.{End}
-use Rattle.lines.specs.declared.serving.End.TheVariants.{Done, TakeFault, SayFault, TooMuch}
-use Rattle.lines.specs.Lines.{newline, max_line, HasNoNewline, Splits, last_line, AreLinesOf, AreEndedLinesOf}
+use Rattle.lines.specs.declared.serving.End.TheVariants.{Done, SayFault, TooMuch}
+use Rattle.lines.specs.Lines.{newline, max_line, HasNoNewline, last_line, AreLinesOf, AreEndedLinesOf}
 use Rattle.lines.specs.Machine.{Machine, State, Turn, Run, IsLast, replies, HasEnded}
 use Rattle.lines.specs.Crash.{MayStand, IsReady, IsCrashSafe}
 use Rattle.lines.specs.Served.{state_of, Serves}
-use Rattle.lines.specs.Steps.{IsTurning, AnswersLine, SoFar}
+use Rattle.lines.specs.Steps.{AnswersLine, SoFar}
 use Rattle.lines.proofs.Splitting.{Splits-empty, Splits-span, Splits-newline, Splits-ended, some_split, take_more_held}
 use Rattle.lines.proofs.Turns.{Run-push, Run-later, HasEnded-push, goes_on-push, replies-push, world_after, world_after-run}
-use Rattle.host_io.proofs.Moments.{Left-goes, LeftBy, only_now}
+use Rattle.host_io.proofs.Moments.{Left-goes, only_now}
 use Rattle.lines.proofs.Standing.{MayStand-before, MayStand-within}
 
 -- a run that begins
@@ -104,21 +102,21 @@ turned {W} machine start begin world after old new room ahead count result so an
       answered = subst R answer.left (Run-push machine (state_of start begin) (state_of world old) so.lines so.turns so.rest turn so.answered so.goes_on answer.asked answer.answers);
       spoke = answer.spoke ∙ (ap (λ (x : List ℕ). x ++ take answer.part turn.reply) so.spoke ∙ append_assoc begin.now.said (replies so.turns) (take answer.part turn.reply));
       most = λ whole image n left.
-        let said = ap length answer.spoke ∙ length-append old.now.said (take answer.part turn.reply) in
-        let all = length-take answer.part turn.reply in
-        elim (Left-goes (moment begin) image n answer.moments left) [
-          inl past ↦ let before = so.most image n past in omega arith
-        | inr now ↦ let here = now.holds.said in let short = now.holds.within in let is = now.said in omega arith
-        ];
+          let said = ap length answer.spoke ∙ length-append old.now.said (take answer.part turn.reply) in
+          let all = length-take answer.part turn.reply in
+          elim (Left-goes (moment begin) image n answer.moments left) [
+            | inl past ↦ let before = so.most image n past in omega arith
+            | inr now ↦ let here = now.holds.said in let short = now.holds.within in let is = now.said in omega arith
+          ];
       crash = λ image n left. elim (Left-goes (moment begin) image n answer.moments left) [
-          inl past ↦
+        | inl past ↦
             let short = so.most image n past in
             MayStand-before machine start so.turns turn (n - length begin.now.said) image (subst (B image) (sym world_is) (answer.before image)) (omega arith) (so.crash image n past)
         | inr now ↦
             let here = now.holds.said in let is = now.said in
             let place : length (replies so.turns) + now.holds.part ≡ n - length begin.now.said = omega arith in
             subst (N image) place (MayStand-within machine start so.turns turn now.holds.part image (subst (M image now.holds.part) (sym world_is) (now.holds.images image now.is_image)))
-        ];
+      ];
     }
 
 -- the line ends, and the run goes on
@@ -129,8 +127,8 @@ SoFar-turn {W} machine start begin world after old new room ahead count so answe
     let turn = answer.turn in
     let done = turned machine start begin world after old new room (newline ∷ ahead) count _ so answer in
     let other : ¬ IsLast machine turn.line = λ last.
-      let L : List ℕ → Type 0 = λ line. IsLast machine line in
-      let stays : GoesOn ≡ Ends = answer.ends.1 (subst L answer.asked last) in cc in
+    let L : List ℕ → Type 0 = λ line. IsLast machine line in
+    let stays : GoesOn ≡ Ends = answer.ends.1 (subst L answer.asked last) in cc in
     record {
       looked = so.looked ++ newline ∷ [];
       came = so.came ∙ (ap (λ (x : List ℕ). so.looked ++ (newline ∷ (ahead ++ x))) (sym answer.input) ∙ sym (append_assoc so.looked (newline ∷ []) (ahead ++ new.input)));
@@ -143,7 +141,7 @@ SoFar-turn {W} machine start begin world after old new room ahead count so answe
       answered = done.answered;
       goes_on = goes_on-push machine so.turns turn so.goes_on other;
       spoke = let all : length turn.reply ≤ answer.part = let ok = answer.ok in omega arith in
-        done.spoke ∙ ap (λ (x : List ℕ). begin.now.said ++ x) (ap (λ (x : List ℕ). replies so.turns ++ x) (take_all answer.part turn.reply all) ∙ sym (replies-push so.turns turn));
+          done.spoke ∙ ap (λ (x : List ℕ). begin.now.said ++ x) (ap (λ (x : List ℕ). replies so.turns ++ x) (take_all answer.part turn.reply all) ∙ sym (replies-push so.turns turn));
       most = done.most answer.ok;
       crash = done.crash;
     }
@@ -159,7 +157,7 @@ Serves-done machine budget start begin after new lines later before turn part ta
   came = came;
   said = replies (before ++ turn ∷ []);
   spoke = let most : length turn.reply ≤ part = omega arith in
-    done.spoke ∙ ap (λ (x : List ℕ). begin.now.said ++ x) (ap (λ (x : List ℕ). replies before ++ x) (take_all part turn.reply most) ∙ sym (replies-push before turn));
+      done.spoke ∙ ap (λ (x : List ℕ). begin.now.said ++ x) (ap (λ (x : List ℕ). replies before ++ x) (take_all part turn.reply most) ∙ sym (replies-push before turn));
   turns = before ++ turn ∷ [];
   ends = record { within = within; lines = lines ++ later; whole = whole; answered = answered; spoken = refl };
   crash = done.crash;
@@ -178,8 +176,17 @@ Serves-unsaid machine budget start begin after new lines later before turn part 
   spoke = done.spoke;
   turns = before ++ turn ∷ [];
   ends = record {
-    within = within; lines = lines; later = later; whole = whole; answered = done.answered;
-    before = before; final = turn; split = refl; part = part; short = short; spoken = refl;
+    within = within;
+    lines = lines;
+    later = later;
+    whole = whole;
+    answered = done.answered;
+    before = before;
+    final = turn;
+    split = refl;
+    part = part;
+    short = short;
+    spoken = refl;
   };
   crash = done.crash;
 }
@@ -208,10 +215,10 @@ Serves-ended {W} machine budget start begin world after old new room ahead count
     let L : List ℕ → Type 0 = λ line. IsLast machine line in
     let ended = HasEnded-push machine so.turns turn (subst L (sym answer.asked) (answer.ends.0 refl)) in
     Serves-done machine budget start begin after new (so.lines ++ so.rest ∷ []) behind.lines so.turns turn answer.part (so.looked ++ newline ∷ ahead) done answer.ok
-      (came_line machine start begin world old new room ahead count so answer.input)
-      (within_line machine budget start begin world old room ahead count so fits)
-      (Run-later machine (state_of start begin) (state_of after new) (so.lines ++ so.rest ∷ []) behind.lines (so.turns ++ turn ∷ []) done.answered ended)
-      (inr (ended, (behind.rest, Splits-ended so.looked ahead so.lines behind.lines so.rest behind.rest so.splits behind.splits)))
+    (came_line machine start begin world old new room ahead count so answer.input)
+    (within_line machine budget start begin world old room ahead count so fits)
+    (Run-later machine (state_of start begin) (state_of after new) (so.lines ++ so.rest ∷ []) behind.lines (so.turns ++ turn ∷ []) done.answered ended)
+    (inr (ended, (behind.rest, Splits-ended so.looked ahead so.lines behind.lines so.rest behind.rest so.splits behind.splits)))
 
 -- the line ends, and its reply is not said whole
 pub Serves-broken : {W E : Type 0} (machine : Machine W) (budget : ℕ) (start : W) (begin : Outside) (world after : W) (old new : Outside) (room ahead : List ℕ) (count : ℕ) (error : E)
@@ -221,9 +228,9 @@ Serves-broken machine budget start begin world after old new room ahead count er
     let done = turned machine start begin world after old new room (newline ∷ ahead) count _ so answer in
     let behind = some_split ahead in
     Serves-unsaid machine budget start begin after new (so.lines ++ so.rest ∷ []) behind.lines so.turns answer.turn answer.part (so.looked ++ newline ∷ ahead) done answer.err
-      (came_line machine start begin world old new room ahead count so answer.input)
-      (within_line machine budget start begin world old room ahead count so fits)
-      (inr (behind.rest, Splits-ended so.looked ahead so.lines behind.lines so.rest behind.rest so.splits behind.splits))
+    (came_line machine start begin world old new room ahead count so answer.input)
+    (within_line machine budget start begin world old room ahead count so fits)
+    (inr (behind.rest, Splits-ended so.looked ahead so.lines behind.lines so.rest behind.rest so.splits behind.splits))
 
 -- the bytes of a rest that is not empty are a line where the input has ended
 last_line-some : (rest : List ℕ) → ¬ (rest ≡ []) → last_line rest ≡ rest ∷ []
@@ -250,10 +257,10 @@ Serves-last machine budget start begin world after old new room count flow so an
     let lines = so.lines ++ so.rest ∷ [] in
     let R : List (List ℕ) → Type 0 = λ list. Run machine (state_of start begin) list (so.turns ++ answer.turn ∷ []) (state_of after new) in
     Serves-done machine budget start begin after new lines [] so.turns answer.turn answer.part so.looked done answer.ok
-      (came_all machine start begin world old new room count so answer.input)
-      (let counted = so.counted in omega arith)
-      (subst R (sym (append-nil lines)) done.answered)
-      (inl (answer.input ∙ over, AreLinesOf-last machine start begin world old room count so some))
+    (came_all machine start begin world old new room count so answer.input)
+    (let counted = so.counted in omega arith)
+    (subst R (sym (append-nil lines)) done.answered)
+    (inl (answer.input ∙ over, AreLinesOf-last machine start begin world old room count so some))
 
 pub Serves-last_broken : {W E : Type 0} (machine : Machine W) (budget : ℕ) (start : W) (begin : Outside) (world after : W) (old new : Outside) (room : List ℕ) (count : ℕ) (error : E)
     → (so : SoFar machine start begin world old room [] count) → AnswersLine machine so.rest world after old new (Err error)
@@ -261,9 +268,9 @@ pub Serves-last_broken : {W E : Type 0} (machine : Machine W) (budget : ℕ) (st
 Serves-last_broken machine budget start begin world after old new room count error so answer over some fits =
     let done = turned machine start begin world after old new room [] count _ so answer in
     Serves-unsaid machine budget start begin after new (so.lines ++ so.rest ∷ []) [] so.turns answer.turn answer.part so.looked done answer.err
-      (came_all machine start begin world old new room count so answer.input)
-      (let counted = so.counted in omega arith)
-      (inl (answer.input ∙ over, AreLinesOf-last machine start begin world old room count so some))
+    (came_all machine start begin world old new room count so answer.input)
+    (let counted = so.counted in omega arith)
+    (inl (answer.input ∙ over, AreLinesOf-last machine start begin world old room count so some))
 
 -- an empty room holds nothing of a line
 rest_none : (most : ℕ) (rest : List ℕ) → [] ≡ take (suc most) rest → rest ≡ []
@@ -291,26 +298,6 @@ Serves-over machine budget start begin world outside room count so over none fit
       };
       crash = so.crash;
     }
-
--- a take fails
-pub Serves-cut : {W : Type 0} (machine : Machine W) (budget : ℕ) (start : W) (begin : Outside) (world : W) (outside : Outside) (room : List ℕ) (count : ℕ)
-    → SoFar machine start begin world outside room [] count → count ≤ budget → Serves machine budget TakeFault start world begin outside
-Serves-cut machine budget start begin world outside room count so fits = record {
-  taken = so.looked;
-  came = so.came;
-  said = replies so.turns;
-  spoke = so.spoke;
-  turns = so.turns;
-  ends = record {
-    within = let counted = so.counted in omega arith;
-    lines = so.lines;
-    whole = (so.rest, so.splits);
-    answered = so.answered;
-    spoken = refl;
-    goes_on = so.goes_on;
-  };
-  crash = so.crash;
-}
 
 -- one byte more than the budget comes
 pub Serves-beyond : {W : Type 0} (machine : Machine W) (budget : ℕ) (start : W) (begin : Outside) (world : W) (outside : Outside) (room : List ℕ) (byte : ℕ)

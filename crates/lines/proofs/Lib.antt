@@ -1,9 +1,9 @@
 pub mod Splitting
-pub mod Turns
-pub mod Uttering
-pub mod OneLine
-pub mod Going
-pub mod OnePiece
-pub mod OneTake
 pub mod OneReading
+pub mod Turns
 pub mod Standing
+mod Uttering
+mod OneLine
+mod Going
+mod OnePiece
+mod OneTake

@@ -1,7 +1,7 @@
 -- One line: it is answered, and its answer is said.
-use Rattle.std.proofs.Common.{◌≡◌, ℕ, zero, suc, ◌+◌, ◌-◌, ◌<◌, ◌≤◌, ◌↔◌, Bool, true, false, List, [], ◌∷◌, ◌++◌, length, take, Result, Ok, Err, IfOk, OnOk, OnErr, refl, sym, ap, ◌∙◌, subst, ◌⊎◌, inl, inr, length-append, length-take, arith}
+use Rattle.std.proofs.Common.{◌≡◌, ℕ, ◌+◌, ◌<◌, ◌≤◌, ◌↔◌, true, List, [], ◌∷◌, ◌++◌, length, take, Result, IfOk, OnOk, OnErr, refl, sym, ap, ◌∙◌, subst, ◌⊎◌, inl, inr, length-append, length-take, arith}
 use Rattle.std.proofs.lemmas.List.{take_all, length-take-le}
-use Rattle.std.proofs.lemmas.Bool.{cases_lt, false≢true}
+use Rattle.std.proofs.lemmas.Bool.{cases_lt}
 use Rattle.std.proofs.lemmas.Result.{IfOk-weaker}
 use Rattle.host_io.specs.Disk.{DiskState, IsImage}
 use Rattle.host_io.specs.Outside.{Moment, Outside, moments, Each, Goes}
@@ -58,15 +58,15 @@ stands_later : {W : Type 0} (machine : Machine W) (line reply : List ℕ) (world
     → machine.allowed after.world image → machine.allowed world image ⊎ machine.under_way world line image
     → MayStand machine world ((record { line = line; reply = reply; after = after }) ∷ []) part image
 stands_later machine line reply world after part image next stands = elim (cases_lt part (length reply)) [
-      inl short ↦ inr (short, stands)
-    | inr whole ↦ inl (whole, next)
-    ]
+  | inl short ↦ inr (short, stands)
+  | inr whole ↦ inl (whole, next)
+]
 
 within_now : {W : Type 0} (machine : Machine W) (line reply : List ℕ) (world after : W) (old mid : Outside)
     → IsReady machine world old.now.disk → Answered machine line reply world after old mid → IsWithin machine world line old.now.said mid.now
 within_now machine line reply world after old mid ready answered =
     Goes-now (IsWithin machine world line old.now.said) old mid answered.moments
-      (record { silent = refl; images = λ image is. inl (ready.allowed image is) })
+    (record { silent = refl; images = λ image is. inl (ready.allowed image is) })
 
 -- the moments while it is answered, and while the answer is said
 turning : {W T E : Type 0} (machine : Machine W) (line reply : List ℕ) (world after : W) (old mid new : Outside) (result : Result T E) (turn : Turn W)
@@ -77,25 +77,25 @@ turning {W} machine line reply world after old mid new result turn is ready answ
     let this : Turn W = record { line = line; reply = reply; after = state_of after new } in
     let now = within_now machine line reply world after old mid ready answered in
     let by_answer : (at : Moment) → IsWithin machine world line old.now.said at → IsTurning machine world this old.now at =
-      λ at within. record {
-        part = 0;
-        within = omega arith;
-        said = let sizes = ap length within.silent in omega arith;
-        images = λ image here. stands_first machine line reply world (state_of after new) image answered.quiet (within.images image here);
-      } in
+    λ at within. record {
+      part = 0;
+      within = omega arith;
+      said = let sizes = ap length within.silent in omega arith;
+      images = λ image here. stands_first machine line reply world (state_of after new) image answered.quiet (within.images image here);
+    } in
     let by_saying : (at : Moment) → IsSaying reply mid.now at → IsTurning machine world this old.now at =
-      λ at saying. record {
-        part = saying.part;
-        within = saying.within;
-        said = let sizes = ap length saying.said ∙ length-append mid.now.said (take saying.part reply) in
+    λ at saying. record {
+      part = saying.part;
+      within = saying.within;
+      said = let sizes = ap length saying.said ∙ length-append mid.now.said (take saying.part reply) in
           let same = ap length answered.said in
           let part = length-take-le saying.part reply saying.within in
           omega arith;
-        images = λ image here.
+      images = λ image here.
           let P : DiskState → Type 0 = λ disk. IsImage disk image in
           let image_of = subst P saying.disk here in
           stands_later machine line reply world (state_of after new) saying.part image (answered.ready.allowed image image_of) (now.images image image_of);
-      } in
+    } in
     let Q : Turn W → Type 0 = λ t. Goes (IsTurning machine world t old.now) old new in
     subst Q (sym is) (joins (weaker by_answer answered.moments) (weaker by_saying says.moments))
 
@@ -154,9 +154,15 @@ pub answers_short : {W T E : Type 0} (machine : Machine W) (held line reply byte
 answers_short {W} {T} {E} machine held line reply bytes world after old mid new result outcome is short ready answers ready' moments quiet said input same says counts ok err ends =
     let fits : ¬ IsTooLong held = λ long. omega arith in
     let answered : Answered machine held reply world after old mid = record {
-      answers = inr (fits, answers); ready = ready'; moments = moments; quiet = quiet; said = said; input = input } in
+      answers = inr (fits, answers);
+      ready = ready';
+      moments = moments;
+      quiet = quiet;
+      said = said;
+      input = input;
+    } in
     let Q : List ℕ → Type 0 = λ line'. AnswersLine machine line' world after old new outcome in
     let R : List ℕ → Type 0 = λ reply'. (says' : SaysAll reply' mid new result) → OnOk outcome (says'.part ≡ length reply') → OnErr outcome (says'.part < length reply') → AnswersLine machine held world after old new outcome in
     subst Q (whole_line held line is short)
-      (subst R (sym same) (λ says' ok' err'. answers_line machine held reply world after old mid new result outcome ready answered says' counts ok' err'
-        (IfOk-weaker outcome (λ flow. (flow ≡ Ends) ↔ (machine.ends held ≡ true)) (λ flow. (flow ≡ Ends) ↔ IsLast machine held) (λ flow e. ends-short machine held flow fits e) ends)) says ok err)
+    (subst R (sym same) (λ says' ok' err'. answers_line machine held reply world after old mid new result outcome ready answered says' counts ok' err'
+    (IfOk-weaker outcome (λ flow. (flow ≡ Ends) ↔ (machine.ends held ≡ true)) (λ flow. (flow ≡ Ends) ↔ IsLast machine held) (λ flow e. ends-short machine held flow fits e) ends)) says ok err)

@@ -1,8 +1,7 @@
 -- The lines of one piece that was taken.
-use Rattle.std.proofs.Common.{◌≡◌, ℕ, zero, suc, ◌+◌, ◌-◌, ◌<◌, ◌≤◌, List, [], ◌∷◌, ◌++◌, length, take, drop, get_or, Result, Ok, Err, refl, sym, ap, ◌∙◌, subst, length-drop, length-take, arith}
-use Rattle.std.proofs.lemmas.List.{append-nil, take-append-drop, drop_more, drop-drop, drop_all, take_rest, length-take-le}
+use Rattle.std.proofs.Common.{◌≡◌, ℕ, ◌+◌, ◌-◌, ◌<◌, ◌≤◌, List, [], ◌∷◌, ◌++◌, length, take, drop, get_or, Ok, Err, sym, ap, ◌∙◌, subst, length-drop, length-take, arith}
+use Rattle.std.proofs.lemmas.List.{append-nil, take-append-drop, drop_more, drop-drop, take_rest}
 use Rattle.host_io.specs.Outside.{Outside}
-use Rattle.lines.specs.declared.session.Flow.{Flow}
 use Rattle.lines.specs.declared.session.Flow.TheVariants.{Goes as GoesOn, Ends}
 use Rattle.lines.specs.declared.serving.End.TheVariants.{Done, SayFault}
 use Rattle.lines.specs.Lines.{newline, max_line, HasNoNewline}
@@ -33,7 +32,7 @@ split_piece piece from len next =
     let found : get_or rest len 0 ≡ newline = rw (take_rest piece from) at next.found in
     let count : from + len - from ≡ len = omega arith in
     let behind : drop len rest ≡ newline ∷ drop (from + (len + 1)) piece =
-      drop_more rest len 0 within ∙ (ap (λ (b : ℕ). b ∷ drop (len + 1) rest) found ∙ ap (λ (x : List ℕ). newline ∷ x) (drop-drop (len + 1) from piece)) in
+    drop_more rest len 0 within ∙ (ap (λ (b : ℕ). b ∷ drop (len + 1) rest) found ∙ ap (λ (x : List ℕ). newline ∷ x) (drop-drop (len + 1) from piece)) in
     sym (take-append-drop len rest) ∙ (ap (λ (n : ℕ). take n rest ++ drop len rest) (sym count) ∙ ap (λ (x : List ℕ). span_of piece from len ++ x) behind)
 
 span_front : (piece : List ℕ) (from len : ℕ) → NextNewline piece from len → HasNoNewline (span_of piece from len)
@@ -57,8 +56,8 @@ SoFar-line machine start begin world outside room room' piece from len count so 
     let A : List ℕ → Type 0 = λ ahead. SoFar machine start begin world outside room ahead (count + from) in
     let C : ℕ → Type 0 = λ n. SoFar machine start begin world outside room' (newline ∷ drop (from + (len + 1)) piece) (count + from + n) in
     subst C (span_length piece from len next)
-      (SoFar-span machine start begin world outside room room' (span_of piece from len) (newline ∷ drop (from + (len + 1)) piece) (count + from)
-        (subst A (split_piece piece from len next) so) (span_front piece from len next) held)
+    (SoFar-span machine start begin world outside room room' (span_of piece from len) (newline ∷ drop (from + (len + 1)) piece) (count + from)
+    (subst A (split_piece piece from len next) so) (span_front piece from len next) held)
 
 fits_line : (budget count from len : ℕ) (piece : List ℕ) → NextNewline piece from len → count + length piece ≤ budget
     → count + from + len + (1 + length (drop (from + (len + 1)) piece)) ≤ budget

@@ -1,6 +1,6 @@
 -- Bytes have one list of lines.
-use Rattle.std.proofs.Common.{◌≡◌, ℕ, List, [], ◌∷◌, ◌++◌, flat_map, refl, sym, ap, ◌∙◌, append_assoc}
-use Rattle.lines.specs.Lines.{newline, ended, HasNoNewline, AreLines, Splits, last_line}
+use Rattle.std.proofs.Common.{◌≡◌, ℕ, List, [], ◌∷◌, ◌++◌, flat_map, refl, sym, ◌∙◌, append_assoc}
+use Rattle.lines.specs.Lines.{newline, ended, HasNoNewline, AreLines, Splits}
 
 -- a newline stands in these bytes
 newline_in : (front behind : List ℕ) → ¬ HasNoNewline (front ++ newline ∷ behind)
@@ -32,7 +32,7 @@ one_reading (line ∷ lines) [] rest rest' each each' none none' same =
     absurd (newline_in line (flat_map ended lines ++ rest) (rw (sym same ∙ first_of_lines line lines rest) at none'))
 one_reading (line ∷ lines) (other ∷ others) rest rest' each each' none none' same =
     let parts = first_line line other (flat_map ended lines ++ rest) (flat_map ended others ++ rest') each.0 each'.0
-      (sym (first_of_lines line lines rest) ∙ (same ∙ first_of_lines other others rest')) in
+    (sym (first_of_lines line lines rest) ∙ (same ∙ first_of_lines other others rest')) in
     let later = one_reading lines others rest rest' each.1 each'.1 none none' parts.1 in
     let first = parts.0 in let behind = later.0 in
     (cc, later.1)

@@ -1,12 +1,12 @@
 -- What one take brings.
-use Rattle.std.proofs.Common.{◌≡◌, ℕ, zero, suc, ◌+◌, ◌-◌, ◌<◌, ◌≤◌, List, [], ◌∷◌, ◌++◌, length, take, get_or, Result, Ok, Err, refl, sym, ap, ◌∙◌, subst, length-take, arith}
+use Rattle.std.proofs.Common.{◌≡◌, ℕ, ◌≤◌, List, [], ◌∷◌, length, take, get_or, Ok, ap, subst, arith}
 use Rattle.host_io.specs.Outside.{Outside}
-use Rattle.host_io.specs.Calls.{CountsTake, Takes}
+use Rattle.host_io.specs.Calls.{Takes}
 use Rattle.lines.specs.Machine.{Machine}
 use Rattle.lines.specs.Served.{Serves}
 use Rattle.lines.specs.Steps.{SoFar}
-use Rattle.lines.specs.declared.serving.End.TheVariants.{TakeFault, TooMuch}
-use Rattle.lines.proofs.Going.{SoFar-take, Serves-cut, Serves-beyond}
+use Rattle.lines.specs.declared.serving.End.TheVariants.{TooMuch}
+use Rattle.lines.proofs.Going.{SoFar-take, Serves-beyond}
 
 -- the bytes that came have not been looked at yet
 pub SoFar-took : {W E : Type 0} (machine : Machine W) (start : W) (begin : Outside) (world : W) (old new : Outside) (room piece : List ℕ) (size count n : ℕ)
@@ -22,13 +22,6 @@ SoFar-took_none machine start begin world old new room piece size count n so tak
     let A : ℕ → Type 0 = λ m. SoFar machine start begin world new room (take m piece) count in
     subst A none (SoFar-took machine start begin world old new room piece size count n so takes faults)
 
--- a take that failed
-pub Serves-take_fault : {W E : Type 0} (machine : Machine W) (budget : ℕ) (start : W) (begin : Outside) (world : W) (old new : Outside) (room piece : List ℕ) (size count : ℕ) (error : E)
-    → SoFar machine start begin world old room [] count → Takes size piece old new (Err error) → new.disk_faults ≡ old.disk_faults → count ≤ budget
-    → Serves machine budget TakeFault start world begin new
-Serves-take_fault machine budget start begin world old new room piece size count error so takes faults fits =
-    Serves-cut machine budget start begin world new room count (SoFar-take machine start begin world old new room [] count so (sym takes.err) takes.still faults) fits
-
 one_byte : (piece : List ℕ) (n : ℕ) → length piece ≡ 1 → n ≤ 1 → ¬ (n ≡ 0) → take n piece ≡ get_or piece 0 0 ∷ []
 one_byte [] n size most some = absurd (omega arith)
 one_byte (byte ∷ []) n size most some = let one : n ≡ 1 = omega arith in ap (λ (m : ℕ). take m (byte ∷ [])) one
@@ -41,4 +34,4 @@ pub Serves-too_much : {W E : Type 0} (machine : Machine W) (budget : ℕ) (start
 Serves-too_much machine budget start begin world old new room piece size n so takes faults one most some =
     let A : List ℕ → Type 0 = λ ahead. SoFar machine start begin world new room ahead budget in
     Serves-beyond machine budget start begin world new room (get_or piece 0 0)
-      (subst A (one_byte piece n one most some) (SoFar-took machine start begin world old new room piece size budget n so takes faults))
+    (subst A (one_byte piece n one most some) (SoFar-took machine start begin world old new room piece size budget n so takes faults))

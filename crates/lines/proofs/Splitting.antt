@@ -1,12 +1,12 @@
 -- How bytes are cut into lines, as more of them are looked at.
-use Rattle.std.proofs.Common.{◌≡◌, ℕ, zero, suc, ◌+◌, ◌-◌, ◌<◌, ◌≤◌, min, Bool, true, false, Option, Some, None, MatchOption, List, [], ◌∷◌, ◌++◌, length, take, get_or, flat_map, refl, sym, ap, ◌∙◌, subst, ◌⊎◌, inl, inr, append_assoc, length-take, arith}
+use Rattle.std.proofs.Common.{◌≡◌, ℕ, zero, suc, ◌+◌, ◌-◌, ◌<◌, ◌≤◌, min, true, Option, Some, None, MatchOption, List, [], ◌∷◌, ◌++◌, length, take, get_or, flat_map, refl, sym, ap, ◌∙◌, subst, ◌⊎◌, inl, inr, append_assoc, length-take, arith}
 use Rattle.std.proofs.lemmas.List.{append-nil, get_or-take, take_min}
 use Rattle.std.proofs.Math.Seq.{take-append-add}
 use Rattle.std.proofs.Math.Nat.{min_comm}
 use Rattle.memchr.specs.Find.{IsFirstByte, is_byte}
 use Rattle.std.proofs.lemmas.List.Concat.{flat_map-append}
 use Rattle.std.proofs.lemmas.Bool.{cases_eq}
-use Rattle.lines.specs.Lines.{newline, ended, HasNoNewline, AreLines, Splits, last_line, AreLinesOf}
+use Rattle.lines.specs.Lines.{newline, ended, HasNoNewline, AreLines, Splits}
 
 pub HasNoNewline-append : (front back : List ℕ) → HasNoNewline front → HasNoNewline back → HasNoNewline (front ++ back)
 HasNoNewline-append [] back none more = more
@@ -101,8 +101,8 @@ before_newline bytes None nowhere = HasNoNewline-places bytes (λ k below. isnt_
 before_newline bytes (Some at) first =
     let within = first.0.high in
     HasNoNewline-places (take at bytes) (λ k below is.
-      let before : k < at = omega (arith, below, length-take at bytes) in
-      isnt_newline (get_or bytes k 0) (first.0.before k (omega arith) before) (sym (get_or-take at bytes k 0 before) ∙ is))
+    let before : k < at = omega (arith, below, length-take at bytes) in
+    isnt_newline (get_or bytes k 0) (first.0.before k (omega arith) before) (sym (get_or-take at bytes k 0 before) ∙ is))
 
 -- what is held of a line, and more of it
 pub take_held : (held bytes : List ℕ) (most : ℕ) → length held ≤ most
@@ -113,8 +113,8 @@ take_held held bytes most short =
     let P : ℕ → Type 0 = λ m. held ++ take (min (length bytes) n) bytes ≡ take m (held ++ bytes) in
     subst P (sym all) (ap (λ (x : List ℕ). held ++ x) (take-min bytes n) ∙ sym (take-append-add held bytes n))
   where
-  take-min : (xs : List ℕ) (n : ℕ) → take (min (length xs) n) xs ≡ take n xs
-  take-min xs n = rw (min_comm (length xs) n) (take_min n xs)
+    take-min : (xs : List ℕ) (n : ℕ) → take (min (length xs) n) xs ≡ take n xs
+    take-min xs n = rw (min_comm (length xs) n) (take_min n xs)
 
 -- what a full room holds, and more bytes
 pub take_more_held : (most : ℕ) (line bytes : List ℕ) → take most (take most line ++ bytes) ≡ take most (line ++ bytes)

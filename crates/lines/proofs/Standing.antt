@@ -1,5 +1,5 @@
 -- What may stand after a crash, as one more turn is done.
-use Rattle.std.proofs.Common.{◌≡◌, ℕ, ◌+◌, ◌-◌, ◌<◌, ◌≤◌, List, [], ◌∷◌, ◌++◌, length, refl, sym, ap, ◌∙◌, subst, ◌⊎◌, inl, inr, arith, length-append}
+use Rattle.std.proofs.Common.{◌≡◌, ℕ, ◌+◌, ◌-◌, ◌≤◌, List, [], ◌∷◌, ◌++◌, length, subst, inl, inr, arith, length-append}
 use Rattle.lines.specs.Machine.{Machine, Turn, replies}
 use Rattle.lines.specs.Crash.{MayStand}
 use Rattle.lines.proofs.Turns.{world_after}
@@ -13,9 +13,9 @@ MayStand-before machine world [] turn n image next short stands =
     let none : 0 ≡ n = omega arith in
     subst P none (next stands)
 MayStand-before machine world (turn' ∷ turns) turn n image next short stands = elim stands [
-      inl whole ↦ inl (whole.0, MayStand-before machine turn'.after.world turns turn (n - length turn'.reply) image next (omega (arith, short, length-append turn'.reply (replies turns))) whole.1)
-    | inr within ↦ inr within
-    ]
+  | inl whole ↦ inl (whole.0, MayStand-before machine turn'.after.world turns turn (n - length turn'.reply) image next (omega (arith, short, length-append turn'.reply (replies turns))) whole.1)
+  | inr within ↦ inr within
+]
 
 -- what stands while the last turn goes on
 pub MayStand-within : {W : Type 0} (machine : Machine W) (world : W) (turns : List (Turn W)) (turn : Turn W) (part : ℕ) (image : List ℕ)

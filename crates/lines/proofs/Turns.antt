@@ -1,5 +1,5 @@
 -- Runs that go on by one turn.
-use Rattle.std.proofs.Common.{◌≡◌, ℕ, ◌+◌, ◌<◌, ◌≤◌, Bool, true, false, List, [], ◌∷◌, ◌++◌, length, refl, sym, ap, ◌∙◌, subst, ◌⊎◌, inl, inr, append_assoc, arith}
+use Rattle.std.proofs.Common.{◌≡◌, ℕ, Bool, true, false, List, [], ◌∷◌, ◌++◌, length, refl, sym, ap, ◌∙◌, subst, ◌⊎◌, inl, inr, append_assoc, arith}
 use Rattle.std.proofs.lemmas.List.{append-nil}
 use Rattle.std.proofs.lemmas.Bool.{cases_lt, false≢true}
 use Rattle.lines.specs.Lines.{max_line, IsTooLong}
@@ -9,10 +9,10 @@ use Rattle.lines.specs.Machine.{Machine, State, Turn, Answers, IsLast, Run, repl
 pub IsLast-cases : {W : Type 0} (machine : Machine W) (line : List ℕ) → IsLast machine line ⊎ (¬ IsLast machine line)
 IsLast-cases machine line =
     let by_end : (b : Bool) → machine.ends line ≡ b → (¬ IsTooLong line) → IsLast machine line ⊎ (¬ IsLast machine line) =
-      elim [ true ↦ λ is short. inl (short, is) | false ↦ λ is short. inr (λ last. false≢true (sym is ∙ last.1)) ] in
+    elim [ true ↦ λ is short. inl (short, is) | false ↦ λ is short. inr (λ last. false≢true (sym is ∙ last.1)) ] in
     elim (cases_lt max_line (length line)) [
-      inl long ↦ inr (λ last. last.0 long)
-    | inr short ↦ by_end (machine.ends line) refl (λ long. omega arith)
+      | inl long ↦ inr (λ last. last.0 long)
+      | inr short ↦ by_end (machine.ends line) refl (λ long. omega arith)
     ]
 
 -- one turn more, in the state that the run left
@@ -24,11 +24,14 @@ Run-push {W} machine old mid [] [] line turn run goes_on is answers =
     (is, subst P run answers, elim (IsLast-cases machine line) [ inl last ↦ inl (last, refl, refl) | inr other ↦ inr (other, refl) ])
 Run-push machine old mid [] (turn' ∷ turns) line turn run goes_on is answers = absurd run
 Run-push machine old mid (line' ∷ lines) [] line turn run goes_on is answers = absurd run
-Run-push machine old mid (line' ∷ lines) (turn' ∷ turns) line turn run goes_on is answers =
-    (run.0, run.1, elim run.2 [
-      inl last ↦ absurd (goes_on (inl (rw run.0 last.0)))
+Run-push machine old mid (line' ∷ lines) (turn' ∷ turns) line turn run goes_on is answers = (
+  run.0,
+  run.1,
+  elim run.2 [
+    | inl last ↦ absurd (goes_on (inl (rw run.0 last.0)))
     | inr more ↦ inr (more.0, Run-push machine turn'.after mid lines turns line turn more.1 (λ ended. goes_on (inr ended)) is answers)
-    ])
+  ],
+)
 
 -- lines behind the one that ended the session are not answered
 pub Run-later : {W : Type 0} (machine : Machine W) (old last : State W) (lines later : List (List ℕ)) (turns : List (Turn W))
@@ -36,14 +39,20 @@ pub Run-later : {W : Type 0} (machine : Machine W) (old last : State W) (lines l
 Run-later machine old last [] later [] run ended = absurd ended
 Run-later machine old last [] later (turn ∷ turns) run ended = absurd run
 Run-later machine old last (line ∷ lines) later [] run ended = absurd run
-Run-later machine old last (line ∷ lines) later (turn ∷ turns) run ended =
-    (run.0, run.1, elim run.2 [
-      inl over ↦ inl over
-    | inr more ↦ inr (more.0, elim ended [
-        inl is ↦ absurd (more.0 (rw run.0 at is))
-      | inr ended' ↦ Run-later machine turn.after last lines later turns more.1 ended'
-      ])
-    ])
+Run-later machine old last (line ∷ lines) later (turn ∷ turns) run ended = (
+  run.0,
+  run.1,
+  elim run.2 [
+    | inl over ↦ inl over
+    | inr more ↦ inr (
+      more.0,
+      elim ended [
+        | inl is ↦ absurd (more.0 (rw run.0 at is))
+        | inr ended' ↦ Run-later machine turn.after last lines later turns more.1 ended'
+      ],
+    )
+  ],
+)
 
 pub HasEnded-push : {W : Type 0} (machine : Machine W) (turns : List (Turn W)) (turn : Turn W) → IsLast machine turn.line → HasEnded machine (turns ++ turn ∷ [])
 HasEnded-push machine [] turn last = inl last
@@ -53,9 +62,9 @@ pub goes_on-push : {W : Type 0} (machine : Machine W) (turns : List (Turn W)) (t
     → (¬ HasEnded machine turns) → (¬ IsLast machine turn.line) → ¬ HasEnded machine (turns ++ turn ∷ [])
 goes_on-push machine [] turn before other ended = elim ended [ inl last ↦ other last | inr more ↦ absurd more ]
 goes_on-push machine (turn' ∷ turns) turn before other ended = elim ended [
-      inl last ↦ before (inl last)
-    | inr more ↦ goes_on-push machine turns turn (λ ended'. before (inr ended')) other more
-    ]
+  | inl last ↦ before (inl last)
+  | inr more ↦ goes_on-push machine turns turn (λ ended'. before (inr ended')) other more
+]
 
 pub replies-push : {W : Type 0} (turns : List (Turn W)) (turn : Turn W) → replies (turns ++ turn ∷ []) ≡ replies turns ++ turn.reply
 replies-push [] turn = append-nil turn.reply
@@ -72,6 +81,6 @@ world_after-run {W} machine old last [] [] run = ap (λ (state : State W). state
 world_after-run machine old last [] (turn ∷ turns) run = absurd run
 world_after-run machine old last (line ∷ lines) [] run = absurd run
 world_after-run {W} machine old last (line ∷ lines) (turn ∷ turns) run = elim run.2 [
-      inl over ↦ rw (over.1) (ap (λ (state : State W). state.world) (sym over.2))
-    | inr more ↦ world_after-run machine turn.after last lines turns more.1
-    ]
+  | inl over ↦ rw (over.1) (ap (λ (state : State W). state.world) (sym over.2))
+  | inr more ↦ world_after-run machine turn.after last lines turns more.1
+]

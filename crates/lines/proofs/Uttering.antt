@@ -1,10 +1,10 @@
 -- A text that is said piece by piece.
-use Rattle.std.proofs.Common.{◌≡◌, ℕ, ◌+◌, ◌-◌, ◌<◌, ◌≤◌, ◌⊎◌, inl, inr, List, [], ◌∷◌, ◌++◌, length, take, drop, Result, Ok, Err, OnOk, OnErr, refl, sym, ap, ◌∙◌, append_assoc, arith, length-drop}
+use Rattle.std.proofs.Common.{◌≡◌, ℕ, ◌+◌, ◌-◌, ◌<◌, ◌≤◌, inl, inr, List, ◌++◌, length, take, drop, Result, Ok, Err, refl, sym, ap, ◌∙◌, append_assoc, arith, length-drop}
 use Rattle.std.proofs.lemmas.List.{append-nil, take_rest}
 use Rattle.std.proofs.lemmas.Bool.{false≢true}
 use Rattle.std.proofs.Math.Seq.{take-add}
 use Rattle.host_io.specs.Outside.{Outside, Moment, Goes}
-use Rattle.host_io.specs.Calls.{Rose, Counts, CountsSay, StandsStill, Says}
+use Rattle.host_io.specs.Calls.{CountsSay, Says}
 use Rattle.lines.specs.Spoken.{IsSaying, SaysAll}
 use Rattle.host_io.proofs.Moments.{begins, begins_still, steps, joins}
 
@@ -53,9 +53,9 @@ SaidFront-more bytes part n old mid new front short' says' =
     let says = rw (take_rest bytes part) at says' in
     let within : part + n ≤ length bytes = let h = front.within in omega (arith, short, length-drop part bytes) in
     let spoke : new.now.said ≡ old.now.said ++ take (part + n) bytes =
-      says.ok.0 ∙ (ap (λ (x : List ℕ). x ++ take n (drop part bytes)) front.spoke
-        ∙ (append_assoc old.now.said (take part bytes) (take n (drop part bytes))
-        ∙ ap (λ (x : List ℕ). old.now.said ++ x) (sym (take-add part n bytes)))) in
+    says.ok.0 ∙ (ap (λ (x : List ℕ). x ++ take n (drop part bytes)) front.spoke
+    ∙ (append_assoc old.now.said (take part bytes) (take n (drop part bytes))
+    ∙ ap (λ (x : List ℕ). old.now.said ++ x) (sym (take-add part n bytes)))) in
     let disk : new.now.disk ≡ old.now.disk = says.ok.1 ∙ front.disk in
     record {
       within = within;
@@ -63,7 +63,7 @@ SaidFront-more bytes part n old mid new front short' says' =
       disk = disk;
       input = says.input ∙ front.input;
       moments = joins front.moments
-        (steps says.ok.2 (record { part = part + n; within = within; said = spoke; disk = disk }));
+          (steps says.ok.2 (record { part = part + n; within = within; said = spoke; disk = disk }));
     }
 
 -- all of it

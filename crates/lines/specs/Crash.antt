@@ -1,8 +1,8 @@
 -- What a crash may leave of a run, by how many bytes had been said.
 use Rattle.std.specs.Prelude.{◌≡◌, ℕ, ◌-◌, ◌<◌, ◌≤◌, List, [], ◌∷◌, length, ◌⊎◌}
 use Rattle.host_io.specs.Disk.{DiskState, IsImage}
-use Rattle.host_io.specs.Outside.{Moment, Outside, Left, moment}
-use Rattle.lines.specs.Machine.{Machine, State, Turn}
+use Rattle.host_io.specs.Outside.{Moment, Outside, Left}
+use Rattle.lines.specs.Machine.{Machine, Turn}
 
 -- When n bytes of the replies had been said, let k be the greatest number of turns whose replies stand whole in them.
 -- The image is one that the world after those k turns allows, or one that the line under way then may leave.

@@ -1,5 +1,5 @@
 -- A session as a machine that answers lines, and its runs.
-use Rattle.std.specs.Prelude.{◌≡◌, ℕ, Bool, true, false, List, [], ◌∷◌, ◌++◌, codes, ◌⊎◌}
+use Rattle.std.specs.Prelude.{◌≡◌, ℕ, Bool, true, List, [], ◌∷◌, ◌++◌, codes, ◌⊎◌}
 use Rattle.host_io.specs.Disk.{DiskState}
 use Rattle.lines.specs.Lines.{IsTooLong, newline}
 
@@ -49,7 +49,7 @@ Run machine old (line ∷ lines) [] last = ⊥
 Run machine old (line ∷ lines) (turn ∷ turns) last =
     (turn.line ≡ line) × Answers machine old line turn.reply turn.after
     × ((IsLast machine line × (turns ≡ []) × (last ≡ turn.after))
-       ⊎ ((¬ IsLast machine line) × Run machine turn.after lines turns last))
+    ⊎ ((¬ IsLast machine line) × Run machine turn.after lines turns last))
 
 -- the bytes of all replies
 abbrev pub replies : {W : Type 0} → List (Turn W) → List ℕ

@@ -4,7 +4,6 @@ use Rattle.host_io.specs.Disk.{IsImage}
 use Rattle.host_io.specs.Outside.{Moment, Outside, Left, moment, Goes}
 use Rattle.lines.specs.declared.session.Flow.{Flow}
 use Rattle.lines.specs.declared.session.Flow.TheVariants.{Goes as GoesOn, Ends}
-use Rattle.lines.specs.declared.serving.End.{End}
 use Rattle.lines.specs.declared.serving.End.TheVariants.{Done, SayFault}
 use Rattle.lines.specs.Lines.{Splits, max_line}
 use Rattle.lines.specs.Machine.{Machine, Turn, Answers, IsLast, Run, replies, HasEnded}

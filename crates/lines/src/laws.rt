@@ -7,5 +7,4 @@ ghost use Rattle.lines.specs.Lines.{AreLinesOf, AreEndedLinesOf};
 pub fn lines_are_one()
     ensures all { (bytes : List ℕ) (lines others : List (List ℕ)) → AreLinesOf bytes lines → AreLinesOf bytes others → lines ≡ others }
     ensures ended { (bytes : List ℕ) (lines others : List (List ℕ)) → AreEndedLinesOf bytes lines → AreEndedLinesOf bytes others → lines ≡ others }
-{
-}
+{}

@@ -83,8 +83,8 @@ fn take_piece<H: Host, S: Session<H>>(
     ensures comes { H.tells → (start : S) (begin : Outside) (budget taken : ℕ) → taken + length piece.old ≤ budget
         → SoFar S.machine start begin session.old (H.outside host.old) room.old.bytes [] taken
         → MatchResult result
-            (λ count. SoFar S.machine start begin session.new (H.outside host.new) room.new.bytes [] (taken + count))
-            (λ end. Serves S.machine budget end start session.new begin (H.outside host.new)) }
+        (λ count. SoFar S.machine start begin session.new (H.outside host.new) room.new.bytes [] (taken + count))
+        (λ end. Serves S.machine budget end start session.new begin (H.outside host.new)) }
     ensures ready { H.tells → IsReady S.machine session.new (H.outside host.new).now.disk }
     ensures room { OnOk result (HasLineRoom room.new) }
     ensures clear { OnOk result (IsClear out.new) }

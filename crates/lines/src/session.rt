@@ -14,7 +14,9 @@ pub const MAX_LINE: usize = 1_048_576;
 /// Whether a session goes on after a line.
 #[derive(Clone, Copy, Debug, PartialEq, Eq)]
 pub enum Flow {
+    /// The next line is answered.
     Goes,
+    /// The session is over, and no byte behind the line is looked at.
     Ends,
 }
 

@@ -19,11 +19,11 @@ impl<H: Host> Session<H> for Echo {
     ghost use Rattle.std.specs.Str.{bytes_eq};
 
     ghost machine = { record {
-        answers = λ old line reply new. new ≡ old;
-        ends = λ line. bytes_eq line (codes "quit");
-        allowed = λ world image. Unit {0};
-        under_way = λ world line image. ⊥;
-        ready = λ world disk. Unit {0};
+      answers = λ old line reply new. new ≡ old;
+      ends = λ line. bytes_eq line (codes "quit");
+      allowed = λ world image. Unit {0};
+      under_way = λ world line image. ⊥;
+      ready = λ world disk. Unit {0};
     } };
 
     fn answer(&mut self, _host: &mut H, line: &[u8], out: &mut Text) -> Flow {
@@ -56,7 +56,13 @@ fn run(
     let mut host = MemHost::new(alloc, b"", input, &script, most, MAX_LINE + 1)?;
     let mut room = Bytes::with_room(alloc, MAX_LINE + 1)?;
     let mut out = Text::with_room(alloc, MAX_LINE + 1)?;
-    let end = serve(&mut Echo, &mut host, &mut room, &mut out, budget.min(MAX_BUDGET));
+    let end = serve(
+        &mut Echo,
+        &mut host,
+        &mut room,
+        &mut out,
+        budget.min(MAX_BUDGET),
+    );
     Ok((end, Bytes::from_slice(alloc, host.said())?))
 }
 
@@ -96,7 +102,11 @@ fn says_the_same_however_cut(rt: HostRuntime) -> Result<(), Fail> {
     for most in [1, 2, 3, 7] {
         let (end, said) = run(rt.alloc(), b"one\n\ntwo three\n four\nlast", None, most, 99)?;
         assert_eq!(rt; end, End::Done, "in pieces of {most}");
-        assert_eq!(rt; said.as_slice(), b"one\ntwo three\n four\nlast\n".as_slice(), "in pieces of {most}");
+        assert_eq!(rt;
+            said.as_slice(),
+            b"one\ntwo three\n four\nlast\n".as_slice(),
+            "in pieces of {most}"
+        );
     }
     Ok(())
 }
@@ -122,7 +132,11 @@ fn a_line_too_long_is_answered_once(rt: HostRuntime) -> Result<(), Fail> {
         let long = line_of(rt.alloc(), MAX_LINE + 1, behind)?;
         let (end, said) = run(rt.alloc(), long.as_slice(), None, 0, MAX_BUDGET)?;
         assert_eq!(rt; end, End::Done, "before {behind:?}");
-        assert_eq!(rt; said.as_slice(), b"err 8 limit\n".as_slice(), "before {behind:?}");
+        assert_eq!(rt;
+            said.as_slice(),
+            b"err 8 limit\n".as_slice(),
+            "before {behind:?}"
+        );
     }
 
     let two = line_of(rt.alloc(), MAX_LINE + 1, b"\nb\n")?;

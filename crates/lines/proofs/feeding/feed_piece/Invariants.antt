@@ -1,4 +1,4 @@
-use Rattle.std.proofs.Common.{◌≡◌, ℕ, ◌+◌, ◌-◌, ◌≤◌, List, length, drop}
+use Rattle.std.proofs.Common.{◌≡◌, ℕ, ◌+◌, ◌-◌, ◌≤◌, length, drop}
 use Rattle.host_io.specs.Outside.{Outside}
 use Rattle.lines.specs.Crash.{IsReady}
 use Rattle.lines.specs.Rooms.{HasLineRoom, IsClear}
@@ -13,8 +13,8 @@ invariant-lines g l = record {
   clear : IsClear l.out;
   ready : g.H.Disk.tells → IsReady g.S.Session.machine l.session (g.H.Disk.outside l.host).now.disk;
   so_far : g.H.Disk.tells → (start : g.row.S.Denot) (begin : Outside) (count : ℕ)
-    → SoFar g.S.Session.machine start begin l.initial.session (g.H.Disk.outside l.initial.host) l.initial.room.bytes l.piece count
-    → SoFar g.S.Session.machine start begin l.session (g.H.Disk.outside l.host) l.room.bytes (drop l.from l.piece) (count + l.from);
+      → SoFar g.S.Session.machine start begin l.initial.session (g.H.Disk.outside l.initial.host) l.initial.room.bytes l.piece count
+      → SoFar g.S.Session.machine start begin l.session (g.H.Disk.outside l.host) l.room.bytes (drop l.from l.piece) (count + l.from);
   say_faults : (g.H.Disk.outside l.initial.host).say_faults ≤ (g.H.Disk.outside l.host).say_faults;
   take_faults : (g.H.Disk.outside l.host).take_faults ≡ (g.H.Disk.outside l.initial.host).take_faults;
   disk_faults : (g.H.Disk.outside l.initial.host).disk_faults ≤ (g.H.Disk.outside l.host).disk_faults;

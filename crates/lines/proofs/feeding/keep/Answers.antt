@@ -1,4 +1,4 @@
-use Rattle.std.proofs.Common.{◌≡◌, ◌-◌, ◌++◌, ℕ, List, length, take, min, ap, sym, ◌∙◌}
+use Rattle.std.proofs.Common.{◌≡◌, ◌-◌, ◌++◌, ℕ, length, take, min, ap, ◌∙◌}
 use Rattle.lines.proofs.Splitting.{take_held}
 use Rattle.lines.proofs.feeding.keep.Goals as goal
 

@@ -1,4 +1,4 @@
-use Rattle.std.proofs.Common.{◌≡◌, List, ℕ, ◌++◌, ap, sym, ◌∙◌}
+use Rattle.std.proofs.Common.{List, ℕ, ◌++◌, ap, sym, ◌∙◌}
 use Rattle.lines.specs.Lines.{last_line}
 use Rattle.lines.proofs.OneReading.{Splits-only}
 use Rattle.lines.proofs.laws.lines_are_one.Goals as goal

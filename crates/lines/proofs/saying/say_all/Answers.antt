@@ -1,7 +1,5 @@
-use Rattle.std.proofs.Common.{rules, arith, subst, sym, Result, Err}
+use Rattle.std.proofs.Common.{arith}
 use Rattle.std.proofs.lemmas.Result.{err_from_is_err_and}
-use Rattle.host_io.specs.Calls.{CountsSay}
-use Rattle.lines.specs.Spoken.{SaysAll}
 use Rattle.lines.proofs.Uttering.{SaidFront-none, CountsNone-none, SaidFront-more, CountsNone-more, SaysAll-whole, SaysAll-cut, CountsSay-whole, CountsSay-cut}
 use Rattle.lines.proofs.saying.say_all.Goals as goal
 

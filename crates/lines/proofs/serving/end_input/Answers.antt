@@ -1,4 +1,4 @@
-use Rattle.std.proofs.Common.{◌≡◌, [], ◌∙◌, sym, true, IsTrue}
+use Rattle.std.proofs.Common.{◌≡◌, [], ◌∙◌, sym}
 use Rattle.std.proofs.lemmas.Bool.{false≢true}
 use Rattle.lines.proofs.Going.{Serves-over, Serves-last, Serves-last_broken}
 use Rattle.lines.proofs.serving.end_input.Goals as goal

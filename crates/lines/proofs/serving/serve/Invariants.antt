@@ -1,4 +1,4 @@
-use Rattle.std.proofs.Common.{◌≡◌, ℕ, ◌+◌, ◌≤◌, [], List}
+use Rattle.std.proofs.Common.{◌≡◌, ℕ, ◌+◌, ◌≤◌, []}
 use Rattle.lines.specs.Crash.{IsReady}
 use Rattle.lines.specs.Rooms.{HasLineRoom, IsClear}
 use Rattle.lines.specs.Steps.{SoFar}
@@ -12,7 +12,7 @@ invariant-taking g l = record {
   clear : IsClear l.out;
   ready : g.H.Disk.tells → IsReady g.S.Session.machine l.session (g.H.Disk.outside l.host).now.disk;
   so_far : g.H.Disk.tells → (count : ℕ) → count + l.left ≡ l.budget
-    → SoFar g.S.Session.machine l.initial.session (g.H.Disk.outside l.initial.host) l.session (g.H.Disk.outside l.host) l.room.bytes [] count;
+      → SoFar g.S.Session.machine l.initial.session (g.H.Disk.outside l.initial.host) l.session (g.H.Disk.outside l.host) l.room.bytes [] count;
   take_faults : (g.H.Disk.outside l.initial.host).take_faults ≤ (g.H.Disk.outside l.host).take_faults;
   say_faults : (g.H.Disk.outside l.initial.host).say_faults ≤ (g.H.Disk.outside l.host).say_faults;
   disk_faults : (g.H.Disk.outside l.initial.host).disk_faults ≤ (g.H.Disk.outside l.host).disk_faults;

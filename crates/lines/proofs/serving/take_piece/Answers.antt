@@ -5,7 +5,7 @@ use Rattle.lines.proofs.serving.take_piece.Goals as goal
 pub returns-then-count-eq0-clause-comes : goal.returns-then-count-eq0-clause-comes
 returns-then-count-eq0-clause-comes g c = λ tells start begin budget taken fits so.
     c.end_input.ensures.serves tells start begin budget taken (omega arith)
-      (SoFar-took_none g.S.Session.machine start begin _ _ _ _ _ _ taken _ so (c.in-Ok.ensures.takes tells) c.if-count-eq0.true c.in-Ok.ensures.counts.disk)
+    (SoFar-took_none g.S.Session.machine start begin _ _ _ _ _ _ taken _ so (c.in-Ok.ensures.takes tells) c.if-count-eq0.true c.in-Ok.ensures.counts.disk)
 
 pub returns-in-Ok-Goes-clause-comes : goal.returns-in-Ok-Goes-clause-comes
 returns-in-Ok-Goes-clause-comes g c = λ tells start begin budget taken fits so.
