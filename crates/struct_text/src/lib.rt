@@ -3,7 +3,9 @@
 
 mod error;
 mod names;
+mod printing;
 mod reading;
 
 pub use error::StructError;
+pub use printing::print;
 pub use reading::parse;
