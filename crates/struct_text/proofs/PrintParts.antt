@@ -45,13 +45,16 @@ cut_before {old} {new} {x} {front} {rest} h y = record {
 pub Appends-from : {E : Type 0} (old new : Buffer) (text : List ℕ) (r : Result (Unit {0}) E) → OnOk r (new.bytes ≡ old.bytes ++ text) → OnErr r (new.bytes ≡ old.bytes)
     → (length text ≤ old.spare → IsOk r) → old.spare ≤ new.spare + length text → Appends old new text r
 Appends-from old new text (Ok u) ok err roomy spare = record { at_end = ok; spare = spare }
-Appends-from old new text (Err e) ok err roomy spare =
-    ([], text, record {
-      full = ⊎_elim (λ less. less) (λ enough. absurd (true≢false (sym (roomy enough)))) (cases_lt old.spare (length text));
-      cut = refl;
-      at_end = err ∙ sym (append-nil old.bytes);
-      spare = spare;
-    })
+Appends-from old new text (Err e) ok err roomy spare = (
+  [],
+  text,
+  record {
+    full = ⊎_elim (λ less. less) (λ enough. absurd (true≢false (sym (roomy enough)))) (cases_lt old.spare (length text));
+    cut = refl;
+    at_end = err ∙ sym (append-nil old.bytes);
+    spare = spare;
+  },
+)
 
 -- the last of two, as its result is returned
 pub Appends-after : {E : Type 0} {old mid : Buffer} (new : Buffer) {x : List ℕ} (y : List ℕ) (r : Result (Unit {0}) E) → IsAppended old mid x → Appends mid new y r → Appends old new (x ++ y) r
@@ -79,17 +82,17 @@ pub spelled_properties-split : (properties : List Attribute) (n : ℕ) → 0 < l
 spelled_properties-split [] n l = absurd (omega arith)
 spelled_properties-split (a ∷ others) n l =
     rw add-one (spelled_properties-first a others
-      ∙ ap (λ s. spelled_property a ++ s) (ap spelled_others (sym (take-append-drop n others)) ∙ flat_map-append (λ (x : Attribute). comma ∷ spelled_property x) (take n others) (drop n others))
-      ∙ sym (append_assoc (spelled_property a) (spelled_others (take n others)) (spelled_others (drop n others)))
-      ∙ ap (λ s. s ++ spelled_others (drop n others)) (sym (spelled_properties-first a (take n others))))
+    ∙ ap (λ s. spelled_property a ++ s) (ap spelled_others (sym (take-append-drop n others)) ∙ flat_map-append (λ (x : Attribute). comma ∷ spelled_property x) (take n others) (drop n others))
+    ∙ sym (append_assoc (spelled_property a) (spelled_others (take n others)) (spelled_others (drop n others)))
+    ∙ ap (λ s. s ++ spelled_others (drop n others)) (sym (spelled_properties-first a (take n others))))
 
 others_more : (a : Attribute) (others : List Attribute) (n : ℕ) (d : Attribute) → n < length others
     → spelled_properties (heading_of (a ∷ take (n + 1) others)) ≡ spelled_properties (heading_of (a ∷ take n others)) ++ (comma ∷ spelled_property (get_or others n d))
 others_more a others n d l =
     spelled_properties-first a (take (n + 1) others)
     ∙ ap (λ s. spelled_property a ++ s) (ap spelled_others (take_more others n d l)
-      ∙ flat_map-append (λ (x : Attribute). comma ∷ spelled_property x) (take n others) (get_or others n d ∷ [])
-      ∙ ap (λ s. spelled_others (take n others) ++ s) (append-nil (comma ∷ spelled_property (get_or others n d))))
+    ∙ flat_map-append (λ (x : Attribute). comma ∷ spelled_property x) (take n others) (get_or others n d ∷ [])
+    ∙ ap (λ s. spelled_others (take n others) ++ s) (append-nil (comma ∷ spelled_property (get_or others n d))))
     ∙ sym (append_assoc (spelled_property a) (spelled_others (take n others)) (comma ∷ spelled_property (get_or others n d)))
     ∙ ap (λ s. s ++ (comma ∷ spelled_property (get_or others n d))) (sym (spelled_properties-first a (take n others)))
 
@@ -126,7 +129,7 @@ next_of lent properties n property e l h =
 
 module _ (properties : List Attribute) (n : ℕ) (property : Attribute) (next : IsNext properties n property) where
   whole_is : spelled_properties (heading_of properties)
-    ≡ spelled_properties (heading_of (take (n + 1) properties)) ++ (comma ∷ (spelled_property property ++ spelled_others (drop (n + 1 + 1) properties)))
+      ≡ spelled_properties (heading_of (take (n + 1) properties)) ++ (comma ∷ (spelled_property property ++ spelled_others (drop (n + 1 + 1) properties)))
   whole_is =
       spelled_properties-split properties n (omega (arith, next.within))
       ∙ ap (λ r. spelled_properties (heading_of (take (n + 1) properties)) ++ spelled_others r) (drop_more properties (n + 1) property next.within)
@@ -137,7 +140,7 @@ module _ (properties : List Attribute) (n : ℕ) (property : Attribute) (next : 
   printed_more {old} {mid} {then} {new} h k j =
       let P : List ℕ → Type 0 = λ s. IsAppended old new s in
       subst P (ap (λ a. spelled_properties (heading_of (take (n + 1) properties)) ++ (comma ∷ spelled_property a)) next.at ∙ sym (spelled_properties-more properties n property next.within))
-        (append_both h (append_both k j))
+      (append_both h (append_both k j))
 
   pub cut_at_comma : {old mid new : Buffer} → IsAppended old mid (spelled_properties (heading_of (take (n + 1) properties))) → Cut mid new (comma ∷ [])
       → Cut old new (spelled_properties (heading_of properties))

@@ -33,7 +33,7 @@ print_properties-returns-in_err-print_property t c =
     let P : List ℕ → Type 0 = λ whole. Cut c.args.out.now c.print_property.new.out whole in
     let first = ap spelled_property (c.index-props-0.is ∙ ap (λ xs. get_or xs 0 c.index-props-0.result) c.as_slice-props.ensures.value) in
     rw (p.1) (subst P (ap (λ s. s ++ spelled_others (drop 1 c.args.schema.now)) first ∙ sym (spelled_first c.args.schema.now c.index-props-0.result c.as_slice-props.ensures.whole.limits.some))
-      (cut_first (spelled_others (drop 1 c.args.schema.now)) c.in_err-print_property.ensures))
+    (cut_first (spelled_others (drop 1 c.args.schema.now)) c.in_err-print_property.ensures))
 
 pub print_properties-returns-in_err-append : goal.print_properties-returns-in_err-append
 print_properties-returns-in_err-append t c =
@@ -64,10 +64,10 @@ print_property-returns-in_err-append t c =
     let p = err_from_is_err_and c.from_residual.result c.from_residual.ensures.1 in
     let P : List ℕ → Type 0 = λ whole. Cut c.args.out.now c.append.new.out whole in
     rw (p.1) (subst P (ap (λ w. w ++ spelled_domain (domain_of c.prop.inside.kind)) c.as_str.ensures.value ∙ ap spelled_property c.prop.view_is)
-      (cut_first (spelled_domain (domain_of c.prop.inside.kind)) c.in_err-append.ensures))
+    (cut_first (spelled_domain (domain_of c.prop.inside.kind)) c.in_err-append.ensures))
 
 pub print_property-returns : goal.print_property-returns
 print_property-returns t c =
     let P : List ℕ → Type 0 = λ whole. Appends c.args.out.now c.print_kind.new.out whole c.print_kind.result in
     subst P (ap (λ w. w ++ spelled_domain (domain_of c.prop.inside.kind)) c.as_str.ensures.value ∙ ap spelled_property c.prop.view_is)
-      (Appends-after c.print_kind.new.out (spelled_domain (domain_of c.prop.inside.kind)) c.print_kind.result c.in_ok-append.ensures c.print_kind.ensures)
+    (Appends-after c.print_kind.new.out (spelled_domain (domain_of c.prop.inside.kind)) c.print_kind.result c.in_ok-append.ensures c.print_kind.ensures)
