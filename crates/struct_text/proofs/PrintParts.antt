@@ -14,9 +14,6 @@ use Rattle.struct_text.specs.Bytes.{comma}
 use Rattle.struct_text.specs.Spelling.{spelled_domain, spelled_properties}
 use Rattle.struct_text.specs.Printing.{IsAppended, IsCutOff, Appends, spelled_property, spelled_others}
 
-pub append_nothing : (b : Buffer) → IsAppended b b []
-append_nothing b = record { at_end = sym (append-nil b.bytes); spare = omega arith }
-
 pub append_both : {old mid new : Buffer} {x y : List ℕ} → IsAppended old mid x → IsAppended mid new y → IsAppended old new (x ++ y)
 append_both {old} {mid} {new} {x} {y} h k = record {
   at_end = k.at_end ∙ ap (λ b. b ++ y) h.at_end ∙ append_assoc old.bytes x y;

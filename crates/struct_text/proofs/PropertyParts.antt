@@ -160,21 +160,6 @@ other_names properties a fresh k d l e = fresh (k, omega (arith, l, length-map p
     name_at_place (x ∷ properties) (suc k) a d l = name_at_place properties k a d (omega arith)
 
 module _ (bytes : List ℕ) (start depth : ℕ) where
-  pub read_nothing : start ≤ length bytes → depth ≤ max_depth → IsReadTo bytes start depth [] start
-  read_nothing l m = record {
-    within = l;
-    forward = omega arith;
-    spelled = refl;
-    reaches = λ outer d. refl;
-    few = omega arith;
-    distinct = λ i j d p q. absurd (omega (arith, p, q));
-    shallow = omega (arith, m);
-  }
-
-  pub read_refused : (properties : List Attribute) (at : ℕ) (e : StructError) → IsReadTo bytes start depth properties at → RefusesProperty bytes at depth properties e → RefusesProperty bytes start depth [] e
-  read_refused properties at e r (inl h) = inl h
-  read_refused properties at e r (inr h) = inr (λ outer d. r.reaches outer d ∙ h outer d)
-
   module _ (old new : List Attribute) (a : Attribute) (at end : ℕ) (r : IsReadTo bytes start depth old at) (h : AddsProperty bytes at depth old new a end) where
     reaches_end : (outer : Brackets) → length outer + 1 ≡ depth → first_flaw (name_start ([] ∷ outer)) start (drop start bytes) ≡ first_flaw (after (names_of new ∷ outer)) end (drop end bytes)
     reaches_end outer d = r.reaches outer d ∙ h.reaches outer d

@@ -6,7 +6,7 @@ use Rattle.mk_value.specs.Kinds.{domain_of}
 use Rattle.mk_value.specs.Heading.{Attribute, names_of, IsHeading}
 use Rattle.struct_text.specs.Offences.{name_at}
 use Rattle.struct_text.specs.Reading.{HasByte, IsNameAt, AddsProperty, RefusesName, RefusesKind, RefusesProperty, IsKindAt, ArePropertiesAt}
-use Rattle.struct_text.proofs.PropertyParts.{kind_by_letter, kind_by_brackets, kind_refused_letter, kind_missing, kind_too_deep, kind_refused_inside, name_ended, name_within, property_found, property_refused_name, property_refused_kind, read_nothing, read_refused, read_more, limits_kept, read_all, read_stops}
+use Rattle.struct_text.proofs.PropertyParts.{kind_by_letter, kind_by_brackets, kind_refused_letter, kind_missing, kind_too_deep, kind_refused_inside, name_ended, name_within, property_found, property_refused_name, property_refused_kind, read_more, limits_kept, read_all, read_stops}
 use Rattle.struct_text.proofs.reading.+properties.Goals as goal
 
 -- the properties that were lent are those before
