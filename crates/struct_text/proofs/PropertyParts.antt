@@ -1,19 +1,18 @@
 -- One property, and a list of them: what they spell, and how the walk goes over them.
-use Rattle.std.proofs.Common.{◌≡◌, ◌≢◌, ◌⊎◌, ℕ, zero, suc, ◌+◌, ◌-◌, ◌<◌, ◌≤◌, max, Bool, true, false, cond, ◌==◌, List, [], ◌∷◌, ◌++◌, length, take, drop, map, refl, sym, ◌∙◌, ap, subst, inl, inr, ⊎_elim, arith, Some, None, get_or, Contains, AllPairs, append_assoc, append-nil, eq-eqb, length-drop, drop-drop}
-use Rattle.std.specs.List.{flat_map}
+use Rattle.std.proofs.Common.{◌≡◌, ◌≢◌, ℕ, zero, suc, ◌+◌, ◌<◌, ◌≤◌, max, List, [], ◌∷◌, ◌++◌, length, drop, refl, sym, ◌∙◌, ap, subst, inl, inr, ⊎_elim, arith, get_or, Contains, AllPairs, append_assoc, eq-eqb, length-drop, drop-drop}
 use Rattle.std.proofs.lemmas.Bool.{cases_Bool, ne_eqb}
 use Rattle.std.proofs.lemmas.List.{map-append, length-map, flat_map_more, length_push}
 use Rattle.std.proofs.lemmas.List.Quantifiers.{all_pairs_push}
 use Rattle.mk_value.specs.Limits.{max_properties, max_depth}
 use Rattle.mk_value.specs.Names.{is_name_byte}
-use Rattle.mk_value.specs.Heading.{Domain, relation, Heading, no_attributes, attribute, Attribute, names_of, heading_of, domain_depth, heading_depth, depth_of, IsDomain, IsWithinLimits, IsHeading}
+use Rattle.mk_value.specs.Heading.{Domain, relation, Attribute, names_of, heading_of, domain_depth, heading_depth, IsWithinLimits, IsHeading}
 use Rattle.mk_value.proofs.Headings.{IsDomain-relation}
 use Rattle.struct_text.specs.Bytes.{open_bracket, close_bracket, colon, comma}
 use Rattle.struct_text.specs.Spelling.{spelled_domain, spelled_properties}
 use Rattle.struct_text.specs.declared.error.StructError.{StructError}
-use Rattle.struct_text.specs.declared.error.StructError.TheVariants.{Syntax, TooDeep, Memory}
+use Rattle.struct_text.specs.declared.error.StructError.TheVariants.{Syntax, TooDeep}
 use Rattle.struct_text.specs.Offences.{name_at}
-use Rattle.struct_text.specs.Walk.{Brackets, name_start, in_name, kind, after, named}
+use Rattle.struct_text.specs.Walk.{Brackets, name_start, in_name, after}
 use Rattle.struct_text.specs.Flaws.{first_flaw}
 use Rattle.struct_text.specs.Reading.{HasByte, IsNameAt, RefusesName, IsLetterAt, RefusesLetter, IsKindAt, RefusesKind, AddsProperty, RefusesProperty, spelled_list, IsReadTo, ArePropertiesAt}
 use Rattle.struct_text.proofs.Moves.{here, run, run-yes, run-no, over_name, over_colon, over_open, too_deep, no_kind, over_comma, over_close, no_more}
@@ -31,9 +30,9 @@ module _ (bytes : List ℕ) (at depth : ℕ) where
         within = omega (arith, h.within);
         spelled = e ∙ h.spelled ∙ ap (λ n. spelled_domain domain ++ drop n bytes) two;
         reaches = λ name names outer _. ap (first_flaw (in_name name (names ∷ outer)) at) e
-          ∙ over_colon name names outer at (drop (at + 1) bytes)
-          ∙ h.reaches ((names ++ name ∷ []) ∷ outer)
-          ∙ ap (λ n. first_flaw (after ((names ++ name ∷ []) ∷ outer)) n (drop n bytes)) two;
+            ∙ over_colon name names outer at (drop (at + 1) bytes)
+            ∙ h.reaches ((names ++ name ∷ []) ∷ outer)
+            ∙ ap (λ n. first_flaw (after ((names ++ name ∷ []) ∷ outer)) n (drop n bytes)) two;
         whole = h.whole;
         shallow = omega (arith, h.flat, l);
       }
@@ -46,8 +45,8 @@ module _ (bytes : List ℕ) (at depth : ℕ) where
         within = h.within;
         spelled = e ∙ ap (λ r. open_bracket ∷ r) (h.spelled ∙ sym (append_assoc (spelled_properties (heading_of properties)) (close_bracket ∷ []) (drop end bytes)));
         reaches = λ name names outer d. ap (first_flaw (in_name name (names ∷ outer)) at) e
-          ∙ over_open name (names ∷ outer) at (drop (at + 1) bytes) (ne_eqb (length (names ∷ outer)) max_depth (λ q. l (omega (arith, q, d))))
-          ∙ h.reaches ((names ++ name ∷ []) ∷ outer) (omega (arith, d));
+            ∙ over_open name (names ∷ outer) at (drop (at + 1) bytes) (ne_eqb (length (names ∷ outer)) max_depth (λ q. l (omega (arith, q, d))))
+            ∙ h.reaches ((names ++ name ∷ []) ∷ outer) (omega (arith, d));
         whole = IsDomain-relation properties h.whole;
         shallow = omega (arith, h.shallow);
       }
@@ -60,13 +59,13 @@ module _ (bytes : List ℕ) (at depth : ℕ) where
 
   pub kind_too_deep : HasByte bytes at open_bracket → depth ≡ max_depth → RefusesKind bytes at depth (TooDeep at)
   kind_too_deep e l = inr (λ name names outer d. ap (first_flaw (in_name name (names ∷ outer)) at) e
-    ∙ too_deep name (names ∷ outer) at (drop (at + 1) bytes) (eq-eqb (length (names ∷ outer)) max_depth (omega (arith, d, l))))
+      ∙ too_deep name (names ∷ outer) at (drop (at + 1) bytes) (eq-eqb (length (names ∷ outer)) max_depth (omega (arith, d, l))))
 
   pub kind_refused_inside : (e : StructError) → HasByte bytes at open_bracket → (depth ≡ max_depth → ⊥) → RefusesProperty bytes (at + 1) (depth + 1) [] e → RefusesKind bytes at depth e
   kind_refused_inside e b l (inl h) = inl h
   kind_refused_inside e b l (inr h) = inr (λ name names outer d. ap (first_flaw (in_name name (names ∷ outer)) at) b
-    ∙ over_open name (names ∷ outer) at (drop (at + 1) bytes) (ne_eqb (length (names ∷ outer)) max_depth (λ q. l (omega (arith, q, d))))
-    ∙ h ((names ++ name ∷ []) ∷ outer) (omega (arith, d)))
+      ∙ over_open name (names ∷ outer) at (drop (at + 1) bytes) (ne_eqb (length (names ∷ outer)) max_depth (λ q. l (omega (arith, q, d))))
+      ∙ h ((names ++ name ∷ []) ∷ outer) (omega (arith, d)))
 
 -- A run is what stands before the rest, and no other run follows.
 run_and_rest : (rest : List ℕ) → run rest ++ drop (length (run rest)) rest ≡ rest
@@ -122,7 +121,7 @@ module _ (bytes : List ℕ) (at depth : ℕ) (old : List Attribute) where
     within = k.within;
     spelled = name_spelled bytes at (names_of old) a.name h ∙ ap (λ r. a.name ++ r) k.spelled;
     reaches = λ outer d. name_reaches bytes at (names_of old) a.name h outer ∙ k.reaches a.name (names_of old) outer d
-      ∙ ap (λ ns. first_flaw (after (ns ∷ outer)) end (drop end bytes)) (sym (ap names_of e ∙ names_of-push old a));
+        ∙ ap (λ ns. first_flaw (after (ns ∷ outer)) end (drop end bytes)) (sym (ap names_of e ∙ names_of-push old a));
     few = subst (λ (n : ℕ). n < max_properties) (length-map old (λ (x : Attribute). x.name)) h.few;
     fresh = h.fresh;
     shallow = k.shallow;
@@ -160,21 +159,6 @@ other_names properties a fresh k d l e = fresh (k, omega (arith, l, length-map p
     name_at_place (x ∷ properties) (suc k) a d l = name_at_place properties k a d (omega arith)
 
 module _ (bytes : List ℕ) (start depth : ℕ) where
-  pub read_nothing : start ≤ length bytes → depth ≤ max_depth → IsReadTo bytes start depth [] start
-  read_nothing l m = record {
-    within = l;
-    forward = omega arith;
-    spelled = refl;
-    reaches = λ outer d. refl;
-    few = omega arith;
-    distinct = λ i j d p q. absurd (omega (arith, p, q));
-    shallow = omega (arith, m);
-  }
-
-  pub read_refused : (properties : List Attribute) (at : ℕ) (e : StructError) → IsReadTo bytes start depth properties at → RefusesProperty bytes at depth properties e → RefusesProperty bytes start depth [] e
-  read_refused properties at e r (inl h) = inl h
-  read_refused properties at e r (inr h) = inr (λ outer d. r.reaches outer d ∙ h outer d)
-
   module _ (old new : List Attribute) (a : Attribute) (at end : ℕ) (r : IsReadTo bytes start depth old at) (h : AddsProperty bytes at depth old new a end) where
     reaches_end : (outer : Brackets) → length outer + 1 ≡ depth → first_flaw (name_start ([] ∷ outer)) start (drop start bytes) ≡ first_flaw (after (names_of new ∷ outer)) end (drop end bytes)
     reaches_end outer d = r.reaches outer d ∙ h.reaches outer d
@@ -193,8 +177,8 @@ module _ (bytes : List ℕ) (start depth : ℕ) where
       within = omega (arith, l);
       forward = omega (arith, r.forward, h.forward);
       spelled = r.spelled ∙ ap (λ s. spelled_list old ++ s) (h.spelled ∙ ap (λ s. a.name ++ (spelled_domain a.domain ++ s)) e)
-        ∙ regroup
-        ∙ ap (λ s. s ++ drop (end + 1) bytes) (sym (ap spelled_list h.added ∙ spelled_list-push old a));
+          ∙ regroup
+          ∙ ap (λ s. s ++ drop (end + 1) bytes) (sym (ap spelled_list h.added ∙ spelled_list-push old a));
       reaches = λ outer d. reaches_end outer d ∙ ap (first_flaw (after (names_of new ∷ outer)) end) e ∙ over_comma (names_of new) outer end (drop (end + 1) bytes);
       few = few_now;
       distinct = distinct_now;
@@ -217,8 +201,8 @@ module _ (bytes : List ℕ) (start depth : ℕ) where
       forward = omega (arith, r.forward, h.forward);
       within = omega (arith, l);
       spelled = r.spelled ∙ ap (λ s. spelled_list old ++ s) (h.spelled ∙ ap (λ s. a.name ++ (spelled_domain a.domain ++ s)) e)
-        ∙ regroup
-        ∙ ap (λ s. s ++ (close_bracket ∷ drop (end + 1) bytes)) (sym (ap (λ p. spelled_properties (heading_of p)) h.added ∙ spelled_properties-push old a));
+          ∙ regroup
+          ∙ ap (λ s. s ++ (close_bracket ∷ drop (end + 1) bytes)) (sym (ap (λ p. spelled_properties (heading_of p)) h.added ∙ spelled_properties-push old a));
       reaches = λ outer d. reaches_end outer d ∙ ap (first_flaw (after (names_of new ∷ outer)) end) e ∙ over_close (names_of new) outer end (drop (end + 1) bytes);
       whole = w;
       shallow = shallow_now;

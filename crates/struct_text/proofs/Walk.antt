@@ -1,7 +1,7 @@
 -- The walk over loose texts, and its steps one by one.
-use Rattle.std.proofs.Common.{◌≡◌, ◌≢◌, ◌⊎◌, ℕ, ◌+◌, Bool, true, false, cond, ◌||◌, ◌==◌, List, [], ◌∷◌, ◌++◌, refl, sym, ◌∙◌, ap, inl, inr, append_assoc, append-nil, eqb-true, IsTrue, subst}
+use Rattle.std.proofs.Common.{◌≡◌, ◌⊎◌, ℕ, Bool, true, false, cond, ◌==◌, List, [], ◌∷◌, ◌++◌, refl, sym, ◌∙◌, ap, inl, inr, append_assoc, append-nil, eqb-true, IsTrue, subst}
 use Rattle.std.specs.List.{list_all}
-use Rattle.std.proofs.lemmas.Bool.{and_parts, or_left, or_right, or_cases}
+use Rattle.std.proofs.lemmas.Bool.{and_parts, or_left, or_right}
 use Rattle.mk_value.specs.Names.{is_name_byte}
 use Rattle.struct_text.specs.Bytes.{open_bracket, close_bracket, colon, comma, is_name_start, is_plain_letter, is_floating_letter}
 pub use Rattle.struct_text.specs.Walk.{Brackets, State, name_start, in_name, kind, after, stuck, named, behind_colon, is_letter, step, walk, start}
@@ -106,10 +106,10 @@ mutual
   walk-bracketed (joined names front name bytes listed word loose) outer =
       walk-append (name_start ([] ∷ outer)) (front ++ (name ++ bytes)) (close_bracket ∷ [])
       ∙ ap (λ s. step s close_bracket) (walk-append (name_start ([] ∷ outer)) front (name ++ bytes)
-        ∙ ap (λ s. walk s (name ++ bytes)) (walk-listed listed [] outer)
-        ∙ walk-append (name_start (names ∷ outer)) name bytes
-        ∙ ap (λ s. walk s bytes) (walk-word name (names ∷ outer) word)
-        ∙ walk-kind loose name names outer)
+      ∙ ap (λ s. walk s (name ++ bytes)) (walk-listed listed [] outer)
+      ∙ walk-append (name_start (names ∷ outer)) name bytes
+      ∙ ap (λ s. walk s bytes) (walk-word name (names ∷ outer) word)
+      ∙ walk-kind loose name names outer)
 
   pub walk-listed : {names : List (List ℕ)} {bytes : List ℕ} → AreListed names bytes → (before : List (List ℕ)) (outer : Brackets)
       → walk (name_start (before ∷ outer)) bytes ≡ name_start ((before ++ names) ∷ outer)
