@@ -49,15 +49,18 @@ pub record IsTorn (place n : ℕ) (old new : List ℕ) : Type 0 where
   pub no_shorter : length old ≤ length new
   pub no_longer : length new ≤ max (length old) (place + n)
 
--- A write. What it wrote is pending until the next sync, also where it failed.
-pub record Writes {T E : Type 0} (place : ℕ) (bytes : List ℕ) (old new : Outside) (result : Result T E) : Type 0 where
-  pub ok : OnOk result (new.now.disk.seen ≡ put_bytes old.now.disk.seen place bytes)
-  pub err : OnErr result (IsTorn place (length bytes) old.now.disk.seen new.now.disk.seen)
+-- A write of n bytes began, so a moment came: its range is pending until the next sync.
+pub record WritesAt (place n : ℕ) (old new : Outside) : Type 0 where
   pub synced : new.now.disk.synced ≡ old.now.disk.synced
-  pub pending : new.now.disk.pending ≡ (record { start = place; count = length bytes }) ∷ old.now.disk.pending
-  pub longest : new.now.disk.longest ≡ max old.now.disk.longest (place + length bytes)
+  pub pending : new.now.disk.pending ≡ (record { start = place; count = n }) ∷ old.now.disk.pending
+  pub longest : new.now.disk.longest ≡ max old.now.disk.longest (place + n)
   pub said : new.now.said ≡ old.now.said
   pub past : new.past ≡ old.now ∷ old.past
+
+-- A write. One that fails was cut short, or it was refused before it began.
+pub record Writes {T E : Type 0} (place : ℕ) (bytes : List ℕ) (old new : Outside) (result : Result T E) : Type 0 where
+  pub ok : OnOk result ((new.now.disk.seen ≡ put_bytes old.now.disk.seen place bytes) × WritesAt place (length bytes) old new)
+  pub err : OnErr result ((IsTorn place (length bytes) old.now.disk.seen new.now.disk.seen × WritesAt place (length bytes) old new) ⊎ StandsStill old new)
   pub input : new.input ≡ old.input
 
 -- A sync. One that fails leaves all that was pending.

@@ -1,3 +1,5 @@
 pub mod Disk
 pub mod Outside
 pub mod Calls
+pub mod Memory
+pub mod Log

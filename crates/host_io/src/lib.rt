@@ -7,6 +7,13 @@
 //! failed.
 #![tactic(auto)]
 
+mod entry;
+mod fault;
+mod file;
+mod log;
+mod memory_host;
 mod traits;
 
+pub use fault::{Effect, Fault};
+pub use memory_host::MemHost;
 pub use traits::{Disk, Failed, Host};

@@ -27,11 +27,12 @@ pub trait Disk {
         ensures counts { CountsDisk (outside self.old) (outside self.new) result }
         ensures same { tells → Looks (outside self.old) (outside self.new) };
 
-    /// The file's length in bytes.
+    /// The file's length in bytes, which is at most 2^63 - 1.
     fn len(&mut self) -> Result<u64, Failed>
         ensures counts { CountsDisk (outside self.old) (outside self.new) result }
         ensures same { tells → Looks (outside self.old) (outside self.new) }
-        ensures length { tells → IfOk result (λ n. n ≡ length (outside self.old).now.disk.seen) };
+        ensures length { tells → IfOk result (λ n. n ≡ length (outside self.old).now.disk.seen) }
+        ensures bound { IfOk result (λ n. n < 2 ^ 63) };
 
     /// Fills `into` with the bytes from `at` on. After a failure it may hold any bytes.
     fn read_at(&mut self, at: u64, into: &mut [u8]) -> Result<(), Failed>
@@ -41,13 +42,14 @@ pub trait Disk {
         ensures bytes { tells → OnOk result (into.new ≡ take (length into.old) (drop at (outside self.old).now.disk.seen)) };
 
     /// Writes the bytes at `at`, within the file or at its end. A write that fails may have written any bytes in its
-    /// range.
+    /// range, or was refused before it began. One that would end past 2^63 - 1 fails.
     fn write_at(&mut self, at: u64, from: &[u8]) -> Result<(), Failed>
         requires short { length from.now ≤ MAX_WRITE }
         requires ends { at + length from.now < 2 ^ 64 }
         requires within { tells → at ≤ length (outside self.old).now.disk.seen }
         ensures counts { CountsDisk (outside self.old) (outside self.new) result }
-        ensures writes { tells → Writes at from.now (outside self.old) (outside self.new) result };
+        ensures writes { tells → Writes at from.now (outside self.old) (outside self.new) result }
+        ensures bound { OnOk result (at + length from.now < 2 ^ 63) };
 
     /// Makes all that was written outlast a crash. After a failure it is as pending as before.
     fn sync(&mut self) -> Result<(), Failed>

@@ -15,7 +15,7 @@ use Rattle.lines.specs.Served.{state_of, Serves}
 use Rattle.lines.specs.Steps.{IsTurning, AnswersLine, SoFar}
 use Rattle.lines.proofs.Splitting.{Splits-empty, Splits-span, Splits-newline, Splits-ended, some_split, take_more_held}
 use Rattle.lines.proofs.Turns.{Run-push, Run-later, HasEnded-push, goes_on-push, replies-push, world_after, world_after-run}
-use Rattle.lines.proofs.Moments.{Goes-weaker, Left-added, LeftNow, Left-first}
+use Rattle.host_io.proofs.Moments.{Left-goes, LeftBy, only_now}
 use Rattle.lines.proofs.Standing.{MayStand-before, MayStand-within}
 
 -- a run that begins
@@ -33,8 +33,8 @@ SoFar-start machine start begin ready = record {
   answered = refl;
   goes_on = λ ended. ended;
   spoke = sym (append-nil begin.now.said);
-  most = λ image n left. let first = (Left-first begin image n left).1 in omega arith;
-  crash = λ image n left. ready.allowed image (Left-first begin image n left).0;
+  most = λ image n left. let first = (only_now begin image n left).1 in omega arith;
+  crash = λ image n left. ready.allowed image (only_now begin image n left).0;
 }
 
 -- bytes are taken
@@ -106,18 +106,18 @@ turned {W} machine start begin world after old new room ahead count result so an
       most = λ whole image n left.
         let said = ap length answer.spoke ∙ length-append old.now.said (take answer.part turn.reply) in
         let all = length-take answer.part turn.reply in
-        elim (Left-added (IsTurning machine world turn old.now) (moment begin) old new image n answer.moments left) [
-          inl now ↦ let here = now.here.said in let short = now.here.within in let is = now.said in omega arith
-        | inr past ↦ let before = so.most image n past in omega arith
+        elim (Left-goes (moment begin) image n answer.moments left) [
+          inl past ↦ let before = so.most image n past in omega arith
+        | inr now ↦ let here = now.holds.said in let short = now.holds.within in let is = now.said in omega arith
         ];
-      crash = λ image n left. elim (Left-added (IsTurning machine world turn old.now) (moment begin) old new image n answer.moments left) [
-          inl now ↦
-            let here = now.here.said in let is = now.said in
-            let place : length (replies so.turns) + now.here.part ≡ n - length begin.now.said = omega arith in
-            subst (N image) place (MayStand-within machine start so.turns turn now.here.part image (subst (M image now.here.part) (sym world_is) (now.here.images image now.image_of)))
-        | inr past ↦
+      crash = λ image n left. elim (Left-goes (moment begin) image n answer.moments left) [
+          inl past ↦
             let short = so.most image n past in
             MayStand-before machine start so.turns turn (n - length begin.now.said) image (subst (B image) (sym world_is) (answer.before image)) (omega arith) (so.crash image n past)
+        | inr now ↦
+            let here = now.holds.said in let is = now.said in
+            let place : length (replies so.turns) + now.holds.part ≡ n - length begin.now.said = omega arith in
+            subst (N image) place (MayStand-within machine start so.turns turn now.holds.part image (subst (M image now.holds.part) (sym world_is) (now.holds.images image now.is_image)))
         ];
     }
 

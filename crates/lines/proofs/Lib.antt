@@ -1,6 +1,5 @@
 pub mod Splitting
 pub mod Turns
-pub mod Moments
 pub mod Uttering
 pub mod OneLine
 pub mod Going

@@ -4,7 +4,7 @@ use Rattle.std.proofs.lemmas.List.{take_all, length-take-le}
 use Rattle.std.proofs.lemmas.Bool.{cases_lt, false≢true}
 use Rattle.std.proofs.lemmas.Result.{IfOk-weaker}
 use Rattle.host_io.specs.Disk.{DiskState, IsImage}
-use Rattle.host_io.specs.Outside.{Moment, Outside, Goes}
+use Rattle.host_io.specs.Outside.{Moment, Outside, moments, Each, Goes}
 use Rattle.lines.specs.declared.session.Flow.{Flow}
 use Rattle.lines.specs.declared.session.Flow.TheVariants.{Goes as GoesOn, Ends}
 use Rattle.lines.specs.Lines.{max_line, IsTooLong}
@@ -13,7 +13,7 @@ use Rattle.lines.specs.Crash.{MayStand, IsReady, IsWithin, KeepsImages}
 use Rattle.lines.specs.Served.{state_of}
 use Rattle.lines.specs.Spoken.{IsSaying, SaysAll}
 use Rattle.lines.specs.Steps.{IsTurning, AnswersLine}
-use Rattle.lines.proofs.Moments.{Goes-nowhere, Goes-join, Goes-weaker, Goes-now}
+use Rattle.host_io.proofs.Moments.{begins, joins, weaker}
 
 -- a room that is not full holds the whole line
 pub whole_line : (held line : List ℕ) → held ≡ take (max_line + 1) line → length held ≤ max_line → held ≡ line
@@ -26,6 +26,17 @@ long_line held line is long =
     let sizes = ap length is ∙ length-take (max_line + 1) line in
     omega arith
 
+heads : (xs ys : List Moment) (x y : Moment) → x ∷ xs ≡ y ∷ ys → x ≡ y
+heads xs ys x y is = cc
+
+by_added : (P : Moment → Type 0) (added : List Moment) (old new : Outside) → moments new ≡ added ++ moments old → Each P added → P old.now → P new.now
+by_added P [] old new follows each before = subst P (sym (heads new.past old.past new.now old.now follows)) before
+by_added P (at ∷ added) old new follows each before = subst P (sym (heads new.past (added ++ moments old) new.now at follows)) each.0
+
+-- what holds at the first moment and at each that came holds now
+Goes-now : (P : Moment → Type 0) (old new : Outside) → Goes P old new → P old.now → P new.now
+Goes-now P old new goes before = by_added P goes.added old new goes.follows goes.each before
+
 -- a line was answered, and nothing was said yet
 pub record Answered {W : Type 0} (machine : Machine W) (line reply : List ℕ) (world after : W) (old mid : Outside) : Type 0 where
   pub answers : Answers machine (state_of world old) line reply (state_of after mid)
@@ -36,17 +47,17 @@ pub record Answered {W : Type 0} (machine : Machine W) (line reply : List ℕ) (
   pub input : mid.input ≡ old.input
 
 -- what may stand where nothing of the reply has been said
-begins : {W : Type 0} (machine : Machine W) (line reply : List ℕ) (world : W) (after : State W) (image : List ℕ)
+stands_first : {W : Type 0} (machine : Machine W) (line reply : List ℕ) (world : W) (after : State W) (image : List ℕ)
     → (reply ≡ [] → KeepsImages machine world line after.world) → machine.allowed world image ⊎ machine.under_way world line image
     → MayStand machine world ((record { line = line; reply = reply; after = after }) ∷ []) 0 image
-begins machine line [] world after image quiet stands = inl (omega arith, quiet refl image stands)
-begins machine line (byte ∷ reply) world after image quiet stands = inr (omega arith, stands)
+stands_first machine line [] world after image quiet stands = inl (omega arith, quiet refl image stands)
+stands_first machine line (byte ∷ reply) world after image quiet stands = inr (omega arith, stands)
 
 -- what may stand where a front of the reply has been said
-goes_by : {W : Type 0} (machine : Machine W) (line reply : List ℕ) (world : W) (after : State W) (part : ℕ) (image : List ℕ)
+stands_later : {W : Type 0} (machine : Machine W) (line reply : List ℕ) (world : W) (after : State W) (part : ℕ) (image : List ℕ)
     → machine.allowed after.world image → machine.allowed world image ⊎ machine.under_way world line image
     → MayStand machine world ((record { line = line; reply = reply; after = after }) ∷ []) part image
-goes_by machine line reply world after part image next stands = elim (cases_lt part (length reply)) [
+stands_later machine line reply world after part image next stands = elim (cases_lt part (length reply)) [
       inl short ↦ inr (short, stands)
     | inr whole ↦ inl (whole, next)
     ]
@@ -70,7 +81,7 @@ turning {W} machine line reply world after old mid new result turn is ready answ
         part = 0;
         within = omega arith;
         said = let sizes = ap length within.silent in omega arith;
-        images = λ image here. begins machine line reply world (state_of after new) image answered.quiet (within.images image here);
+        images = λ image here. stands_first machine line reply world (state_of after new) image answered.quiet (within.images image here);
       } in
     let by_saying : (at : Moment) → IsSaying reply mid.now at → IsTurning machine world this old.now at =
       λ at saying. record {
@@ -83,12 +94,10 @@ turning {W} machine line reply world after old mid new result turn is ready answ
         images = λ image here.
           let P : DiskState → Type 0 = λ disk. IsImage disk image in
           let image_of = subst P saying.disk here in
-          goes_by machine line reply world (state_of after new) saying.part image (answered.ready.allowed image image_of) (now.images image image_of);
+          stands_later machine line reply world (state_of after new) saying.part image (answered.ready.allowed image image_of) (now.images image image_of);
       } in
     let Q : Turn W → Type 0 = λ t. Goes (IsTurning machine world t old.now) old new in
-    subst Q (sym is) (Goes-join (IsTurning machine world this old.now) old mid new
-      (Goes-weaker (IsWithin machine world line old.now.said) (IsTurning machine world this old.now) old mid by_answer answered.moments)
-      (Goes-weaker (IsSaying reply mid.now) (IsTurning machine world this old.now) mid new by_saying says.moments))
+    subst Q (sym is) (joins (weaker by_answer answered.moments) (weaker by_saying says.moments))
 
 -- the line is answered and its answer said, whole or in part
 pub answers_line : {W T E : Type 0} (machine : Machine W) (line reply : List ℕ) (world after : W) (old mid new : Outside) (result : Result T E) (outcome : Result Flow E)
@@ -110,7 +119,7 @@ answers_line {W} machine line reply world after old mid new result outcome ready
       err = err;
       input = says.input ∙ answered.input;
       moments = turning machine line reply world after old mid new result _ refl ready answered says;
-      before = λ image allowed. begins machine line reply world (state_of after new) image answered.quiet (inl allowed);
+      before = λ image allowed. stands_first machine line reply world (state_of after new) image answered.quiet (inl allowed);
     }
 
 -- a line that is too long
@@ -119,7 +128,7 @@ pub Answered-limit : {W : Type 0} (machine : Machine W) (line : List ℕ) (world
 Answered-limit machine line world outside long ready = record {
   answers = inl (long, refl, refl);
   ready = ready;
-  moments = Goes-nowhere (IsWithin machine world line outside.now.said) outside;
+  moments = begins outside;
   quiet = λ none. absurd (let sizes : 12 ≡ 0 = ap length none in omega arith);
   said = refl;
   input = refl;

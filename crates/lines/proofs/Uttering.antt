@@ -6,7 +6,7 @@ use Rattle.std.proofs.Math.Seq.{take-add}
 use Rattle.host_io.specs.Outside.{Outside, Moment, Goes}
 use Rattle.host_io.specs.Calls.{Rose, Counts, CountsSay, StandsStill, Says}
 use Rattle.lines.specs.Spoken.{IsSaying, SaysAll}
-use Rattle.lines.proofs.Moments.{Goes-nowhere, Goes-step, Goes-join, Goes-still}
+use Rattle.host_io.proofs.Moments.{begins, begins_still, steps, joins}
 
 -- a front of these bytes has been said
 pub record SaidFront (bytes : List ℕ) (part : ℕ) (old new : Outside) : Type 0 where
@@ -28,7 +28,7 @@ SaidFront-none bytes outside = record {
   spoke = sym (append-nil outside.now.said);
   disk = refl;
   input = refl;
-  moments = Goes-nowhere (IsSaying bytes outside.now) outside;
+  moments = begins outside;
 }
 
 pub CountsNone-none : (outside : Outside) → CountsNone outside outside
@@ -62,8 +62,8 @@ SaidFront-more bytes part n old mid new front short' says' =
       spoke = spoke;
       disk = disk;
       input = says.input ∙ front.input;
-      moments = Goes-join (IsSaying bytes old.now) old mid new front.moments
-        (Goes-step (IsSaying bytes old.now) mid new says.ok.2 (record { part = part + n; within = within; said = spoke; disk = disk }));
+      moments = joins front.moments
+        (steps says.ok.2 (record { part = part + n; within = within; said = spoke; disk = disk }));
     }
 
 -- all of it
@@ -92,7 +92,7 @@ SaysAll-cut bytes part old mid new error front short says = record {
   err = short;
   disk = ap (λ (at : Moment). at.disk) says.err.now ∙ front.disk;
   input = says.input ∙ front.input;
-  moments = Goes-join (IsSaying bytes old.now) old mid new front.moments (Goes-still (IsSaying bytes old.now) mid new says.err.now says.err.past);
+  moments = joins front.moments (begins_still says.err);
 }
 
 pub CountsSay-whole : {T E : Type 0} (old new : Outside) (value : T) → CountsNone old new → CountsSay {E = E} old new (Ok value)

@@ -27,7 +27,7 @@ returns-in_err-say_all-2-clause-answers g c =
       let says = c.in_err-say_all-2.ensures.says tells in
       answers_short g.S.Session.machine c.args.held.now line c.answer-flow.new.out.bytes _ _ _ _ _ _ _ _ is (omega arith) (c.requires.ready tells)
         (answer.answers tells) (answer.ready tells) (answer.moments tells) (answer.quiet tells) (answer.said tells) (answer.input tells)
-        (c.as_bytes.ensures.value ∙ c.as_str.ensures) says c.in_err-say_all-2.ensures.counts.disk tt says.err tt)
+        (c.as_bytes.ensures.value ∙ c.as_str.ensures.value) says c.in_err-say_all-2.ensures.counts.disk tt says.err tt)
 
 pub returns-clause-answers : goal.returns-clause-answers
 returns-clause-answers g c = λ tells line is.
@@ -35,4 +35,4 @@ returns-clause-answers g c = λ tells line is.
     let says = c.in_ok-say_all-2.ensures.says tells in
     answers_short g.S.Session.machine c.args.held.now line c.answer-flow.new.out.bytes _ _ _ _ _ _ _ _ is (omega arith) (c.requires.ready tells)
       (answer.answers tells) (answer.ready tells) (answer.moments tells) (answer.quiet tells) (answer.said tells) (answer.input tells)
-      (c.as_bytes.ensures.value ∙ c.as_str.ensures) says c.in_ok-say_all-2.ensures.counts.disk says.ok tt answer.ends
+      (c.as_bytes.ensures.value ∙ c.as_str.ensures.value) says c.in_ok-say_all-2.ensures.counts.disk says.ok tt answer.ends

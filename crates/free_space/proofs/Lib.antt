@@ -1,0 +1,5 @@
+pub mod EndLemmas
+pub mod ExtentLemmas
+pub mod OrderLemmas
+pub mod PlaceLemmas
+pub mod UsedLemmas

@@ -1,0 +1,72 @@
+-- The used spans of a free map: how they come to be laid out, and that they stay so.
+use Rattle.std.proofs.Common.{ℕ, ◌≡◌, ◌+◌, ◌<◌, ◌≤◌, List, ◌∷◌, length, get_or, refl, sym, ◌∙◌, inl, inr, arith, All, AllPairs, Contains, IsPermutation, Some, slice_get}
+use Rattle.std.specs.List.{AllAdjacentBelow, insert, remove}
+use Rattle.std.specs.List.Sorted.{IsNonDecreasingBy, IsPartitionPoint}
+use Rattle.std.proofs.lemmas.Bool.{cases_lt, cases_order}
+use Rattle.std.proofs.lemmas.List.{get_or_default}
+use Rattle.std.proofs.lemmas.List.Elements.{All-cons, All-tail}
+use Rattle.std.proofs.lemmas.List.Quantifiers.{all_pairs_remove}
+use Rattle.std.proofs.lemmas.List.Sorted.{All-permutation, IsPermutation-insert, IsPermutation-remove}
+use Rattle.std.proofs.lemmas.Option.{get_or_from_slice_get, slice_get_within}
+use Rattle.mk_value.specs.declared.span.Span.{Span}
+use Rattle.free_space.specs.Extents.{AreApart, AreInOrder, IsBlock, Meets, extent_end}
+use Rattle.free_space.specs.FreeSpace.{IsFree, IsLaidOut}
+use Rattle.free_space.specs.Overlaps.{AreFirstToMeet, place_of}
+use Rattle.free_space.proofs.ExtentLemmas.{apart_sym, end_before, place_below_end}
+use Rattle.free_space.proofs.OrderLemmas.{all_pairs_insert, apart_permutation, order_from_neighbors}
+
+-- each extent ends at or before the place of the later one
+Before : Span → Span → Type 0
+Before one later = extent_end one ≤ later.place
+
+-- blocks in order of place of which no two neighbors meet
+pub laid_out_from_neighbors : (spans : List Span) → All IsBlock spans → IsNonDecreasingBy place_of spans → AllAdjacentBelow (λ one later. ¬ Meets one later) spans (length spans) → IsLaidOut spans
+laid_out_from_neighbors spans blocks rising apart = record {
+  blocks = blocks;
+  in_order = order_from_neighbors spans (λ k d within. end_before (get_or spans k d) (get_or spans (k + 1) d) (blocks (k + 1) d (omega arith)).not_empty (rising k (k + 1) d (omega arith) (omega arith)) (apart k d within));
+}
+
+-- spans that are the first to meet do meet
+pub not_apart_from_meeting : (spans : List Span) (one other : Span) → AreFirstToMeet spans one other → ¬ AreApart spans
+not_apart_from_meeting spans one other is apart =
+    let ordered = is.ordered in
+    let at = is.neighbors.at in
+    let within : at + 1 < length ordered = slice_get_within ordered (at + 1) other is.neighbors.second in
+    let gap : ¬ Meets (get_or ordered at one) (get_or ordered (at + 1) one) = apart_permutation spans ordered is.by_place.permutation apart at (at + 1) one (omega arith) within in
+    let same : ¬ Meets one other = rw (get_or_from_slice_get ordered at one one is.neighbors.first, get_or_from_slice_get ordered (at + 1) other one is.neighbors.second) at gap in
+    same is.neighbors.meet
+
+-- a free block goes in at its place
+pub laid_out_insert : (used : List Span) (at : ℕ) (span : Span) → IsLaidOut used → IsBlock span → IsFree used span → at ≤ length used → IsPartitionPoint (λ other. other.place < span.place) (λ other. span.place ≤ other.place) used at → IsLaidOut (insert used at span)
+laid_out_insert used at span laid block free inside split = record {
+  blocks = All-permutation IsBlock (span ∷ used) (insert used at span) (IsPermutation-insert used at span) (All-cons IsBlock span used block laid.blocks);
+  in_order = all_pairs_insert (λ one later. extent_end one ≤ later.place) used at span inside laid.in_order
+    (λ k d below. let lower : (get_or used k d).place < span.place = split.0 k d (omega arith) below in end_before (get_or used k d) span block.not_empty (omega arith) (free k d (omega arith)))
+    (λ k d from within. end_before span (get_or used k d) (laid.blocks k d within).not_empty (split.1 k d from within) (apart_sym (get_or used k d) span (free k d within)));
+}
+
+pub laid_out_remove : (used : List Span) (at : ℕ) → IsLaidOut used → at < length used → IsLaidOut (remove used at)
+laid_out_remove used at laid within = record {
+  blocks = λ k d inside. All-tail IsBlock (get_or used at d) (remove used at) (All-permutation IsBlock used (get_or used at d ∷ remove used at) (IsPermutation-remove used at (get_or used at d) within (get_or_default used at d (get_or used at d) within)) laid.blocks) k d inside;
+  in_order = all_pairs_remove (λ one later. extent_end one ≤ later.place) used at within laid.in_order;
+}
+
+-- a used span stands where those of lower places end
+pub found_at_split : (used : List Span) (at : ℕ) (span : Span) → IsLaidOut used → Contains used span → IsPartitionPoint (λ other. other.place < span.place) (λ other. span.place ≤ other.place) used at → (at < length used) × (get_or used at span ≡ span)
+found_at_split used at span laid (k, within, is) split = elim (cases_order k at) [
+  | inl same ↦ rw (← same) (within, is)
+  | inr (inl below) ↦ let lower : (get_or used k span).place < span.place = split.0 k span (omega arith) below in let none : span.place < span.place = rw is at lower in absurd (omega arith)
+  | inr (inr above) ↦
+      let here : at < length used = omega arith in
+      let next : extent_end (get_or used at span) ≤ (get_or used k span).place = laid.in_order at k span above within in
+      let ends : extent_end (get_or used at span) ≤ span.place = rw is at next in
+      let from : span.place ≤ (get_or used at span).place = split.1 at span (omega arith) here in
+      absurd (omega (arith, place_below_end (get_or used at span) (laid.blocks at span here).not_empty))
+]
+
+-- the places of laid out spans rise
+pub rising_from_laid_out : (used : List Span) → IsLaidOut used → IsNonDecreasingBy place_of used
+rising_from_laid_out used laid = λ i j d upto within. elim (cases_lt i j) [
+  | inl before ↦ let next : extent_end (get_or used i d) ≤ (get_or used j d).place = laid.in_order i j d before within in omega arith
+  | inr at ↦ let here : i ≡ j = omega arith in rw here (omega arith)
+]
