@@ -1,9 +1,9 @@
 -- The lines of each command, whatever spaces stand between and around their words.
-use Rattle.std.proofs.Common.{◌≡◌, ℕ, zero, suc, ◌+◌, ◌-◌, Bool, true, false, cond, ◌&&◌, nat_eq, List, [], ◌∷◌, ◌++◌, length, reverse, replicate, codes, sym, refl, ap, ap₂, ◌∙◌, append-nil, arith, length-append, add-one}
+use Rattle.std.proofs.Common.{◌≡◌, ℕ, zero, suc, ◌+◌, ◌-◌, true, false, cond, List, [], ◌∷◌, ◌++◌, length, reverse, replicate, codes, sym, refl, ap, ap₂, ◌∙◌, append-nil, arith, length-append, add-one}
 use Rattle.std.specs.List.{list_all}
 use Rattle.std.specs.Str.{IsUtf8}
 use Rattle.std.proofs.lemmas.List.{reverse-append, reverse-reverse, length-replicate, replicate-append-replicate}
-use Rattle.session.specs.Line.{Reading, blank, leave, structure, unknown, space, is_space, without_leading, without_trailing, structure_behind, reading_of_rest, reading_of}
+use Rattle.session.specs.Line.{blank, leave, structure, unknown, space, is_space, without_leading, without_trailing, reading_of_rest, reading_of}
 use Rattle.session.proofs.ReadingLaws.{reading_of-text}
 
 abbrev pub spaces : ℕ → List ℕ
