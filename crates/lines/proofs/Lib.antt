@@ -5,4 +5,5 @@ pub mod OneLine
 pub mod Going
 pub mod OnePiece
 pub mod OneTake
+pub mod OneReading
 pub mod Standing

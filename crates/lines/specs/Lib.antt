@@ -2,5 +2,6 @@ pub mod Lines
 pub mod Machine
 pub mod Crash
 pub mod Served
+pub mod Rooms
 pub mod Spoken
 pub mod Steps

@@ -1,6 +1,5 @@
--- What the parts of the loop do to the outside, to the session and to the two rooms.
+-- What the parts of the loop do to the outside and to the session.
 use Rattle.std.specs.Prelude.{◌≡◌, ℕ, ◌+◌, ◌<◌, ◌≤◌, ◌↔◌, List, [], ◌∷◌, ◌++◌, length, take, Result, Ok, Err, IfOk, OnOk, OnErr}
-use Rattle.mk_value.specs.Buffer.{Buffer}
 use Rattle.host_io.specs.Disk.{IsImage}
 use Rattle.host_io.specs.Outside.{Moment, Outside, Left, moment, Goes}
 use Rattle.lines.specs.declared.session.Flow.{Flow}
@@ -11,16 +10,6 @@ use Rattle.lines.specs.Lines.{Splits, max_line}
 use Rattle.lines.specs.Machine.{Machine, Turn, Answers, IsLast, Run, replies, HasEnded}
 use Rattle.lines.specs.Crash.{MayStand, IsCrashSafe}
 use Rattle.lines.specs.Served.{state_of, Serves}
-
--- the line room: the front of a line that has not ended, cut where the line is too long, and room for the rest of it
-pub record HasLineRoom (room : Buffer) : Type 0 where
-  pub short : length room.bytes ≤ max_line + 1
-  pub spare : max_line + 1 ≤ room.spare + length room.bytes
-
--- a room that is empty, with place for a whole line and its newline
-pub record IsClear (room : Buffer) : Type 0 where
-  pub empty : room.bytes ≡ []
-  pub spare : max_line + 1 ≤ room.spare
 
 -- a moment while a turn in this world goes on
 pub record IsTurning {W : Type 0} (machine : Machine W) (world : W) (turn : Turn W) (old at : Moment) : Type 0 where

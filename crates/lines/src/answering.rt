@@ -4,7 +4,8 @@ ghost use Rattle.host_io.specs.Outside.{Outside};
 ghost use Rattle.host_io.specs.Calls.{Counts};
 ghost use Rattle.lines.specs.Lines.{max_line};
 ghost use Rattle.lines.specs.Crash.{IsReady};
-ghost use Rattle.lines.specs.Steps.{AnswersLine, IsClear};
+ghost use Rattle.lines.specs.Rooms.{IsClear};
+ghost use Rattle.lines.specs.Steps.{AnswersLine};
 
 use crate::saying::say_all;
 use crate::session::{Flow, MAX_LINE, Session};

@@ -4,7 +4,8 @@ ghost use Rattle.host_io.specs.Outside.{Outside};
 ghost use Rattle.host_io.specs.Calls.{Counts};
 ghost use Rattle.lines.specs.Lines.{HasNoNewline, newline, max_line};
 ghost use Rattle.lines.specs.Crash.{IsReady};
-ghost use Rattle.lines.specs.Steps.{SoFar, Comes, HasLineRoom, IsClear};
+ghost use Rattle.lines.specs.Rooms.{HasLineRoom, IsClear};
+ghost use Rattle.lines.specs.Steps.{SoFar, Comes};
 
 use crate::answering::answer_line;
 use crate::session::{Flow, MAX_LINE, Session};

@@ -7,10 +7,14 @@
 
 mod answering;
 mod feeding;
+mod laws;
 mod saying;
 mod serving;
 mod session;
+#[cfg(test)]
+mod tests;
 
+pub use laws::lines_are_one;
 pub use saying::say_all;
 pub use serving::{End, MAX_BUDGET, serve};
 pub use session::{Flow, MAX_LINE, Session};

@@ -5,7 +5,8 @@ ghost use Rattle.host_io.specs.Calls.{Rose};
 ghost use Rattle.lines.specs.Lines.{max_line, max_budget};
 ghost use Rattle.lines.specs.Crash.{IsReady};
 ghost use Rattle.lines.specs.Served.{Serves};
-ghost use Rattle.lines.specs.Steps.{SoFar, HasLineRoom, IsClear};
+ghost use Rattle.lines.specs.Rooms.{HasLineRoom, IsClear};
+ghost use Rattle.lines.specs.Steps.{SoFar};
 
 use crate::answering::answer_line;
 use crate::feeding::feed_piece;

@@ -1,7 +1,8 @@
 use Rattle.std.proofs.Common.{◌≡◌, ℕ, ◌+◌, ◌-◌, ◌≤◌, List, length, drop}
 use Rattle.host_io.specs.Outside.{Outside}
 use Rattle.lines.specs.Crash.{IsReady}
-use Rattle.lines.specs.Steps.{HasLineRoom, IsClear, SoFar}
+use Rattle.lines.specs.Rooms.{HasLineRoom, IsClear}
+use Rattle.lines.specs.Steps.{SoFar}
 use Rattle.lines.proofs.feeding.feed_piece.Given as goal
 
 -- The lines that end before `from` have been answered, and the room holds nothing.

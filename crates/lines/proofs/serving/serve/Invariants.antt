@@ -1,6 +1,7 @@
 use Rattle.std.proofs.Common.{◌≡◌, ℕ, ◌+◌, ◌≤◌, [], List}
 use Rattle.lines.specs.Crash.{IsReady}
-use Rattle.lines.specs.Steps.{HasLineRoom, IsClear, SoFar}
+use Rattle.lines.specs.Rooms.{HasLineRoom, IsClear}
+use Rattle.lines.specs.Steps.{SoFar}
 use Rattle.lines.proofs.serving.serve.Given as goal
 
 -- All that was taken has been looked at, and the rest of the budget is left.
