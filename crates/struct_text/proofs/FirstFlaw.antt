@@ -76,7 +76,7 @@ module _ (before : List ℕ) (b : ℕ) (rest : List ℕ) (alive : walk start bef
 
   found_at_byte : (o : Option StructError)
       → MatchOption o ((f : StructError) → Tests before b rest f → ⊥)
-        (IsPicked (is_stuck (step (walk start before) b)) (floats (walk start before) b) (deepens (walk start before) b) (is_full (walk start before)) (is_long (walk start before) (b ∷ rest)) (repeats (walk start before) (b ∷ rest)) (length before))
+      (IsPicked (is_stuck (step (walk start before) b)) (floats (walk start before) b) (deepens (walk start before) b) (is_full (walk start before)) (is_long (walk start before) (b ∷ rest)) (repeats (walk start before) (b ∷ rest)) (length before))
       → (later : Option StructError) → (CleanTo (before ++ b ∷ rest) (length before + 1) → step (walk start before) b ≢ stuck → Found (before ++ b ∷ rest) later)
       → Found (before ++ b ∷ rest) (or_else o later)
   found_at_byte None none later on = on (clean_on none) (λ e. none (Syntax 0) (ap is_stuck e))
@@ -98,11 +98,11 @@ finds (b ∷ rest) before alive clean =
     let same : (before ++ b ∷ []) ++ rest ≡ before ++ b ∷ rest = append_assoc before (b ∷ []) rest in
     let step_is : walk start (before ++ b ∷ []) ≡ step (walk start before) b = walk-append start before (b ∷ []) in
     found_at_byte before b rest alive clean at
-      (picks (is_stuck (step (walk start before) b)) (floats (walk start before) b) (deepens (walk start before) b) (is_full (walk start before)) (is_long (walk start before) (b ∷ rest)) (repeats (walk start before) (b ∷ rest)) (length before))
-      (first_flaw (step (walk start before) b) (length before + 1) rest)
-      (λ clean' alive'. subst P same (subst S step_is (subst N (length_push before b)
-        (finds rest (before ++ b ∷ []) (λ e. alive' (sym step_is ∙ e))
-          (λ f h. let l = clean' f (subst (λ (text : List ℕ). Offends text f) same h) in omega (arith, l, length_push before b))))))
+    (picks (is_stuck (step (walk start before) b)) (floats (walk start before) b) (deepens (walk start before) b) (is_full (walk start before)) (is_long (walk start before) (b ∷ rest)) (repeats (walk start before) (b ∷ rest)) (length before))
+    (first_flaw (step (walk start before) b) (length before + 1) rest)
+    (λ clean' alive'. subst P same (subst S step_is (subst N (length_push before b)
+    (finds rest (before ++ b ∷ []) (λ e. alive' (sym step_is ∙ e))
+    (λ f h. let l = clean' f (subst (λ (text : List ℕ). Offends text f) same h) in omega (arith, l, length_push before b))))))
 
 -- The first flaw of a whole text, and a text with none.
 pub finds_all : (text : List ℕ) → Found text (first_flaw start 0 text)

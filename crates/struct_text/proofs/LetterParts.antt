@@ -25,7 +25,7 @@ module _ (bytes : List ℕ) (at : ℕ) where
     within = l;
     spelled = ap (λ r. colon ∷ r) e ∙ ap (λ s. s ++ drop (at + 1) bytes) (sym h.spelled);
     reaches = λ brackets. ap (first_flaw (kind brackets) at) e
-      ∙ over_letter brackets letter (drop (at + 1) bytes) at (or_left (is_plain_letter letter) (is_floating_letter letter) h.plain) h.fixed;
+        ∙ over_letter brackets letter (drop (at + 1) bytes) at (or_left (is_plain_letter letter) (is_floating_letter letter) h.plain) h.fixed;
     whole = h.whole;
     flat = h.flat;
   }

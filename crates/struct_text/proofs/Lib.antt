@@ -11,3 +11,4 @@ pub mod PropertyParts
 pub mod Unique
 pub mod Strict
 pub mod Whole
+pub mod PrintParts

@@ -168,11 +168,11 @@ module _ (before : List ℕ) (b : ℕ) (rest : List ℕ) where
   wrong_byte alive h = record {
     within = within_is;
     right_before = λ q l. begins_from_walk (take q (before ++ b ∷ rest)) (λ e. alive (
-      ap (walk start) (sym (take-append-drop q before))
-      ∙ walk-append start (take q before) (drop q before)
-      ∙ ap (λ u. walk (walk start u) (drop q before)) (sym (take-append-le q before (b ∷ rest) l))
-      ∙ ap (λ s. walk s (drop q before)) e
-      ∙ walk-stuck (drop q before)));
+        ap (walk start) (sym (take-append-drop q before))
+        ∙ walk-append start (take q before) (drop q before)
+        ∙ ap (λ u. walk (walk start u) (drop q before)) (sym (take-append-le q before (b ∷ rest) l))
+        ∙ ap (λ s. walk s (drop q before)) e
+        ∙ walk-stuck (drop q before)));
     wrong = λ begun. walk_from_begins (before ++ b ∷ []) (subst BeginsLoose through_is begun) (walk-append start before (b ∷ []) ∙ stuck_by_test (step (walk start before) b) h);
   }
 

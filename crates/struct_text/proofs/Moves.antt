@@ -43,7 +43,7 @@ in_name_flaw : (name : List ℕ) (brackets : Brackets) (b : ℕ) (rest : List �
 unfolding flaw
 in_name_flaw name brackets b rest at h =
     no_flaw (is_stuck (step (in_name name brackets) b)) ((b == open_bracket) && (length brackets == max_depth)) at
-      (ap is_stuck (name_byte name brackets b h)) (ap (λ t. t && (length brackets == max_depth)) (other_byte is_name_byte b open_bracket h refl))
+    (ap is_stuck (name_byte name brackets b h)) (ap (λ t. t && (length brackets == max_depth)) (other_byte is_name_byte b open_bracket h refl))
 
 -- the state behind a name, its place, and what follows
 abbrev Behind : List ℕ → Brackets → ℕ → List ℕ → List ℕ → Option StructError
@@ -62,10 +62,10 @@ in_name_run [] name brackets at = nothing_run name brackets at []
 in_name_run (b ∷ rest) name brackets at =
     let further = in_name_run rest (name ++ b ∷ []) brackets (at + 1) in
     ⊎_elim
-      (λ e. on (in_name name brackets) (in_name (name ++ b ∷ []) brackets) b rest at (in_name_flaw name brackets b rest at e) (name_byte name brackets b e)
-        ∙ further ∙ one_more name brackets at b (run rest) rest ∙ ap (λ w. Behind name brackets at w (b ∷ rest)) (sym (run-yes b rest e)))
-      (λ e. nothing_run name brackets at (b ∷ rest) ∙ ap (λ w. Behind name brackets at w (b ∷ rest)) (sym (run-no b rest e)))
-      (cases_Bool (is_name_byte b))
+    (λ e. on (in_name name brackets) (in_name (name ++ b ∷ []) brackets) b rest at (in_name_flaw name brackets b rest at e) (name_byte name brackets b e)
+    ∙ further ∙ one_more name brackets at b (run rest) rest ∙ ap (λ w. Behind name brackets at w (b ∷ rest)) (sym (run-yes b rest e)))
+    (λ e. nothing_run name brackets at (b ∷ rest) ∙ ap (λ w. Behind name brackets at w (b ∷ rest)) (sym (run-no b rest e)))
+    (cases_Bool (is_name_byte b))
 
 start_stuck : (t : Bool) (b : ℕ) (brackets : Brackets) → is_stuck (cond t (in_name (b ∷ []) brackets) stuck) ≡ not t
 start_stuck true b brackets = refl
@@ -78,17 +78,17 @@ unfolding flaw
 over_name [] brackets at h = absurd (let e : Some (Syntax at) ≡ None = h in cc)
 over_name (b ∷ rest) brackets at h =
     ⊎_elim
-      (λ e. on (name_start brackets) (in_name (b ∷ []) brackets) b rest at h (ap (λ t. cond t (in_name (b ∷ []) brackets) stuck) e)
-        ∙ in_name_run rest (b ∷ []) brackets (at + 1) ∙ one_more [] brackets at b (run rest) rest
-        ∙ ap (λ w. Behind [] brackets at w (b ∷ rest)) (sym (run-yes b rest (and_parts (is_name_byte b) _ e).0)))
-      (λ e. absurd (let stuck_here : is_stuck (step (name_start brackets) b) ≡ true = start_stuck (is_name_start b) b brackets ∙ ap not e in
-        let two : Some (Syntax at) ≡ None = sym (ap (λ t. first_of_six t (floats (name_start brackets) b) (deepens (name_start brackets) b) (is_full (name_start brackets)) (is_long (name_start brackets) (b ∷ rest)) (repeats (name_start brackets) (b ∷ rest)) at) stuck_here) ∙ h in cc))
-      (cases_Bool (is_name_start b))
+    (λ e. on (name_start brackets) (in_name (b ∷ []) brackets) b rest at h (ap (λ t. cond t (in_name (b ∷ []) brackets) stuck) e)
+    ∙ in_name_run rest (b ∷ []) brackets (at + 1) ∙ one_more [] brackets at b (run rest) rest
+    ∙ ap (λ w. Behind [] brackets at w (b ∷ rest)) (sym (run-yes b rest (and_parts (is_name_byte b) _ e).0)))
+    (λ e. absurd (let stuck_here : is_stuck (step (name_start brackets) b) ≡ true = start_stuck (is_name_start b) b brackets ∙ ap not e in
+    let two : Some (Syntax at) ≡ None = sym (ap (λ t. first_of_six t (floats (name_start brackets) b) (deepens (name_start brackets) b) (is_full (name_start brackets)) (is_long (name_start brackets) (b ∷ rest)) (repeats (name_start brackets) (b ∷ rest)) at) stuck_here) ∙ h in cc))
+    (cases_Bool (is_name_start b))
 
 -- The tests at the start of a name.
 pub name_flaw : (before : List (List ℕ)) (outer : Brackets) (b : ℕ) (rest : List ℕ) (at : ℕ)
     → flaw (name_start (before ∷ outer)) (b ∷ rest) at
-      ≡ first_of_six (not (is_name_start b)) false false (length before == max_properties) (nat_lt max_name (length (run (b ∷ rest)))) (has_name before (run (b ∷ rest))) at
+    ≡ first_of_six (not (is_name_start b)) false false (length before == max_properties) (nat_lt max_name (length (run (b ∷ rest)))) (has_name before (run (b ∷ rest))) at
 unfolding flaw
 name_flaw before outer b rest at =
     ap (λ t. first_of_six t false false (length before == max_properties) (nat_lt max_name (length (run (b ∷ rest)))) (has_name before (run (b ∷ rest))) at) (start_stuck (is_name_start b) b (before ∷ outer))
@@ -103,10 +103,10 @@ root_flaw (b ∷ rest) at =
 module _ (bytes : List ℕ) (at : ℕ) (before : List (List ℕ)) where
   pub name_flaw_at : (outer : Brackets) → at < length bytes
       → flaw (name_start (before ∷ outer)) (drop at bytes) at
-        ≡ first_of_six (not (is_name_start (get_or bytes at 0))) false false (length before == max_properties) (nat_lt max_name (length (run (drop at bytes)))) (has_name before (run (drop at bytes))) at
+      ≡ first_of_six (not (is_name_start (get_or bytes at 0))) false false (length before == max_properties) (nat_lt max_name (length (run (drop at bytes)))) (has_name before (run (drop at bytes))) at
   name_flaw_at outer h =
       let P : List ℕ → Type 0 = λ r. flaw (name_start (before ∷ outer)) r at
-        ≡ first_of_six (not (is_name_start (get_or bytes at 0))) false false (length before == max_properties) (nat_lt max_name (length (run r))) (has_name before (run r)) at in
+      ≡ first_of_six (not (is_name_start (get_or bytes at 0))) false false (length before == max_properties) (nat_lt max_name (length (run r))) (has_name before (run r)) at in
       subst P (sym (drop_more bytes at 0 h)) (name_flaw before outer (get_or bytes at 0) (drop (at + 1) bytes) at)
 
   pub name_at_end : (outer : Brackets) → length bytes ≤ at → flaw (name_start (before ∷ outer)) (drop at bytes) at ≡ Some (Syntax at)
@@ -164,17 +164,17 @@ pub no_kind : (name : List ℕ) (names : List (List ℕ)) (outer : Brackets) (at
 no_kind name names outer at [] h c o = ends_early (in_name name (names ∷ outer)) at refl
 no_kind name names outer at (b ∷ rest) h c o =
     wrong_byte (in_name name (names ∷ outer)) b rest at (behind_name name (names ∷ outer) b (run-stops b rest h)
-      (⊎_elim (λ e. absurd (o rest (ap (λ x. x ∷ rest) (eqb-true b open_bracket e)))) (λ e. e) (cases_Bool (b == open_bracket)))
-      (⊎_elim (λ e. absurd (c rest (ap (λ x. x ∷ rest) (eqb-true b colon e)))) (λ e. e) (cases_Bool (b == colon))))
+    (⊎_elim (λ e. absurd (o rest (ap (λ x. x ∷ rest) (eqb-true b open_bracket e)))) (λ e. e) (cases_Bool (b == open_bracket)))
+    (⊎_elim (λ e. absurd (c rest (ap (λ x. x ∷ rest) (eqb-true b colon e)))) (λ e. e) (cases_Bool (b == colon))))
 
 -- no bracket behind the view's name
 pub no_bracket : (name : List ℕ) (at : ℕ) (rest : List ℕ) → run rest ≡ [] → ((more : List ℕ) → rest ≡ open_bracket ∷ more → ⊥) → first_flaw (in_name name []) at rest ≡ Some (Syntax at)
 no_bracket name at [] h o = ends_early (in_name name []) at refl
 no_bracket name at (b ∷ rest) h o =
     wrong_byte (in_name name []) b rest at (
-      ap (λ t. cond t (in_name (name ++ b ∷ []) []) (cond (b == open_bracket) (name_start ([] ∷ [])) (cond (b == colon) (behind_colon name []) stuck))) (run-stops b rest h)
-      ∙ ap (λ t. cond t (name_start ([] ∷ [])) (cond (b == colon) (behind_colon name []) stuck)) (⊎_elim (λ e. absurd (o rest (ap (λ x. x ∷ rest) (eqb-true b open_bracket e)))) (λ e. e) (cases_Bool (b == open_bracket)))
-      ∙ behind_view name (b == colon))
+    ap (λ t. cond t (in_name (name ++ b ∷ []) []) (cond (b == open_bracket) (name_start ([] ∷ [])) (cond (b == colon) (behind_colon name []) stuck))) (run-stops b rest h)
+    ∙ ap (λ t. cond t (name_start ([] ∷ [])) (cond (b == colon) (behind_colon name []) stuck)) (⊎_elim (λ e. absurd (o rest (ap (λ x. x ∷ rest) (eqb-true b open_bracket e)))) (λ e. e) (cases_Bool (b == open_bracket)))
+    ∙ behind_view name (b == colon))
 
 -- The letter of a kind.
 letter_flaw : (brackets : Brackets) (b : ℕ) (rest : List ℕ) (at : ℕ) → step (kind brackets) b ≡ after brackets → is_floating_letter b ≡ false → flaw (kind brackets) (b ∷ rest) at ≡ None
@@ -215,8 +215,8 @@ pub no_more : (names : List (List ℕ)) (outer : Brackets) (at : ℕ) (rest : Li
 no_more names outer at [] c o = ends_early (after (names ∷ outer)) at refl
 no_more names outer at (b ∷ rest) c o =
     wrong_byte (after (names ∷ outer)) b rest at (
-      ap (λ t. cond t (name_start (names ∷ outer)) (cond (b == close_bracket) (after outer) stuck)) (⊎_elim (λ e. absurd (o rest (ap (λ x. x ∷ rest) (eqb-true b comma e)))) (λ e. e) (cases_Bool (b == comma)))
-      ∙ ap (λ t. cond t (after outer) stuck) (⊎_elim (λ e. absurd (c rest (ap (λ x. x ∷ rest) (eqb-true b close_bracket e)))) (λ e. e) (cases_Bool (b == close_bracket))))
+    ap (λ t. cond t (name_start (names ∷ outer)) (cond (b == close_bracket) (after outer) stuck)) (⊎_elim (λ e. absurd (o rest (ap (λ x. x ∷ rest) (eqb-true b comma e)))) (λ e. e) (cases_Bool (b == comma)))
+    ∙ ap (λ t. cond t (after outer) stuck) (⊎_elim (λ e. absurd (c rest (ap (λ x. x ∷ rest) (eqb-true b close_bracket e)))) (λ e. e) (cases_Bool (b == close_bracket))))
 
 -- The end of a text.
 pub whole_end : (at : ℕ) → first_flaw (after []) at [] ≡ None

@@ -27,9 +27,9 @@ AllPass-run [] = λ k d h. absurd (omega arith)
 AllPass-run (b ∷ rest) =
     let further = AllPass-run rest in
     ⊎_elim
-      (λ e. subst (AllPass is_name_byte) (sym (run-yes b rest e)) (All-cons (λ x. is_name_byte x ≡ true) b (run rest) e further))
-      (λ e. subst (AllPass is_name_byte) (sym (run-no b rest e)) (λ k d h. absurd (omega arith)))
-      (cases_Bool (is_name_byte b))
+    (λ e. subst (AllPass is_name_byte) (sym (run-yes b rest e)) (All-cons (λ x. is_name_byte x ≡ true) b (run rest) e further))
+    (λ e. subst (AllPass is_name_byte) (sym (run-no b rest e)) (λ k d h. absurd (omega arith)))
+    (cases_Bool (is_name_byte b))
 
 -- a run that begins as a name and isn't too long is one
 valid_run : (b : ℕ) (rest : List ℕ) → is_name_start b ≡ true → length (run (b ∷ rest)) ≤ max_name → IsName (run (b ∷ rest))
@@ -61,22 +61,22 @@ module _ (bytes : List ℕ) (at : ℕ) (before : List (List ℕ)) where
 
   pub refuses_byte : at < length bytes → is_name_start (get_or bytes at 0) ≡ false → RefusesName bytes at before (Syntax at)
   refuses_byte l h = λ outer. name_flaw_at bytes at before outer l
-    ∙ ap (λ t. first_of_six (not t) false false (length before == max_properties) (nat_lt max_name (length (run (drop at bytes)))) (has_name before (run (drop at bytes))) at) h
+      ∙ ap (λ t. first_of_six (not t) false false (length before == max_properties) (nat_lt max_name (length (run (drop at bytes)))) (has_name before (run (drop at bytes))) at) h
 
   pub refuses_many : at < length bytes → is_name_start (get_or bytes at 0) ≡ true → length before ≡ max_properties → RefusesName bytes at before (TooMany at)
   refuses_many l h m = λ outer. name_flaw_at bytes at before outer l
-    ∙ many_of_six (is_name_start (get_or bytes at 0)) (length before == max_properties) (nat_lt max_name (length (run (drop at bytes)))) (has_name before (run (drop at bytes))) at h (eq-eqb (length before) max_properties m)
+      ∙ many_of_six (is_name_start (get_or bytes at 0)) (length before == max_properties) (nat_lt max_name (length (run (drop at bytes)))) (has_name before (run (drop at bytes))) at h (eq-eqb (length before) max_properties m)
 
   pub refuses_long : at < length bytes → is_name_start (get_or bytes at 0) ≡ true → (length before ≡ max_properties → ⊥) → max_name < length (name_at bytes at) → RefusesName bytes at before (TooLong at)
   refuses_long l h m n = λ outer. name_flaw_at bytes at before outer l
-    ∙ long_of_six (is_name_start (get_or bytes at 0)) (length before == max_properties) (nat_lt max_name (length (run (drop at bytes)))) (has_name before (run (drop at bytes))) at h
-        (ne_eqb (length before) max_properties m) (lt-ltb max_name (length (name_at bytes at)) n)
+      ∙ long_of_six (is_name_start (get_or bytes at 0)) (length before == max_properties) (nat_lt max_name (length (run (drop at bytes)))) (has_name before (run (drop at bytes))) at h
+      (ne_eqb (length before) max_properties m) (lt-ltb max_name (length (name_at bytes at)) n)
 
   pub refuses_repeated : at < length bytes → is_name_start (get_or bytes at 0) ≡ true → (length before ≡ max_properties → ⊥) → length (name_at bytes at) ≤ max_name
       → has_name before (name_at bytes at) ≡ true → RefusesName bytes at before (Repeated at)
   refuses_repeated l h m n r = λ outer. name_flaw_at bytes at before outer l
-    ∙ repeated_of_six (is_name_start (get_or bytes at 0)) (length before == max_properties) (nat_lt max_name (length (run (drop at bytes)))) (has_name before (run (drop at bytes))) at h
-        (ne_eqb (length before) max_properties m) (le-ltb max_name (length (name_at bytes at)) n) r
+      ∙ repeated_of_six (is_name_start (get_or bytes at 0)) (length before == max_properties) (nat_lt max_name (length (run (drop at bytes)))) (has_name before (run (drop at bytes))) at h
+      (ne_eqb (length before) max_properties m) (le-ltb max_name (length (name_at bytes at)) n) r
 
   pub valid_at : at < length bytes → is_name_start (get_or bytes at 0) ≡ true → length (name_at bytes at) ≤ max_name → IsName (name_at bytes at)
   valid_at l h n =
@@ -91,6 +91,6 @@ module _ (bytes : List ℕ) (at : ℕ) (before : List (List ℕ)) where
     few = omega (arith, f, m);
     fresh = λ held. true≢false (sym (has_name-from before (name_at bytes at) (subst (Contains before) e held)) ∙ r);
     clean = λ outer. name_flaw_at bytes at before outer l
-      ∙ none_of_six (is_name_start (get_or bytes at 0)) (length before == max_properties) (nat_lt max_name (length (run (drop at bytes)))) (has_name before (run (drop at bytes))) at h
-          (ne_eqb (length before) max_properties m) (le-ltb max_name (length (name_at bytes at)) n) r;
+        ∙ none_of_six (is_name_start (get_or bytes at 0)) (length before == max_properties) (nat_lt max_name (length (run (drop at bytes)))) (has_name before (run (drop at bytes))) at h
+        (ne_eqb (length before) max_properties m) (le-ltb max_name (length (name_at bytes at)) n) r;
   }

@@ -31,9 +31,9 @@ module _ (bytes : List ℕ) (at depth : ℕ) where
         within = omega (arith, h.within);
         spelled = e ∙ h.spelled ∙ ap (λ n. spelled_domain domain ++ drop n bytes) two;
         reaches = λ name names outer _. ap (first_flaw (in_name name (names ∷ outer)) at) e
-          ∙ over_colon name names outer at (drop (at + 1) bytes)
-          ∙ h.reaches ((names ++ name ∷ []) ∷ outer)
-          ∙ ap (λ n. first_flaw (after ((names ++ name ∷ []) ∷ outer)) n (drop n bytes)) two;
+            ∙ over_colon name names outer at (drop (at + 1) bytes)
+            ∙ h.reaches ((names ++ name ∷ []) ∷ outer)
+            ∙ ap (λ n. first_flaw (after ((names ++ name ∷ []) ∷ outer)) n (drop n bytes)) two;
         whole = h.whole;
         shallow = omega (arith, h.flat, l);
       }
@@ -46,8 +46,8 @@ module _ (bytes : List ℕ) (at depth : ℕ) where
         within = h.within;
         spelled = e ∙ ap (λ r. open_bracket ∷ r) (h.spelled ∙ sym (append_assoc (spelled_properties (heading_of properties)) (close_bracket ∷ []) (drop end bytes)));
         reaches = λ name names outer d. ap (first_flaw (in_name name (names ∷ outer)) at) e
-          ∙ over_open name (names ∷ outer) at (drop (at + 1) bytes) (ne_eqb (length (names ∷ outer)) max_depth (λ q. l (omega (arith, q, d))))
-          ∙ h.reaches ((names ++ name ∷ []) ∷ outer) (omega (arith, d));
+            ∙ over_open name (names ∷ outer) at (drop (at + 1) bytes) (ne_eqb (length (names ∷ outer)) max_depth (λ q. l (omega (arith, q, d))))
+            ∙ h.reaches ((names ++ name ∷ []) ∷ outer) (omega (arith, d));
         whole = IsDomain-relation properties h.whole;
         shallow = omega (arith, h.shallow);
       }
@@ -60,13 +60,13 @@ module _ (bytes : List ℕ) (at depth : ℕ) where
 
   pub kind_too_deep : HasByte bytes at open_bracket → depth ≡ max_depth → RefusesKind bytes at depth (TooDeep at)
   kind_too_deep e l = inr (λ name names outer d. ap (first_flaw (in_name name (names ∷ outer)) at) e
-    ∙ too_deep name (names ∷ outer) at (drop (at + 1) bytes) (eq-eqb (length (names ∷ outer)) max_depth (omega (arith, d, l))))
+      ∙ too_deep name (names ∷ outer) at (drop (at + 1) bytes) (eq-eqb (length (names ∷ outer)) max_depth (omega (arith, d, l))))
 
   pub kind_refused_inside : (e : StructError) → HasByte bytes at open_bracket → (depth ≡ max_depth → ⊥) → RefusesProperty bytes (at + 1) (depth + 1) [] e → RefusesKind bytes at depth e
   kind_refused_inside e b l (inl h) = inl h
   kind_refused_inside e b l (inr h) = inr (λ name names outer d. ap (first_flaw (in_name name (names ∷ outer)) at) b
-    ∙ over_open name (names ∷ outer) at (drop (at + 1) bytes) (ne_eqb (length (names ∷ outer)) max_depth (λ q. l (omega (arith, q, d))))
-    ∙ h ((names ++ name ∷ []) ∷ outer) (omega (arith, d)))
+      ∙ over_open name (names ∷ outer) at (drop (at + 1) bytes) (ne_eqb (length (names ∷ outer)) max_depth (λ q. l (omega (arith, q, d))))
+      ∙ h ((names ++ name ∷ []) ∷ outer) (omega (arith, d)))
 
 -- A run is what stands before the rest, and no other run follows.
 run_and_rest : (rest : List ℕ) → run rest ++ drop (length (run rest)) rest ≡ rest
@@ -122,7 +122,7 @@ module _ (bytes : List ℕ) (at depth : ℕ) (old : List Attribute) where
     within = k.within;
     spelled = name_spelled bytes at (names_of old) a.name h ∙ ap (λ r. a.name ++ r) k.spelled;
     reaches = λ outer d. name_reaches bytes at (names_of old) a.name h outer ∙ k.reaches a.name (names_of old) outer d
-      ∙ ap (λ ns. first_flaw (after (ns ∷ outer)) end (drop end bytes)) (sym (ap names_of e ∙ names_of-push old a));
+        ∙ ap (λ ns. first_flaw (after (ns ∷ outer)) end (drop end bytes)) (sym (ap names_of e ∙ names_of-push old a));
     few = subst (λ (n : ℕ). n < max_properties) (length-map old (λ (x : Attribute). x.name)) h.few;
     fresh = h.fresh;
     shallow = k.shallow;
@@ -193,8 +193,8 @@ module _ (bytes : List ℕ) (start depth : ℕ) where
       within = omega (arith, l);
       forward = omega (arith, r.forward, h.forward);
       spelled = r.spelled ∙ ap (λ s. spelled_list old ++ s) (h.spelled ∙ ap (λ s. a.name ++ (spelled_domain a.domain ++ s)) e)
-        ∙ regroup
-        ∙ ap (λ s. s ++ drop (end + 1) bytes) (sym (ap spelled_list h.added ∙ spelled_list-push old a));
+          ∙ regroup
+          ∙ ap (λ s. s ++ drop (end + 1) bytes) (sym (ap spelled_list h.added ∙ spelled_list-push old a));
       reaches = λ outer d. reaches_end outer d ∙ ap (first_flaw (after (names_of new ∷ outer)) end) e ∙ over_comma (names_of new) outer end (drop (end + 1) bytes);
       few = few_now;
       distinct = distinct_now;
@@ -217,8 +217,8 @@ module _ (bytes : List ℕ) (start depth : ℕ) where
       forward = omega (arith, r.forward, h.forward);
       within = omega (arith, l);
       spelled = r.spelled ∙ ap (λ s. spelled_list old ++ s) (h.spelled ∙ ap (λ s. a.name ++ (spelled_domain a.domain ++ s)) e)
-        ∙ regroup
-        ∙ ap (λ s. s ++ (close_bracket ∷ drop (end + 1) bytes)) (sym (ap (λ p. spelled_properties (heading_of p)) h.added ∙ spelled_properties-push old a));
+          ∙ regroup
+          ∙ ap (λ s. s ++ (close_bracket ∷ drop (end + 1) bytes)) (sym (ap (λ p. spelled_properties (heading_of p)) h.added ∙ spelled_properties-push old a));
       reaches = λ outer d. reaches_end outer d ∙ ap (first_flaw (after (names_of new ∷ outer)) end) e ∙ over_close (names_of new) outer end (drop (end + 1) bytes);
       whole = w;
       shallow = shallow_now;

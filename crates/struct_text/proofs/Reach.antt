@@ -11,20 +11,20 @@ use Rattle.struct_text.proofs.Walk.{Brackets, State, name_start, in_name, kind, 
 pub data Open : Brackets → List ℕ → Type 0 where
   view : (name : List ℕ) → IsWord name → Open [] name
   inner : (outer : Brackets) (front : List ℕ) (names : List (List ℕ)) (listed name : List ℕ) → Open outer front → AreListed names listed → IsWord name
-    → Open ((names ++ name ∷ []) ∷ outer) (front ++ (open_bracket ∷ (listed ++ name)))
+      → Open ((names ++ name ∷ []) ∷ outer) (front ++ (open_bracket ∷ (listed ++ name)))
 
 -- The bytes behind a walk, in each state.
 pub data Behind : State → List ℕ → Type 0 where
   nothing : Behind (name_start []) []
   a_list : (outer : Brackets) (front : List ℕ) (names : List (List ℕ)) (listed : List ℕ) → Open outer front → AreListed names listed
-    → Behind (name_start (names ∷ outer)) (front ++ (open_bracket ∷ listed))
+      → Behind (name_start (names ∷ outer)) (front ++ (open_bracket ∷ listed))
   a_view : (name : List ℕ) → IsWord name → Behind (in_name name []) name
   a_name : (outer : Brackets) (front : List ℕ) (names : List (List ℕ)) (listed name : List ℕ) → Open outer front → AreListed names listed → IsWord name
-    → Behind (in_name name (names ∷ outer)) (front ++ (open_bracket ∷ (listed ++ name)))
+      → Behind (in_name name (names ∷ outer)) (front ++ (open_bracket ∷ (listed ++ name)))
   a_colon : (outer : Brackets) (front : List ℕ) (names : List (List ℕ)) (listed name : List ℕ) → Open outer front → AreListed names listed → IsWord name
-    → Behind (kind ((names ++ name ∷ []) ∷ outer)) (front ++ (open_bracket ∷ (listed ++ (name ++ colon ∷ []))))
+      → Behind (kind ((names ++ name ∷ []) ∷ outer)) (front ++ (open_bracket ∷ (listed ++ (name ++ colon ∷ []))))
   a_property : (outer : Brackets) (front : List ℕ) (names : List (List ℕ)) (listed name bytes : List ℕ) → Open outer front → AreListed names listed → IsWord name → IsLooseKind bytes
-    → Behind (after ((names ++ name ∷ []) ∷ outer)) (front ++ (open_bracket ∷ (listed ++ (name ++ bytes))))
+      → Behind (after ((names ++ name ∷ []) ∷ outer)) (front ++ (open_bracket ∷ (listed ++ (name ++ bytes))))
   a_text : (text : List ℕ) → IsLoose text → Behind (after []) text
   no_way : (text : List ℕ) → Behind stuck text
 

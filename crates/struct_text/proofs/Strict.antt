@@ -27,17 +27,18 @@ clean_name name rest before outer at h e few fresh =
     ap (λ w. flaw (name_start (before ∷ outer)) (w ++ rest) at) n.2
     ∙ name_flaw before outer n.0 (n.1 ++ rest) at
     ∙ none_of_six _ _ _ _ at n.3 (ne_eqb (length before) max_properties (λ q. absurd (omega (arith, q, few))))
-        (le-ltb max_name (length (run (n.0 ∷ (n.1 ++ rest)))) (omega (arith, ap length same, h.short)))
-        (false_from_ne_true (has_name before (run (n.0 ∷ (n.1 ++ rest)))) (λ q. fresh (Contains-from before name (ap (has_name before) (sym same) ∙ q))))
+    (le-ltb max_name (length (run (n.0 ∷ (n.1 ++ rest)))) (omega (arith, ap length same, h.short)))
+    (false_from_ne_true (has_name before (run (n.0 ∷ (n.1 ++ rest)))) (λ q. fresh (Contains-from before name (ap (has_name before) (sym same) ∙ q))))
 
 over_word : (name rest : List ℕ) (brackets : Brackets) (at : ℕ) → IsName name → run rest ≡ [] → flaw (name_start brackets) (name ++ rest) at ≡ None
     → Clean (name_start brackets) at (name ++ rest) (in_name name brackets) rest
 over_word name rest brackets at h e clean =
-    let same = run_name name rest h e in
-    (at + length name,
+    let same = run_name name rest h e in (
+      at + length name,
       over_name (name ++ rest) brackets at clean
-      ∙ ap (λ w. first_flaw (in_name w brackets) (at + length w) (drop (length w) (name ++ rest))) same
-      ∙ ap (λ r. first_flaw (in_name name brackets) (at + length name) r) (drop_at name rest (length name) refl))
+          ∙ ap (λ w. first_flaw (in_name w brackets) (at + length w) (drop (length w) (name ++ rest))) same
+          ∙ ap (λ r. first_flaw (in_name name brackets) (at + length name) r) (drop_at name rest (length name) refl),
+    )
 
 -- The names that come are new: each is other than those before it in its brackets.
 abbrev AreNew : List (List ℕ) → Heading → Type 0
@@ -57,10 +58,11 @@ Apart before properties = (k : ℕ) (d : Attribute) → k < length properties �
 AreNew-from : (h : Heading) (before : List (List ℕ)) → AllPairs (λ a b. a.name ≢ b.name) (attributes_of h) → Apart before (attributes_of h) → AreNew before h
 AreNew-from no_attributes before distinct apart = tt
 AreNew-from (attribute n d h) before distinct apart =
-    let first : Attribute = record { name = n; domain = d } in
-    (apart 0 first (omega arith),
+    let first : Attribute = record { name = n; domain = d } in (
+      apart 0 first (omega arith),
       AreNew-from h (before ++ n ∷ []) (λ i j e p q. distinct (suc i) (suc j) e (omega (arith, p)) (omega (arith, q)))
-        (λ k e l c. ⊎_elim (λ q. distinct 0 (suc k) e (omega arith) (omega (arith, l)) q) (λ b. apart (suc k) e (omega (arith, l)) b) (Contains-push before n (get_or (attributes_of h) k e).name c)))
+          (λ k e l c. ⊎_elim (λ q. distinct 0 (suc k) e (omega arith) (omega (arith, l)) q) (λ b. apart (suc k) e (omega (arith, l)) b) (Contains-push before n (get_or (attributes_of h) k e).name c)),
+    )
 
 more_properties : (n : List ℕ) (d : Domain) (h : Heading) (before : List (List ℕ)) (outer : Brackets) (at : ℕ) (rest : List ℕ)
     → ((more : List ℕ) → Clean (name_start (before ∷ outer)) at (n ++ (spelled_domain d ++ more)) (after ((before ++ n ∷ []) ∷ outer)) more)
@@ -72,9 +74,11 @@ more_properties n d no_attributes before outer at rest one others =
 more_properties n d (attribute m e h) before outer at rest one others =
     let first = one (comma ∷ (spelled_properties (attribute m e h) ++ (close_bracket ∷ rest))) in
     let then = others (first.0 + 1) (omega arith) in
-    let regrouped : spelled_properties (attribute n d (attribute m e h)) ++ (close_bracket ∷ rest) ≡ n ++ (spelled_domain d ++ (comma ∷ (spelled_properties (attribute m e h) ++ (close_bracket ∷ rest)))) = simp append_assoc in
-    (then.0, ap (first_flaw (name_start (before ∷ outer)) at) regrouped ∙ first.1
-      ∙ over_comma (before ++ n ∷ []) outer first.0 (spelled_properties (attribute m e h) ++ (close_bracket ∷ rest)) ∙ then.1)
+    let regrouped : spelled_properties (attribute n d (attribute m e h)) ++ (close_bracket ∷ rest) ≡ n ++ (spelled_domain d ++ (comma ∷ (spelled_properties (attribute m e h) ++ (close_bracket ∷ rest)))) = simp append_assoc in (
+      then.0,
+      ap (first_flaw (name_start (before ∷ outer)) at) regrouped ∙ first.1
+          ∙ over_comma (before ++ n ∷ []) outer first.0 (spelled_properties (attribute m e h) ++ (close_bracket ∷ rest)) ∙ then.1,
+    )
 
 over_plain : (letter : ℕ) (name : List ℕ) (names : List (List ℕ)) (outer : Brackets) (at : ℕ) (rest : List ℕ)
     → ((place : ℕ) → first_flaw (kind ((names ++ name ∷ []) ∷ outer)) place (letter ∷ rest) ≡ first_flaw (after ((names ++ name ∷ []) ∷ outer)) (place + 1) rest)
@@ -89,10 +93,12 @@ mutual
   over_domain text name names outer at rest w l = over_plain 83 name names outer at rest (λ place. over_letter _ 83 rest place refl refl)
   over_domain bytes name names outer at rest w l = over_plain 66 name names outer at rest (λ place. over_letter _ 66 rest place refl refl)
   over_domain (relation h) name names outer at rest w l =
-      let inside = over_properties h [] ((names ++ name ∷ []) ∷ outer) (at + 1) rest w.1 w.0.some (AreNew-from h [] w.0.distinct (λ k d p c. absurd (omega (arith, c.1)))) (omega (arith, w.0.few)) (omega (arith, l)) in
-      (inside.0, ap (λ r. first_flaw (in_name name (names ∷ outer)) at (open_bracket ∷ r)) (append_assoc (spelled_properties h) (close_bracket ∷ []) rest)
-        ∙ over_open name (names ∷ outer) at (spelled_properties h ++ (close_bracket ∷ rest)) (ne_eqb (length (names ∷ outer)) max_depth (λ q. absurd (omega (arith, q, l))))
-        ∙ inside.1)
+      let inside = over_properties h [] ((names ++ name ∷ []) ∷ outer) (at + 1) rest w.1 w.0.some (AreNew-from h [] w.0.distinct (λ k d p c. absurd (omega (arith, c.1)))) (omega (arith, w.0.few)) (omega (arith, l)) in (
+        inside.0,
+        ap (λ r. first_flaw (in_name name (names ∷ outer)) at (open_bracket ∷ r)) (append_assoc (spelled_properties h) (close_bracket ∷ []) rest)
+            ∙ over_open name (names ∷ outer) at (spelled_properties h ++ (close_bracket ∷ rest)) (ne_eqb (length (names ∷ outer)) max_depth (λ q. absurd (omega (arith, q, l))))
+            ∙ inside.1,
+      )
 
   over_properties : (h : Heading) (before : List (List ℕ)) (outer : Brackets) (at : ℕ) (rest : List ℕ) → AreAttributes h → 0 < length (attributes_of h) → AreNew before h
       → length before + length (attributes_of h) ≤ max_properties → length outer + 1 + heading_depth h ≤ max_depth
@@ -100,11 +106,11 @@ mutual
   over_properties no_attributes before outer at rest w some new few l = absurd (omega (arith, some))
   over_properties (attribute n d h) before outer at rest w some new few l =
       more_properties n d h before outer at rest
-        (λ more.
-          let word = over_word n (spelled_domain d ++ more) (before ∷ outer) at w.0 (run_domain d more) (clean_name n (spelled_domain d ++ more) before outer at w.0 (run_domain d more) (omega (arith, few)) new.0) in
-          let domain = over_domain d n before outer word.0 more w.1 (omega (arith, l)) in
-          (domain.0, word.1 ∙ domain.1))
-        (λ place nonempty. over_properties h (before ++ n ∷ []) outer place rest w.2 nonempty new.1 (omega (arith, few, length_push before n)) (omega (arith, l)))
+      (λ more.
+      let word = over_word n (spelled_domain d ++ more) (before ∷ outer) at w.0 (run_domain d more) (clean_name n (spelled_domain d ++ more) before outer at w.0 (run_domain d more) (omega (arith, few)) new.0) in
+      let domain = over_domain d n before outer word.0 more w.1 (omega (arith, l)) in
+      (domain.0, word.1 ∙ domain.1))
+      (λ place nonempty. over_properties h (before ++ n ∷ []) outer place rest w.2 nonempty new.1 (omega (arith, few, length_push before n)) (omega (arith, l)))
 
 -- no flaw in the spelling of a structure
 pub no_flaw_in_spelling : (spelled name : List ℕ) (properties : List Attribute) → Spells spelled name properties → first_flaw start 0 spelled ≡ None
@@ -114,8 +120,8 @@ no_flaw_in_spelling spelled name properties h =
     let limits : IsWithinLimits (attributes_of (heading_of properties)) = subst IsWithinLimits (sym back) h.whole.limits in
     let ended : run (open_bracket ∷ inside) ≡ [] = run-no open_bracket inside refl in
     let clean : flaw (name_start []) (name ++ open_bracket ∷ inside) 0 ≡ None =
-      root_flaw (name ++ open_bracket ∷ inside) 0 ∙ clean_name name (open_bracket ∷ inside) [] [] 0 h.named ended (omega arith) (λ c. absurd (omega (arith, c.1))) in
+    root_flaw (name ++ open_bracket ∷ inside) 0 ∙ clean_name name (open_bracket ∷ inside) [] [] 0 h.named ended (omega arith) (λ c. absurd (omega (arith, c.1))) in
     let word = over_word name (open_bracket ∷ inside) [] 0 h.named ended clean in
     let all = over_properties (heading_of properties) [] [] (word.0 + 1) [] (AreAttributes-heading_of properties h.whole.attributes) limits.some
-      (AreNew-from (heading_of properties) [] limits.distinct (λ k d p c. absurd (omega (arith, c.1)))) (omega (arith, limits.few)) (omega (arith, h.whole.limits.shallow)) in
+    (AreNew-from (heading_of properties) [] limits.distinct (λ k d p c. absurd (omega (arith, c.1)))) (omega (arith, limits.few)) (omega (arith, h.whole.limits.shallow)) in
     ap (first_flaw start 0) h.is ∙ word.1 ∙ over_open name [] word.0 inside refl ∙ all.1 ∙ whole_end all.0

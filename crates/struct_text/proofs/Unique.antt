@@ -96,6 +96,6 @@ mutual
 pub one_structure : (spelled n m : List ℕ) (p q : List Attribute) → Spells spelled n p → Spells spelled m q → (n ≡ m) × (p ≡ q)
 one_structure spelled n m p q h k =
     let names = same_names n m (spelled_domain (relation (heading_of p))) (spelled_domain (relation (heading_of q))) h.named k.named
-      (run-no 91 (spelled_properties (heading_of p) ++ close_bracket ∷ []) refl) (run-no 91 (spelled_properties (heading_of q) ++ close_bracket ∷ []) refl) (sym h.is ∙ k.is) in
+    (run-no 91 (spelled_properties (heading_of p) ++ close_bracket ∷ []) refl) (run-no 91 (spelled_properties (heading_of q) ++ close_bracket ∷ []) refl) (sym h.is ∙ k.is) in
     let inside = same_properties (heading_of p) (heading_of q) [] [] (AreAttributes-heading_of p h.whole.attributes) (AreAttributes-heading_of q k.whole.attributes) (ap (drop 1) names.1) in
     (names.0, heading_of-injective p q inside.0)

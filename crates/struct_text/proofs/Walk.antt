@@ -106,10 +106,10 @@ mutual
   walk-bracketed (joined names front name bytes listed word loose) outer =
       walk-append (name_start ([] ∷ outer)) (front ++ (name ++ bytes)) (close_bracket ∷ [])
       ∙ ap (λ s. step s close_bracket) (walk-append (name_start ([] ∷ outer)) front (name ++ bytes)
-        ∙ ap (λ s. walk s (name ++ bytes)) (walk-listed listed [] outer)
-        ∙ walk-append (name_start (names ∷ outer)) name bytes
-        ∙ ap (λ s. walk s bytes) (walk-word name (names ∷ outer) word)
-        ∙ walk-kind loose name names outer)
+      ∙ ap (λ s. walk s (name ++ bytes)) (walk-listed listed [] outer)
+      ∙ walk-append (name_start (names ∷ outer)) name bytes
+      ∙ ap (λ s. walk s bytes) (walk-word name (names ∷ outer) word)
+      ∙ walk-kind loose name names outer)
 
   pub walk-listed : {names : List (List ℕ)} {bytes : List ℕ} → AreListed names bytes → (before : List (List ℕ)) (outer : Brackets)
       → walk (name_start (before ∷ outer)) bytes ≡ name_start ((before ++ names) ∷ outer)

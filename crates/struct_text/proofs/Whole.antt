@@ -11,6 +11,8 @@ use Rattle.struct_text.specs.Offences.{name_at, Offends, IsFirstOffence, Precede
 use Rattle.struct_text.specs.Walk.{Brackets, name_start, in_name, after, start}
 use Rattle.struct_text.specs.Flaws.{flaw, first_flaw}
 use Rattle.struct_text.specs.Reading.{HasByte, IsNameAt, RefusesName, RefusesProperty, ArePropertiesAt}
+use Rattle.struct_text.specs.Grammar.{IsLoose}
+use Rattle.struct_text.proofs.Reach.{loose_from_walk}
 use Rattle.struct_text.proofs.FirstFlaw.{Found, finds_all}
 use Rattle.struct_text.proofs.Moves.{here, run, root_flaw, over_name, over_open, no_bracket, whole_end, past_end}
 use Rattle.struct_text.proofs.PropertyParts.{HasByte-from, behind_name, name_ended, name_spelled}
@@ -30,7 +32,7 @@ module _ (bytes name : List ℕ) (h : IsNameAt bytes 0 [] name) where
   pub no_brackets : (HasByte bytes (length name) open_bracket → ⊥) → first_flaw start 0 bytes ≡ Some (Syntax (length name))
   no_brackets o =
       root_reaches ∙ no_bracket name (length name) (drop (length name) bytes) (ap (name_at bytes) (sym (zero-add (length name))) ∙ name_ended bytes 0 [] name h)
-        (λ more e. o (HasByte-from bytes (length name) open_bracket more e))
+      (λ more e. o (HasByte-from bytes (length name) open_bracket more e))
 
   opened : HasByte bytes (length name) open_bracket → first_flaw start 0 bytes ≡ first_flaw (name_start ([] ∷ [])) (length name + 1) (drop (length name + 1) bytes)
   opened e = root_reaches ∙ ap (first_flaw (in_name name []) (length name)) e ∙ over_open name [] (length name) (drop (length name + 1) bytes) refl
@@ -58,8 +60,8 @@ module _ (bytes name : List ℕ) (h : IsNameAt bytes 0 [] name) where
     named = h.valid;
     whole = r.whole;
     is = name_spelled bytes 0 [] name h
-      ∙ ap (λ k. name ++ drop k bytes) (zero-add (length name))
-      ∙ ap (λ s. name ++ s) (b ∙ ap (λ s. open_bracket ∷ s) (r.spelled ∙ ap (λ s. spelled_properties (heading_of properties) ++ (close_bracket ∷ s)) (drop_all end bytes (omega (arith, n)))));
+        ∙ ap (λ k. name ++ drop k bytes) (zero-add (length name))
+        ∙ ap (λ s. name ++ s) (b ∙ ap (λ s. open_bracket ∷ s) (r.spelled ∙ ap (λ s. spelled_properties (heading_of properties) ++ (close_bracket ∷ s)) (drop_all end bytes (omega (arith, n)))));
   }
 
 -- A refusal by its rank and place.
@@ -132,3 +134,12 @@ reads_from text lent (Err f) e found clean refused =
 pub refusal : (text : List ℕ) (r : Result (List ℕ × List Attribute) StructError) → Reads text r → IfErr r (λ e. (e ≡ Memory) ⊎ IsFirstOffence text e)
 refusal text (Ok read) h = tt
 refusal text (Err e) h = refuses text e h
+
+-- what spells a structure is a loose text, and nothing in it offends
+pub loose_text : (text name : List ℕ) (properties : List Attribute) → Spells text name properties → IsLoose text
+loose_text text name properties h =
+    let P : Option StructError → Type 0 = Found text in
+    loose_from_walk text (subst P (no_flaw_in_spelling text name properties h) (finds_all text)).1
+
+pub no_offence : (text name : List ℕ) (properties : List Attribute) → Spells text name properties → (offence : StructError) → Offends text offence → ⊥
+no_offence text name properties h = found_none text (no_flaw_in_spelling text name properties h)

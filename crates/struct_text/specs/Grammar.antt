@@ -19,13 +19,13 @@ mutual
   -- One or more properties, joined by commas: those with a comma behind them, and the last.
   pub data AreLooseProperties : List ℕ → Type 0 where
     joined : (names : List (List ℕ)) (front name kind : List ℕ) → AreListed names front → IsWord name → IsLooseKind kind
-      → AreLooseProperties (front ++ (name ++ kind))
+        → AreLooseProperties (front ++ (name ++ kind))
 
   -- Properties of these names, in order, each with a comma behind it.
   pub data AreListed : List (List ℕ) → List ℕ → Type 0 where
     none : AreListed [] []
     more : (names : List (List ℕ)) (front name kind : List ℕ) → AreListed names front → IsWord name → IsLooseKind kind
-      → AreListed (names ++ name ∷ []) (front ++ (name ++ (kind ++ comma ∷ [])))
+        → AreListed (names ++ name ∷ []) (front ++ (name ++ (kind ++ comma ∷ [])))
 
 -- `NAME[PROPS]`
 pub record IsLooseOf (name properties text : List ℕ) : Type 0 where

@@ -5,3 +5,4 @@ pub mod Spelling
 pub mod Walk
 pub mod Flaws
 pub mod Reading
+pub mod Printing

@@ -59,13 +59,13 @@ pub record IsKindAt (bytes : List ℕ) (at depth : ℕ) (domain : Domain) (end :
   pub within : end ≤ length bytes
   pub spelled : drop at bytes ≡ spelled_domain domain ++ drop end bytes
   pub reaches : (name : List ℕ) (names : List (List ℕ)) (outer : Brackets) → length outer + 1 ≡ depth
-    → Reaches bytes (in_name name (names ∷ outer)) at (after ((names ++ name ∷ []) ∷ outer)) end
+      → Reaches bytes (in_name name (names ∷ outer)) at (after ((names ++ name ∷ []) ∷ outer)) end
   pub whole : IsDomain domain
   pub shallow : domain_depth domain + depth ≤ max_depth
 
 abbrev pub RefusesKind : List ℕ → ℕ → ℕ → StructError → Type 0
 RefusesKind bytes at depth e = (e ≡ Memory)
-  ⊎ ((name : List ℕ) (names : List (List ℕ)) (outer : Brackets) → length outer + 1 ≡ depth → FailsWith bytes (in_name name (names ∷ outer)) at e)
+    ⊎ ((name : List ℕ) (names : List (List ℕ)) (outer : Brackets) → length outer + 1 ≡ depth → FailsWith bytes (in_name name (names ∷ outer)) at e)
 
 -- The spelling of one more property stands from one place to another.
 pub record AddsProperty (bytes : List ℕ) (at depth : ℕ) (old new : List Attribute) (property : Attribute) (end : ℕ) : Type 0 where

@@ -28,8 +28,8 @@ pub read_kind-returns-then-not-has_byte-clause-refused :
     goal.read_kind-returns-then-not-has_byte-clause-refused
 read_kind-returns-then-not-has_byte-clause-refused t c =
     kind_missing c.args.bytes.now c.args.at c.args.depth c.requires.name_ended
-      (λ h. true≢false (sym (c.has_byte.ensures.other h) ∙ c.if-has_byte.false))
-      (λ h. true≢false (sym (c.has_byte-2.ensures.other h) ∙ c.if-not-has_byte.true))
+    (λ h. true≢false (sym (c.has_byte.ensures.other h) ∙ c.if-has_byte.false))
+    (λ h. true≢false (sym (c.has_byte-2.ensures.other h) ∙ c.if-not-has_byte.true))
 
 pub read_kind-returns-then-depth-eq-MAX_DEPTH-clause-refused :
     goal.read_kind-returns-then-depth-eq-MAX_DEPTH-clause-refused
@@ -58,16 +58,16 @@ read_properties-returns-then-has_byte-clause-found t c =
     let byte = c.has_byte.ensures.found c.if-has_byte.true in
     let P : List Attribute → Type 0 = λ ps. ArePropertiesAt c.args.bytes.now c.args.start c.args.depth ps (c.in_ok-end.end + 1) in
     subst P (sym c.of.ensures.value)
-      (read_all c.args.bytes.now c.args.start c.args.depth c.loop-props.props c.read_property.new.props found.0 c.loop-props.at c.in_ok-end.end c.loop-props.invariant found.1
-        (subst IsHeading c.of.ensures.value c.of.ensures.whole) byte.1 byte.0)
+    (read_all c.args.bytes.now c.args.start c.args.depth c.loop-props.props c.read_property.new.props found.0 c.loop-props.at c.in_ok-end.end c.loop-props.invariant found.1
+    (subst IsHeading c.of.ensures.value c.of.ensures.whole) byte.1 byte.0)
 
 pub read_properties-returns-then-not-has_byte-clause-refused :
     goal.read_properties-returns-then-not-has_byte-clause-refused
 read_properties-returns-then-not-has_byte-clause-refused t c =
     let found = c.in_ok-end.ensures.found in
     read_stops c.args.bytes.now c.args.start c.args.depth c.loop-props.props c.read_property.new.props found.0 c.loop-props.at c.in_ok-end.end c.loop-props.invariant found.1
-      (λ h. true≢false (sym (c.has_byte.ensures.other h) ∙ c.if-has_byte.false))
-      (λ h. true≢false (sym (c.has_byte-in-loop-props.ensures.other h) ∙ c.if-not-has_byte.true))
+    (λ h. true≢false (sym (c.has_byte.ensures.other h) ∙ c.if-has_byte.false))
+    (λ h. true≢false (sym (c.has_byte-in-loop-props.ensures.other h) ∙ c.if-not-has_byte.true))
 
 pub read_properties-loop-props-preserved : goal.read_properties-loop-props-preserved
 read_properties-loop-props-preserved t c =
@@ -87,7 +87,7 @@ read_property-read_kind-requires t c =
     let found = name_of_old c.args.bytes.now c.args.at c.as_slice.result.now c.args.props.now c.in_ok-name.name c.as_slice.ensures.value c.in_ok-name.ensures.found in
     let end : c.args.at + length c.as_bytes.result.now ≡ c.args.at + length c.in_ok-name.name = ap (λ (w : List ℕ). c.args.at + length w) c.as_bytes.ensures.value in
     let within : c.args.at + length c.as_bytes.result.now ≤ length c.args.bytes.now =
-      omega (arith, end, name_within c.args.bytes.now c.args.at (names_of c.args.props.now) c.in_ok-name.name found c.requires.within) in
+    omega (arith, end, name_within c.args.bytes.now c.args.at (names_of c.args.props.now) c.in_ok-name.name found c.requires.within) in
     (omega (arith, c.decreases), (within, (ap (name_at c.args.bytes.now) end ∙ name_ended c.args.bytes.now c.args.at (names_of c.args.props.now) c.in_ok-name.name found, (c.requires.open, c.requires.shallow))))
 
 pub read_property-returns-in_err-kind-clause-refused :

@@ -44,4 +44,4 @@ returns-clause-found c =
     let named = subst (IsNameAt c.args.bytes.now 0 []) (sym c.as_bytes-name_end.ensures.value) c.in_ok-name.ensures.found in
     let P : List ℕ → Type 0 = λ name. Spells c.args.bytes.now name c.in_ok-schema.schema in
     subst P c.as_bytes-name_end.ensures.value
-      (is_spelled c.args.bytes.now lent named c.in_ok-schema.schema c.in_ok-schema.end (c.has_byte.ensures.found c.if-not-has_byte.false).1 c.in_ok-schema.ensures.found c.if-end-bytes.false)
+    (is_spelled c.args.bytes.now lent named c.in_ok-schema.schema c.in_ok-schema.end (c.has_byte.ensures.found c.if-not-has_byte.false).1 c.in_ok-schema.ensures.found c.if-end-bytes.false)
