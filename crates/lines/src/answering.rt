@@ -17,7 +17,7 @@ const LIMIT_REPLY: &[u8] = b"err 8 limit\n";
 
 /// Answers a line and says the answer whole. What is held of the line is all of it, or its first `MAX_LINE + 1` bytes
 /// where it is too long.
-pub fn answer_line<H: Host, S: Session<H>>(
+pub(crate) fn answer_line<H: Host, S: Session<H>>(
     session: &mut S,
     host: &mut H,
     held: &[u8],

@@ -35,7 +35,7 @@ fn keep(room: &mut Bytes, bytes: &[u8])
 
 /// Looks at the bytes of a piece: answers each line that ends in it, and keeps the front of the one that does not.
 /// Where a line ends the session, the bytes behind it are not looked at.
-pub fn feed_piece<H: Host, S: Session<H>>(
+pub(crate) fn feed_piece<H: Host, S: Session<H>>(
     session: &mut S,
     host: &mut H,
     room: &mut Bytes,
