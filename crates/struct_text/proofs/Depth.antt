@@ -1,18 +1,11 @@
 -- The brackets that are open, by counts of brackets and by a walk.
-use Rattle.std.proofs.Common.{◌≡◌, ◌≢◌, ◌⊎◌, ℕ, zero, suc, ◌+◌, ◌-◌, ◌<◌, ◌≤◌, Bool, true, false, cond, ◌||◌, ◌&&◌, ◌==◌, nat_lt, List, [], ◌∷◌, ◌++◌, length, take, drop, refl, sym, ◌∙◌, ap, subst, inl, inr, ⊎_elim, arith, Contains, IsTrue, count_by, slice_index, take_while, append_assoc, append-nil, eqb-true, eq-eqb, ltb-true, lt-ltb, ne_eqb, length-append}
-use Rattle.std.specs.List.{list_all}
-use Rattle.std.proofs.lemmas.Bool.{true≢false, and_parts, and_from}
-use Rattle.std.proofs.lemmas.List.{take_at, drop_at, get_or_at, length_push, take-append-le, take-append-drop}
+use Rattle.std.proofs.Common.{◌≡◌, ◌≢◌, ℕ, ◌+◌, Bool, true, false, cond, ◌==◌, List, [], ◌∷◌, length, refl, sym, ◌∙◌, ap, ⊎_elim, arith, count_by, ne_eqb}
+use Rattle.std.proofs.lemmas.Bool.{true≢false}
 use Rattle.std.proofs.lemmas.List.Sums.{sum_by-cons}
-use Rattle.mk_value.specs.Limits.{max_name, max_properties, max_depth}
 use Rattle.mk_value.specs.Names.{is_name_byte}
-use Rattle.struct_text.specs.Bytes.{open_bracket, close_bracket, colon, comma, is_name_start, is_plain_letter, is_floating_letter}
-use Rattle.struct_text.specs.Grammar.{IsWord, IsLooseKind, letter, bracketed, AreLooseProperties, joined, AreListed, none, more, IsLooseOf, IsLoose, BeginsLoose}
-use Rattle.struct_text.specs.Offences.{CanStand, Follows, open_brackets, name_at, StandBefore, IsFirstWrongByte, EndsEarly, IsFloatingKind, OpensTooDeep, IsOneTooMany, BeginsTooLong, RepeatsName, Offends, place_of}
-use Rattle.struct_text.specs.declared.error.StructError.{StructError}
-use Rattle.struct_text.specs.declared.error.StructError.TheVariants.{Syntax, Floating, Repeated, TooDeep, TooMany, TooLong, Memory}
-use Rattle.struct_text.proofs.Walk.{Brackets, State, name_start, in_name, kind, after, stuck, named, behind_colon, is_letter, step, walk, start, walk-append, walk-stuck, Steps, begins, goes_on, opens, has_kind, has_letter, next, closes, seen, walk-word, walk-kind, walk-bracketed, walk-listed}
-use Rattle.struct_text.proofs.Reach.{Open, Behind, nothing, a_list, a_view, a_name, a_colon, a_property, a_text, no_way, behind, begins_from_walk, walk_from_begins}
+use Rattle.struct_text.specs.Bytes.{open_bracket, close_bracket, is_name_start}
+use Rattle.struct_text.specs.Offences.{open_brackets}
+use Rattle.struct_text.proofs.Walk.{Brackets, State, name_start, in_name, kind, after, stuck, named, is_letter, step, walk, start, walk-stuck, Steps, begins, goes_on, opens, has_kind, has_letter, next, closes, seen}
 
 -- how many brackets are open in a state
 abbrev pub depth : State → ℕ

@@ -1,16 +1,16 @@
 -- The first flaw that a walk finds is the first offence of the text.
-use Rattle.std.proofs.Common.{◌≡◌, ◌≢◌, ◌⊎◌, ℕ, zero, suc, ◌+◌, ◌<◌, ◌≤◌, Bool, true, false, cond, List, [], ◌∷◌, ◌++◌, length, refl, sym, ◌∙◌, ap, subst, inl, inr, ⊎_elim, arith, Option, Some, None, MatchOption, append_assoc, append-nil, length-append, eq-or-lt_of_le}
+use Rattle.std.proofs.Common.{◌≡◌, ◌≢◌, ℕ, ◌+◌, ◌≤◌, Bool, true, false, cond, List, [], ◌∷◌, ◌++◌, length, refl, sym, ◌∙◌, ap, subst, inl, inr, ⊎_elim, arith, Option, Some, None, MatchOption, append_assoc, append-nil, eq-or-lt_of_le}
 use Rattle.std.proofs.lemmas.Bool.{true≢false}
 use Rattle.std.proofs.lemmas.List.{length_push}
 use Rattle.struct_text.specs.Grammar.{IsLoose}
 use Rattle.struct_text.specs.Offences.{Offends, IsFirstOffence, Precedes, place_of, rank_of, EndsEarly}
 use Rattle.struct_text.specs.declared.error.StructError.{StructError}
 use Rattle.struct_text.specs.declared.error.StructError.TheVariants.{Syntax, Floating, Repeated, TooDeep, TooMany, TooLong, Memory}
-use Rattle.struct_text.proofs.Walk.{Brackets, State, name_start, in_name, kind, after, stuck, step, walk, start, walk-append, walk-stuck}
+use Rattle.struct_text.proofs.Walk.{State, name_start, in_name, kind, after, stuck, step, walk, start, walk-append, walk-stuck}
 use Rattle.struct_text.proofs.Reach.{ends_well, loose_from_walk, walk_from_loose}
 use Rattle.struct_text.specs.Flaws.{flaw}
-use Rattle.struct_text.proofs.Flaws.{is_stuck, is_whole, floats, deepens, is_full, is_long, repeats, first_of_six, or_else, first_flaw, Holds, IsPicked, picks}
-use Rattle.struct_text.proofs.Local.{alive_by_test, Tests, test_of_offence, offence_of_test}
+use Rattle.struct_text.proofs.Flaws.{is_stuck, is_whole, floats, deepens, is_full, is_long, repeats, or_else, first_flaw, IsPicked, picks}
+use Rattle.struct_text.proofs.Local.{Tests, test_of_offence, offence_of_test}
 
 -- no offence stands before the place
 abbrev pub CleanTo : List ℕ → ℕ → Type 0

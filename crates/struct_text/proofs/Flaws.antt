@@ -1,10 +1,8 @@
 -- The first of the tests for flaws, and names among names.
-use Rattle.std.proofs.Common.{◌≡◌, ◌≢◌, ◌⊎◌, ℕ, zero, suc, ◌+◌, ◌<◌, ◌≤◌, Bool, true, false, cond, not, ◌||◌, ◌&&◌, ◌==◌, nat_lt, List, [], ◌∷◌, ◌++◌, length, refl, sym, ◌∙◌, ap, inl, inr, ⊎_elim, Option, Some, None, MatchOption, arith, Contains, IsTrue, Decides, take_while}
+use Rattle.std.proofs.Common.{◌≡◌, ◌⊎◌, ℕ, zero, suc, ◌≤◌, Bool, true, false, List, [], ◌∷◌, refl, sym, inl, inr, ⊎_elim, MatchOption, arith, Contains}
 use Rattle.std.proofs.lemmas.Bool.{true≢false, or_left, or_right, or_cases}
 use Rattle.std.specs.Cmp.Lexicographic.{bytes_decides}
-use Rattle.mk_value.specs.Limits.{max_name, max_properties, max_depth}
-use Rattle.mk_value.specs.Names.{is_name_byte, same_bytes}
-use Rattle.struct_text.specs.Bytes.{open_bracket, is_floating_letter}
+use Rattle.mk_value.specs.Names.{same_bytes}
 use Rattle.struct_text.specs.Offences.{place_of, rank_of}
 use Rattle.struct_text.specs.declared.error.StructError.{StructError}
 use Rattle.struct_text.specs.declared.error.StructError.TheVariants.{Syntax, Floating, Repeated, TooDeep, TooMany, TooLong, Memory}

@@ -1,11 +1,11 @@
 -- A letter where a kind stands: the letter of a domain, or what refuses it.
-use Rattle.std.proofs.Common.{◌≡◌, ℕ, ◌+◌, ◌<◌, ◌≤◌, Bool, true, false, List, [], ◌∷◌, ◌++◌, length, drop, refl, sym, ◌∙◌, ap}
+use Rattle.std.proofs.Common.{◌≡◌, ℕ, ◌+◌, ◌<◌, ◌≤◌, true, false, List, ◌∷◌, ◌++◌, length, drop, refl, sym, ◌∙◌, ap}
 use Rattle.std.proofs.lemmas.Bool.{or_left, or_from}
 use Rattle.std.proofs.lemmas.List.{drop_all}
 use Rattle.mk_value.specs.Heading.{Domain}
 use Rattle.struct_text.specs.Bytes.{colon, is_plain_letter, is_floating_letter}
 use Rattle.struct_text.specs.declared.error.StructError.TheVariants.{Syntax, Floating}
-use Rattle.struct_text.specs.Walk.{Brackets, kind, after}
+use Rattle.struct_text.specs.Walk.{kind}
 use Rattle.struct_text.specs.Flaws.{first_flaw}
 use Rattle.struct_text.specs.Reading.{HasByte, IsLetterOf, IsLetterAt, RefusesLetter}
 use Rattle.struct_text.proofs.Moves.{ends_early, over_letter, floating_letter, no_letter}

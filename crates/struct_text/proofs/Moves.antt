@@ -1,13 +1,13 @@
 -- How the first flaw from one place on is that from a later place on, or stands right there.
-use Rattle.std.proofs.Common.{◌≡◌, ◌≢◌, ◌⊎◌, ℕ, zero, suc, ◌+◌, ◌<◌, ◌≤◌, Bool, true, false, cond, not, ◌||◌, ◌&&◌, ◌==◌, nat_lt, List, [], ◌∷◌, ◌++◌, length, take, drop, refl, sym, ◌∙◌, ap, subst, inl, inr, ⊎_elim, arith, Option, Some, None, take_while, append_assoc, append-nil, get_or, add-zero, eqb-true}
-use Rattle.std.proofs.lemmas.Bool.{true≢false, and_parts, cases_Bool, or_right}
+use Rattle.std.proofs.Common.{◌≡◌, ℕ, ◌+◌, ◌<◌, ◌≤◌, Bool, true, false, cond, not, ◌&&◌, ◌==◌, nat_lt, List, [], ◌∷◌, ◌++◌, length, drop, refl, sym, ◌∙◌, ap, subst, ⊎_elim, arith, Option, Some, None, take_while, append_assoc, append-nil, get_or, add-zero, eqb-true}
+use Rattle.std.proofs.lemmas.Bool.{and_parts, cases_Bool, or_right}
 use Rattle.std.proofs.lemmas.List.{drop_more, drop_all}
 use Rattle.std.proofs.lemmas.List.Sums.{take_while-cons}
 use Rattle.mk_value.specs.Limits.{max_name, max_properties, max_depth}
 use Rattle.mk_value.specs.Names.{is_name_byte}
 use Rattle.struct_text.specs.Bytes.{open_bracket, close_bracket, colon, comma, is_name_start, is_plain_letter, is_floating_letter}
 use Rattle.struct_text.specs.declared.error.StructError.{StructError}
-use Rattle.struct_text.specs.declared.error.StructError.TheVariants.{Syntax, Floating, Repeated, TooDeep, TooMany, TooLong, Memory}
+use Rattle.struct_text.specs.declared.error.StructError.TheVariants.{Syntax, Floating, TooDeep}
 use Rattle.struct_text.specs.Walk.{Brackets, State, name_start, in_name, kind, after, stuck, named, behind_colon, is_letter, step}
 use Rattle.struct_text.specs.Flaws.{is_stuck, is_whole, floats, deepens, is_full, is_long, has_name, repeats, first_of_six, flaw, or_else, first_flaw}
 use Rattle.struct_text.proofs.Walk.{name_byte}

@@ -1,7 +1,7 @@
 -- A name at a place of a text: when it may stand there, and what refuses it.
-use Rattle.std.proofs.Common.{◌≡◌, ◌⊎◌, ℕ, zero, suc, ◌+◌, ◌-◌, ◌<◌, ◌≤◌, Bool, true, false, cond, not, ◌||◌, ◌&&◌, ◌==◌, nat_lt, List, [], ◌∷◌, ◌++◌, length, take, drop, refl, sym, ◌∙◌, ap, subst, inl, inr, ⊎_elim, arith, Some, None, take_while, get_or, Contains, slice_index, eq-eqb, lt-ltb, le-ltb, ltb-false}
-use Rattle.std.specs.List.{AllPass, list_any, prefix_len}
-use Rattle.std.proofs.lemmas.Bool.{true≢false, and_parts, cases_Bool, not-true, eqb-false, ne_eqb}
+use Rattle.std.proofs.Common.{◌≡◌, ℕ, ◌+◌, ◌<◌, ◌≤◌, Bool, true, false, not, ◌||◌, ◌==◌, nat_lt, List, [], ◌∷◌, length, drop, refl, sym, ◌∙◌, ap, subst, ⊎_elim, arith, Some, None, get_or, Contains, slice_index, eq-eqb, lt-ltb, le-ltb}
+use Rattle.std.specs.List.{AllPass, list_any}
+use Rattle.std.proofs.lemmas.Bool.{true≢false, and_parts, cases_Bool, not-true, ne_eqb}
 use Rattle.std.proofs.lemmas.List.{drop_more}
 use Rattle.std.proofs.lemmas.List.Elements.{All-cons}
 use Rattle.std.specs.Char.{is_ascii_digit}
@@ -10,11 +10,10 @@ use Rattle.mk_value.specs.Names.{IsName, is_name_byte, same_bytes}
 use Rattle.mk_value.specs.Heading.{Attribute, names_of}
 use Rattle.struct_text.specs.Bytes.{is_name_start}
 use Rattle.struct_text.specs.declared.error.StructError.TheVariants.{Syntax, TooMany, TooLong, Repeated}
-use Rattle.struct_text.specs.Walk.{Brackets, name_start}
-use Rattle.struct_text.specs.Flaws.{has_name, first_of_six, flaw}
+use Rattle.struct_text.specs.Flaws.{has_name, first_of_six}
 use Rattle.struct_text.specs.Offences.{name_at}
 use Rattle.struct_text.specs.Reading.{IsNameAt, RefusesName}
-use Rattle.struct_text.proofs.Flaws.{has_name-from, Contains-from}
+use Rattle.struct_text.proofs.Flaws.{has_name-from}
 use Rattle.struct_text.proofs.Moves.{run, run-yes, run-no, name_flaw_at, name_at_end}
 
 -- among the names of properties, or among the properties

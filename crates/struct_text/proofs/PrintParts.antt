@@ -1,5 +1,5 @@
 -- Appending one thing after another.
-use Rattle.std.proofs.Common.{◌≡◌, ℕ, zero, suc, ◌+◌, ◌-◌, ◌<◌, ◌≤◌, List, [], ◌∷◌, ◌++◌, length, take, drop, refl, sym, ◌∙◌, ap, subst, arith, append_assoc, append-nil, length-append, inl, inr, ⊎_elim, add-one, get_or, take-append-drop, OnOk, OnErr, IsOk}
+use Rattle.std.proofs.Common.{◌≡◌, ℕ, suc, ◌+◌, ◌-◌, ◌<◌, ◌≤◌, List, [], ◌∷◌, ◌++◌, length, take, drop, refl, sym, ◌∙◌, ap, subst, arith, append_assoc, append-nil, length-append, ⊎_elim, add-one, get_or, take-append-drop, OnOk, OnErr, IsOk}
 use Rattle.std.specs.Prelude.{Result, Ok, Err}
 use Rattle.std.proofs.lemmas.Bool.{true≢false, cases_lt, and_parts}
 use Rattle.std.proofs.lemmas.Grind.{flat_map-append}
@@ -13,9 +13,6 @@ use Rattle.mk_value.specs.Heading.{Attribute, heading_of}
 use Rattle.struct_text.specs.Bytes.{comma}
 use Rattle.struct_text.specs.Spelling.{spelled_domain, spelled_properties}
 use Rattle.struct_text.specs.Printing.{IsAppended, IsCutOff, Appends, spelled_property, spelled_others}
-
-pub append_nothing : (b : Buffer) → IsAppended b b []
-append_nothing b = record { at_end = sym (append-nil b.bytes); spare = omega arith }
 
 pub append_both : {old mid new : Buffer} {x y : List ℕ} → IsAppended old mid x → IsAppended mid new y → IsAppended old new (x ++ y)
 append_both {old} {mid} {new} {x} {y} h k = record {

@@ -1,19 +1,18 @@
 -- One property, and a list of them: what they spell, and how the walk goes over them.
-use Rattle.std.proofs.Common.{◌≡◌, ◌≢◌, ◌⊎◌, ℕ, zero, suc, ◌+◌, ◌-◌, ◌<◌, ◌≤◌, max, Bool, true, false, cond, ◌==◌, List, [], ◌∷◌, ◌++◌, length, take, drop, map, refl, sym, ◌∙◌, ap, subst, inl, inr, ⊎_elim, arith, Some, None, get_or, Contains, AllPairs, append_assoc, append-nil, eq-eqb, length-drop, drop-drop}
-use Rattle.std.specs.List.{flat_map}
+use Rattle.std.proofs.Common.{◌≡◌, ◌≢◌, ℕ, zero, suc, ◌+◌, ◌<◌, ◌≤◌, max, List, [], ◌∷◌, ◌++◌, length, drop, refl, sym, ◌∙◌, ap, subst, inl, inr, ⊎_elim, arith, get_or, Contains, AllPairs, append_assoc, eq-eqb, length-drop, drop-drop}
 use Rattle.std.proofs.lemmas.Bool.{cases_Bool, ne_eqb}
 use Rattle.std.proofs.lemmas.List.{map-append, length-map, flat_map_more, length_push}
 use Rattle.std.proofs.lemmas.List.Quantifiers.{all_pairs_push}
 use Rattle.mk_value.specs.Limits.{max_properties, max_depth}
 use Rattle.mk_value.specs.Names.{is_name_byte}
-use Rattle.mk_value.specs.Heading.{Domain, relation, Heading, no_attributes, attribute, Attribute, names_of, heading_of, domain_depth, heading_depth, depth_of, IsDomain, IsWithinLimits, IsHeading}
+use Rattle.mk_value.specs.Heading.{Domain, relation, Attribute, names_of, heading_of, domain_depth, heading_depth, IsWithinLimits, IsHeading}
 use Rattle.mk_value.proofs.Headings.{IsDomain-relation}
 use Rattle.struct_text.specs.Bytes.{open_bracket, close_bracket, colon, comma}
 use Rattle.struct_text.specs.Spelling.{spelled_domain, spelled_properties}
 use Rattle.struct_text.specs.declared.error.StructError.{StructError}
-use Rattle.struct_text.specs.declared.error.StructError.TheVariants.{Syntax, TooDeep, Memory}
+use Rattle.struct_text.specs.declared.error.StructError.TheVariants.{Syntax, TooDeep}
 use Rattle.struct_text.specs.Offences.{name_at}
-use Rattle.struct_text.specs.Walk.{Brackets, name_start, in_name, kind, after, named}
+use Rattle.struct_text.specs.Walk.{Brackets, name_start, in_name, after}
 use Rattle.struct_text.specs.Flaws.{first_flaw}
 use Rattle.struct_text.specs.Reading.{HasByte, IsNameAt, RefusesName, IsLetterAt, RefusesLetter, IsKindAt, RefusesKind, AddsProperty, RefusesProperty, spelled_list, IsReadTo, ArePropertiesAt}
 use Rattle.struct_text.proofs.Moves.{here, run, run-yes, run-no, over_name, over_colon, over_open, too_deep, no_kind, over_comma, over_close, no_more}
@@ -160,21 +159,6 @@ other_names properties a fresh k d l e = fresh (k, omega (arith, l, length-map p
     name_at_place (x ∷ properties) (suc k) a d l = name_at_place properties k a d (omega arith)
 
 module _ (bytes : List ℕ) (start depth : ℕ) where
-  pub read_nothing : start ≤ length bytes → depth ≤ max_depth → IsReadTo bytes start depth [] start
-  read_nothing l m = record {
-    within = l;
-    forward = omega arith;
-    spelled = refl;
-    reaches = λ outer d. refl;
-    few = omega arith;
-    distinct = λ i j d p q. absurd (omega (arith, p, q));
-    shallow = omega (arith, m);
-  }
-
-  pub read_refused : (properties : List Attribute) (at : ℕ) (e : StructError) → IsReadTo bytes start depth properties at → RefusesProperty bytes at depth properties e → RefusesProperty bytes start depth [] e
-  read_refused properties at e r (inl h) = inl h
-  read_refused properties at e r (inr h) = inr (λ outer d. r.reaches outer d ∙ h outer d)
-
   module _ (old new : List Attribute) (a : Attribute) (at end : ℕ) (r : IsReadTo bytes start depth old at) (h : AddsProperty bytes at depth old new a end) where
     reaches_end : (outer : Brackets) → length outer + 1 ≡ depth → first_flaw (name_start ([] ∷ outer)) start (drop start bytes) ≡ first_flaw (after (names_of new ∷ outer)) end (drop end bytes)
     reaches_end outer d = r.reaches outer d ∙ h.reaches outer d

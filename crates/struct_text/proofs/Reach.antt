@@ -1,11 +1,11 @@
 -- What a walk that isn't stuck has behind it, and that it can end well.
-use Rattle.std.proofs.Common.{◌≡◌, ◌≢◌, ◌⊎◌, ℕ, ◌+◌, Bool, true, false, cond, ◌||◌, ◌==◌, List, [], ◌∷◌, ◌++◌, refl, sym, ◌∙◌, ap, inl, inr, append_assoc, append-nil, subst, IsTrue}
+use Rattle.std.proofs.Common.{◌≡◌, ◌≢◌, ◌⊎◌, ℕ, true, List, [], ◌∷◌, ◌++◌, refl, sym, ◌∙◌, ap, inl, inr, append_assoc, append-nil, subst}
 use Rattle.std.specs.List.{list_all}
 use Rattle.std.proofs.lemmas.Bool.{and_from, and_parts, or_cases}
 use Rattle.mk_value.specs.Names.{is_name_byte}
-use Rattle.struct_text.specs.Bytes.{open_bracket, close_bracket, colon, comma, is_name_start, is_plain_letter, is_floating_letter}
-use Rattle.struct_text.specs.Grammar.{IsWord, IsLooseKind, letter, bracketed, AreLooseProperties, joined, AreListed, none, more, IsLooseOf, IsLoose, BeginsLoose}
-use Rattle.struct_text.proofs.Walk.{Brackets, State, name_start, in_name, kind, after, stuck, named, behind_colon, is_letter, step, walk, start, walk-append, walk-stuck, Steps, begins, goes_on, opens, has_kind, has_letter, next, closes, seen, walk-word, walk-kind, walk-bracketed, walk-listed}
+use Rattle.struct_text.specs.Bytes.{open_bracket, close_bracket, colon, comma, is_plain_letter, is_floating_letter}
+use Rattle.struct_text.specs.Grammar.{IsWord, IsLooseKind, letter, bracketed, AreLooseProperties, joined, AreListed, none, more, IsLoose, BeginsLoose}
+use Rattle.struct_text.proofs.Walk.{Brackets, State, name_start, in_name, kind, after, stuck, step, walk, start, walk-append, walk-stuck, Steps, begins, goes_on, opens, has_kind, has_letter, next, closes, seen, walk-word, walk-bracketed}
 
 -- Bytes up to a name whose bracket is open now: the view's name, or for each bracket the properties before and a name.
 pub data Open : Brackets → List ℕ → Type 0 where

@@ -1,14 +1,14 @@
 -- The walk finds no flaw in the spelling of a structure.
-use Rattle.std.proofs.Common.{◌≡◌, ◌≢◌, ◌⊎◌, ℕ, zero, suc, ◌+◌, ◌<◌, ◌≤◌, Bool, true, false, ◌==◌, List, [], ◌∷◌, ◌++◌, length, take, drop, refl, sym, ◌∙◌, ap, subst, inl, inr, ⊎_elim, arith, None, get_or, Contains, AllPairs, append_assoc, le-ltb}
-use Rattle.std.proofs.lemmas.Bool.{true≢false, ne_eqb, false_from_ne_true}
+use Rattle.std.proofs.Common.{◌≡◌, ◌≢◌, ◌⊎◌, ℕ, suc, ◌+◌, ◌<◌, ◌≤◌, List, [], ◌∷◌, ◌++◌, length, drop, refl, sym, ◌∙◌, ap, subst, inl, inr, ⊎_elim, arith, None, get_or, Contains, AllPairs, append_assoc, le-ltb}
+use Rattle.std.proofs.lemmas.Bool.{ne_eqb, false_from_ne_true}
 use Rattle.std.proofs.lemmas.List.{drop_at, length_push}
 use Rattle.mk_value.specs.Limits.{max_name, max_properties, max_depth}
 use Rattle.mk_value.specs.Names.{IsName}
-use Rattle.mk_value.specs.Heading.{Domain, integer, long, text, bytes, relation, Heading, no_attributes, attribute, Attribute, attributes_of, heading_of, domain_depth, heading_depth, IsDomain, AreAttributes, IsWithinLimits, IsHeading}
+use Rattle.mk_value.specs.Heading.{Domain, integer, long, text, bytes, relation, Heading, no_attributes, attribute, Attribute, attributes_of, heading_of, domain_depth, heading_depth, IsDomain, AreAttributes, IsWithinLimits}
 use Rattle.mk_value.proofs.Headings.{AreAttributes-heading_of, attributes_of-heading_of}
-use Rattle.struct_text.specs.Bytes.{open_bracket, close_bracket, colon, comma, is_name_start}
-use Rattle.struct_text.specs.Spelling.{spelled_domain, spelled_properties, spelling, Spells}
-use Rattle.struct_text.specs.Walk.{Brackets, State, name_start, in_name, kind, after, named, start}
+use Rattle.struct_text.specs.Bytes.{open_bracket, close_bracket, colon, comma}
+use Rattle.struct_text.specs.Spelling.{spelled_domain, spelled_properties, Spells}
+use Rattle.struct_text.specs.Walk.{Brackets, State, name_start, in_name, kind, after, start}
 use Rattle.struct_text.specs.Flaws.{has_name, flaw, first_flaw}
 use Rattle.struct_text.proofs.Flaws.{Contains-from, Contains-head, Contains-tail, Contains-cases}
 use Rattle.struct_text.proofs.Moves.{run, run-no, root_flaw, name_flaw, over_name, over_colon, over_open, over_letter, over_comma, over_close, whole_end}

@@ -1,16 +1,15 @@
 -- No two structures have the same spelling.
-use Rattle.std.proofs.Common.{◌≡◌, ◌⊎◌, ℕ, zero, suc, ◌+◌, ◌<◌, ◌≤◌, Bool, true, false, not, ◌&&◌, List, [], ◌∷◌, ◌++◌, length, take, drop, refl, sym, ◌∙◌, ap, subst, inl, inr, ⊎_elim, arith, get_or, slice_index, append_assoc, All}
-use Rattle.std.specs.List.{AllPass, list_all}
-use Rattle.std.proofs.lemmas.Bool.{true≢false, and_parts, and_from, not_from_false}
+use Rattle.std.proofs.Common.{◌≡◌, ℕ, true, false, not, List, [], ◌∷◌, ◌++◌, drop, refl, sym, ◌∙◌, ap, arith, get_or, append_assoc}
+use Rattle.std.specs.List.{AllPass}
+use Rattle.std.proofs.lemmas.Bool.{true≢false, and_from, not_from_false}
 use Rattle.std.proofs.lemmas.List.{append_cancel_left}
 use Rattle.std.proofs.lemmas.List.Elements.{All-head, All-tail}
-use Rattle.std.proofs.lemmas.List.Sums.{list_all-from_AllPass}
 use Rattle.std.specs.Char.{is_ascii_digit}
 use Rattle.mk_value.specs.Names.{IsName, is_name_byte}
-use Rattle.mk_value.specs.Heading.{Domain, integer, long, text, bytes, relation, Heading, no_attributes, attribute, Attribute, heading_of, IsDomain, AreAttributes, IsHeading}
+use Rattle.mk_value.specs.Heading.{Domain, integer, long, text, bytes, relation, Heading, no_attributes, attribute, Attribute, heading_of, IsDomain, AreAttributes}
 use Rattle.mk_value.proofs.Headings.{AreAttributes-heading_of, heading_of-injective}
-use Rattle.struct_text.specs.Bytes.{open_bracket, close_bracket, colon, comma, is_name_start}
-use Rattle.struct_text.specs.Spelling.{spelled_domain, spelled_properties, spelling, Spells}
+use Rattle.struct_text.specs.Bytes.{open_bracket, close_bracket, comma, is_name_start}
+use Rattle.struct_text.specs.Spelling.{spelled_domain, spelled_properties, Spells}
 use Rattle.struct_text.proofs.Moves.{run, run-yes, run-no}
 
 -- A name is the run at the front of what it begins.

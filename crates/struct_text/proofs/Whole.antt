@@ -1,21 +1,21 @@
 -- A whole text: the view's name, its brackets, and what each result of reading says.
-use Rattle.std.proofs.Common.{◌≡◌, ◌⊎◌, ℕ, zero, suc, ◌+◌, ◌<◌, ◌≤◌, false, List, [], ◌∷◌, ◌++◌, length, take, drop, refl, sym, ◌∙◌, ap, subst, inl, inr, ⊎_elim, arith, Option, Some, None, MatchOption, append_assoc, zero-add, eq-or-lt_of_le}
+use Rattle.std.proofs.Common.{◌≡◌, ◌⊎◌, ℕ, zero, suc, ◌+◌, List, [], ◌∷◌, ◌++◌, length, drop, refl, sym, ◌∙◌, ap, subst, inl, inr, arith, Option, Some, None, zero-add}
 use Rattle.std.specs.Prelude.{Result, Ok, Err, IfOk, IfErr}
 use Rattle.std.proofs.lemmas.List.{drop_all, drop_more}
-use Rattle.mk_value.specs.Heading.{Attribute, heading_of, IsHeading}
+use Rattle.mk_value.specs.Heading.{Attribute, heading_of}
 use Rattle.struct_text.specs.Bytes.{open_bracket, close_bracket}
-use Rattle.struct_text.specs.Spelling.{spelled_properties, spelling, Spells}
+use Rattle.struct_text.specs.Spelling.{spelled_properties, Spells}
 use Rattle.struct_text.specs.declared.error.StructError.{StructError}
 use Rattle.struct_text.specs.declared.error.StructError.TheVariants.{Syntax, Floating, Repeated, TooDeep, TooMany, TooLong, Memory}
 use Rattle.struct_text.specs.Offences.{name_at, Offends, IsFirstOffence, Precedes, place_of, rank_of}
-use Rattle.struct_text.specs.Walk.{Brackets, name_start, in_name, after, start}
-use Rattle.struct_text.specs.Flaws.{flaw, first_flaw}
+use Rattle.struct_text.specs.Walk.{name_start, in_name, after, start}
+use Rattle.struct_text.specs.Flaws.{first_flaw}
 use Rattle.struct_text.specs.Reading.{HasByte, IsNameAt, RefusesName, RefusesProperty, ArePropertiesAt}
 use Rattle.struct_text.specs.Grammar.{IsLoose}
 use Rattle.struct_text.proofs.Reach.{loose_from_walk}
 use Rattle.struct_text.proofs.FirstFlaw.{Found, finds_all}
-use Rattle.struct_text.proofs.Moves.{here, run, root_flaw, over_name, over_open, no_bracket, whole_end, past_end}
-use Rattle.struct_text.proofs.PropertyParts.{HasByte-from, behind_name, name_ended, name_spelled}
+use Rattle.struct_text.proofs.Moves.{here, root_flaw, over_name, over_open, no_bracket, whole_end, past_end}
+use Rattle.struct_text.proofs.PropertyParts.{HasByte-from, name_ended, name_spelled}
 use Rattle.struct_text.proofs.Strict.{no_flaw_in_spelling}
 use Rattle.struct_text.proofs.Unique.{one_structure}
 

@@ -1,10 +1,10 @@
 -- The flaws that the parser's walk tests for at each place.
-use Rattle.std.specs.Prelude.{ℕ, ◌+◌, Bool, true, false, cond, not, ◌||◌, ◌&&◌, ◌==◌, nat_lt, List, [], ◌∷◌, length, Option, Some, None, take_while}
+use Rattle.std.specs.Prelude.{ℕ, ◌+◌, Bool, true, false, cond, ◌||◌, ◌&&◌, ◌==◌, nat_lt, List, [], ◌∷◌, length, Option, Some, None, take_while}
 use Rattle.mk_value.specs.Limits.{max_name, max_properties, max_depth}
 use Rattle.mk_value.specs.Names.{is_name_byte, same_bytes}
 use Rattle.struct_text.specs.Bytes.{open_bracket, is_floating_letter}
 use Rattle.struct_text.specs.declared.error.StructError.{StructError}
-use Rattle.struct_text.specs.declared.error.StructError.TheVariants.{Syntax, Floating, Repeated, TooDeep, TooMany, TooLong, Memory}
+use Rattle.struct_text.specs.declared.error.StructError.TheVariants.{Syntax, Floating, Repeated, TooDeep, TooMany, TooLong}
 use Rattle.struct_text.specs.Walk.{State, name_start, in_name, kind, after, stuck, step}
 
 abbrev pub is_stuck : State → Bool

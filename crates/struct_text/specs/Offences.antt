@@ -1,5 +1,5 @@
 -- The offences of a text against the rules of structure texts, each with its place.
-use Rattle.std.specs.Prelude.{◌≡◌, ◌≢◌, ◌⊎◌, ℕ, ◌+◌, ◌-◌, ◌<◌, ◌≤◌, List, [], ◌∷◌, ◌++◌, length, take, drop, IsTrue, Contains, count_by, slice_index, take_while, ◌==◌}
+use Rattle.std.specs.Prelude.{◌≡◌, ◌⊎◌, ℕ, ◌+◌, ◌-◌, ◌<◌, ◌≤◌, List, [], ◌∷◌, ◌++◌, length, take, drop, IsTrue, Contains, count_by, slice_index, take_while, ◌==◌}
 use Rattle.mk_value.specs.Limits.{max_name, max_properties, max_depth}
 use Rattle.mk_value.specs.Names.{is_name_byte}
 use Rattle.struct_text.specs.Bytes.{open_bracket, close_bracket, colon, comma, is_floating_letter}

@@ -1,5 +1,5 @@
 -- What printing does to the text that it appends to, also where memory runs out.
-use Rattle.std.specs.Prelude.{◌≡◌, ℕ, ◌+◌, ◌<◌, ◌≤◌, List, [], ◌∷◌, ◌++◌, length, Result, Ok, Err, flat_map}
+use Rattle.std.specs.Prelude.{◌≡◌, ℕ, ◌+◌, ◌<◌, ◌≤◌, List, ◌∷◌, ◌++◌, length, Result, Ok, Err, flat_map}
 use Rattle.mk_value.specs.Buffer.{Buffer}
 use Rattle.mk_value.specs.Heading.{Attribute}
 use Rattle.struct_text.specs.Bytes.{comma}

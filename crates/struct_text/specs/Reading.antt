@@ -1,5 +1,5 @@
 -- What the parser's parts find, in terms of its walk.
-use Rattle.std.specs.Prelude.{true, false, ◌≡◌, ◌⊎◌, ℕ, ◌+◌, ◌<◌, ◌≤◌, List, [], ◌∷◌, ◌++◌, length, drop, Contains, AllPairs, ◌≢◌, Option, Some, None, flat_map}
+use Rattle.std.specs.Prelude.{true, false, ◌≡◌, ◌⊎◌, ℕ, ◌+◌, ◌<◌, ◌≤◌, List, [], ◌∷◌, ◌++◌, length, drop, Contains, AllPairs, ◌≢◌, Some, None, flat_map}
 use Rattle.mk_value.specs.Limits.{max_properties, max_depth}
 use Rattle.mk_value.specs.Names.{IsName}
 use Rattle.mk_value.specs.Heading.{Domain, Attribute, names_of, heading_of, domain_depth, heading_depth, IsDomain, IsHeading}

@@ -16,11 +16,19 @@ use crate::names::read_name;
 use mk_value::{Kind, MAX_DEPTH, Name, Prop, Props, Schema};
 use std::alloc::Global;
 
-/// Reads a structure text.
+/// Reads a structure text: the name of the view, and its schema.
+///
+/// A text that is none is refused with its first offence, the one at the least place: `StructError` says where each
+/// stands. At one place `TooMany` is tested before `TooLong`, and that before `Repeated`. `Memory` comes where memory
+/// ran out, and says nothing of the text. The time is linear in the text's length, but for the comparison of each name
+/// with those before it in its brackets.
 pub fn parse(alloc: Global, text: &str) -> Result<(Name, Schema), StructError>
+    // What is read, the text spells; what the text spells is read.
     ensures found { IfOk result (λ read. Spells text.now read.0 read.1) }
     ensures accepted { (name : List ℕ) (properties : List Attribute) → Spells text.now name properties
         → (result ≡ Ok (name, properties)) ⊎ (result ≡ Err want_of_memory) }
+
+    // What refuses it is its first offence; its first offence refuses it.
     ensures refused { IfErr result (λ e. (e ≡ want_of_memory) ⊎ IsFirstOffence text.now e) }
     ensures offence { (e : Refusal) → IsFirstOffence text.now e
         → (result ≡ Err e) ⊎ (result ≡ Err want_of_memory) }

@@ -1,8 +1,8 @@
 -- Each test of the code is one of the walk's at the start of a name.
-use Rattle.std.proofs.Common.{◌≡◌, ◌≤◌, ◌<◌, ◌+◌, ◌-◌, ℕ, true, false, List, length, take, drop, sym, ap, subst, ◌∙◌, arith, rules}
+use Rattle.std.proofs.Common.{◌≡◌, ◌≤◌, ◌<◌, ◌+◌, ◌-◌, ℕ, List, length, take, drop, sym, ap, subst, ◌∙◌, arith}
 use Rattle.std.specs.List.{prefix_len}
 use Rattle.std.proofs.lemmas.List.{length-map}
-use Rattle.mk_value.specs.Limits.{max_name, max_properties}
+use Rattle.mk_value.specs.Limits.{max_name}
 use Rattle.mk_value.specs.Names.{IsName, is_name_byte}
 use Rattle.mk_value.specs.Heading.{Attribute, names_of}
 use Rattle.struct_text.specs.Offences.{name_at}

@@ -1,12 +1,12 @@
 -- Each call appends its part, or a front of it, behind what stands there.
-use Rattle.std.proofs.Common.{◌≡◌, ◌≤◌, ◌<◌, ◌+◌, ◌*◌, ℕ, List, [], ◌∷◌, ◌++◌, length, take, drop, get_or, sym, ap, subst, ◌∙◌, arith, rules}
+use Rattle.std.proofs.Common.{◌+◌, ℕ, List, [], ◌∷◌, ◌++◌, drop, get_or, sym, ap, subst, ◌∙◌, arith}
 use Rattle.std.proofs.lemmas.Result.{err_from_is_err_and}
-use Rattle.mk_value.specs.Heading.{Attribute, heading_of, domain_weight, attributes_weight}
+use Rattle.mk_value.specs.Heading.{heading_of, domain_weight}
 use Rattle.mk_value.specs.Kinds.{domain_of}
 use Rattle.mk_value.proofs.Headings.{heading_weight-heading_of, weight_read}
-use Rattle.struct_text.specs.Bytes.{open_bracket, close_bracket, comma}
+use Rattle.struct_text.specs.Bytes.{close_bracket}
 use Rattle.struct_text.specs.Spelling.{spelled_domain, spelled_properties}
-use Rattle.struct_text.specs.Printing.{IsAppended, Appends, spelled_property, spelled_others}
+use Rattle.struct_text.specs.Printing.{Appends, spelled_property, spelled_others}
 use Rattle.struct_text.proofs.PrintParts.{Appends-after, Cut, cut_first, cut_next, spelled_first, next_of, printed_more, cut_at_comma, cut_at_property}
 use Rattle.struct_text.proofs.printing.+print.Goals as goal
 

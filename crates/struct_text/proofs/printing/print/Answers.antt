@@ -1,5 +1,5 @@
 -- A front of the spelling begins with an ASCII byte, so the text may be cut back to what it was.
-use Rattle.std.proofs.Common.{◌≡◌, ℕ, List, ◌++◌, length, sym, ap, subst, ◌∙◌}
+use Rattle.std.proofs.Common.{ℕ, List, ◌++◌, sym, subst}
 use Rattle.std.specs.String.Boundary.{IsSplitPoint}
 use Rattle.mk_value.specs.Heading.{heading_of, relation}
 use Rattle.struct_text.specs.Spelling.{spelled_domain}

@@ -1,12 +1,12 @@
 -- Each exit is one step of the walk, or one of its flaws.
-use Rattle.std.proofs.Common.{◌≡◌, ◌≤◌, ◌<◌, ◌+◌, ℕ, List, [], ◌∷◌, true, false, sym, ap, subst, ◌∙◌, arith, rules, refl, inl, length, IfErr}
+use Rattle.std.proofs.Common.{◌≡◌, ◌≤◌, ◌+◌, ℕ, List, sym, ap, subst, ◌∙◌, arith, length}
 use Rattle.std.proofs.lemmas.Bool.{true≢false}
 use Rattle.std.proofs.lemmas.Result.{err_from_is_err_and}
 use Rattle.mk_value.specs.Kinds.{domain_of}
 use Rattle.mk_value.specs.Heading.{Attribute, names_of, IsHeading}
 use Rattle.struct_text.specs.Offences.{name_at}
-use Rattle.struct_text.specs.Reading.{HasByte, IsNameAt, AddsProperty, RefusesName, RefusesKind, RefusesProperty, IsKindAt, ArePropertiesAt}
-use Rattle.struct_text.proofs.PropertyParts.{kind_by_letter, kind_by_brackets, kind_refused_letter, kind_missing, kind_too_deep, kind_refused_inside, name_ended, name_within, property_found, property_refused_name, property_refused_kind, read_nothing, read_refused, read_more, limits_kept, read_all, read_stops}
+use Rattle.struct_text.specs.Reading.{IsNameAt, RefusesName, RefusesKind, IsKindAt, ArePropertiesAt}
+use Rattle.struct_text.proofs.PropertyParts.{kind_by_letter, kind_by_brackets, kind_refused_letter, kind_missing, kind_too_deep, kind_refused_inside, name_ended, name_within, property_found, property_refused_name, property_refused_kind, read_more, limits_kept, read_all, read_stops}
 use Rattle.struct_text.proofs.reading.+properties.Goals as goal
 
 -- the properties that were lent are those before

@@ -1,5 +1,4 @@
 -- What reading found, in the words of the grammar and of the offences.
-use Rattle.std.proofs.Common.{ℕ, List}
 use Rattle.struct_text.proofs.Whole.{accepts, names_offence, reads_from, refusal}
 use Rattle.struct_text.proofs.reading.parse.Goals as goal
 

@@ -1,8 +1,6 @@
 -- The letter is tested as the walk tests it.
-use Rattle.std.proofs.Common.{◌≡◌, ◌<◌, ◌+◌, ℕ, List, ◌∷◌, ◌++◌, drop, length, true, false, sym, ap, ◌∙◌, arith, rules, refl}
-use Rattle.std.proofs.lemmas.Bool.{or_from, or_left}
+use Rattle.std.proofs.Common.{sym, ◌∙◌}
 use Rattle.mk_value.specs.Kinds.{domain_of}
-use Rattle.struct_text.specs.Bytes.{is_plain_letter, is_floating_letter}
 use Rattle.struct_text.proofs.LetterParts.{letter_ends, letter_floats, letter_wrong, letter_found}
 use Rattle.struct_text.proofs.reading.read_letter.Goals as goal
 

@@ -1,9 +1,8 @@
 -- Each exit is the walk's end, or a flaw of it.
-use Rattle.std.proofs.Common.{◌≡◌, ◌+◌, ℕ, List, [], length, true, false, sym, ap, subst, ◌∙◌, arith, rules, inr}
+use Rattle.std.proofs.Common.{ℕ, List, [], sym, subst, ◌∙◌, inr}
 use Rattle.std.proofs.lemmas.Bool.{true≢false}
 use Rattle.std.proofs.lemmas.Result.{err_from_is_err_and}
-use Rattle.struct_text.specs.Bytes.{open_bracket}
-use Rattle.struct_text.specs.Reading.{HasByte, IsNameAt}
+use Rattle.struct_text.specs.Reading.{IsNameAt}
 use Rattle.struct_text.specs.Spelling.{Spells}
 use Rattle.struct_text.proofs.Whole.{root_refused, no_brackets, inside_refused, goes_past, is_clean, is_spelled}
 use Rattle.struct_text.proofs.reading.read_text.Goals as goal
