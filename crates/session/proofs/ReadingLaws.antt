@@ -1,11 +1,11 @@
 -- How a line reads, by what is known of its bytes.
-use Rattle.std.proofs.Common.{◌≡◌, ℕ, ◌+◌, ◌-◌, ◌≤◌, Bool, true, false, cond, ◌&&◌, eqb, List, [], ◌∷◌, length, codes, refl, ap, ◌∙◌, arith, length-take, length-drop}
+use Rattle.std.proofs.Common.{◌≡◌, ℕ, ◌+◌, ◌-◌, ◌≤◌, Bool, true, false, cond, ◌&&◌, eqb, List, [], ◌∷◌, length, codes, refl, ap, arith, length-take, length-drop}
 use Rattle.std.specs.List.{position_or_len, before_first, after_first, list_all}
 use Rattle.std.specs.Str.{IsUtf8, is_utf8, bytes_eq}
 use Rattle.std.specs.Str.Lossy.{utf8_valid_len}
 use Rattle.std.proofs.lemmas.Str.{is_utf8-from_IsUtf8, IsUtf8-from_is_utf8}
 use Rattle.std.proofs.lemmas.Slice.Eq.{bytes_eq-Decides}
-use Rattle.session.specs.Line.{Reading, blank, leave, structure, unknown, is_space, without_leading, without_trailing, structure_behind, reading_by_word, reading_of_rest, reading_of}
+use Rattle.session.specs.Line.{leave, structure, unknown, is_space, without_leading, without_trailing, structure_behind, reading_by_word, reading_of_rest, reading_of}
 use Rattle.session.proofs.Spaces.{without_leading-no_longer, without_trailing-no_longer}
 
 pub reading_of-text : (line : List ℕ) → IsUtf8 line → reading_of line ≡ reading_of_rest (length line) (without_leading line)

@@ -1,9 +1,9 @@
 -- The lines of each command, whatever spaces stand between and around their words.
-use Rattle.std.proofs.Common.{◌≡◌, ℕ, zero, suc, ◌+◌, ◌-◌, Bool, true, false, cond, ◌&&◌, nat_eq, List, [], ◌∷◌, ◌++◌, length, reverse, replicate, codes, sym, refl, ap, ap₂, ◌∙◌, append-nil, arith, length-append, add-one}
+use Rattle.std.proofs.Common.{◌≡◌, ℕ, zero, suc, ◌+◌, ◌-◌, true, false, cond, List, [], ◌∷◌, ◌++◌, length, reverse, replicate, codes, sym, refl, ap, ap₂, ◌∙◌, append-nil, arith, length-append, add-one}
 use Rattle.std.specs.List.{list_all}
 use Rattle.std.specs.Str.{IsUtf8}
 use Rattle.std.proofs.lemmas.List.{reverse-append, reverse-reverse, length-replicate, replicate-append-replicate}
-use Rattle.session.specs.Line.{Reading, blank, leave, structure, unknown, space, is_space, without_leading, without_trailing, structure_behind, reading_of_rest, reading_of}
+use Rattle.session.specs.Line.{blank, leave, structure, unknown, space, is_space, without_leading, without_trailing, reading_of_rest, reading_of}
 use Rattle.session.proofs.ReadingLaws.{reading_of-text}
 
 abbrev pub spaces : ℕ → List ℕ
@@ -68,17 +68,21 @@ abbrev pub getas_line : ℕ → ℕ → List ℕ → ℕ → List ℕ
 getas_line before between text after = spaces before ++ (codes "getas" ++ (space ∷ (spaces between ++ (text ++ spaces after))))
 
 pub reading_of-getas_line : (before between : ℕ) (byte : ℕ) (bytes : List ℕ) (after : ℕ) → IsBare (byte ∷ bytes)
-  → IsUtf8 (getas_line before between (byte ∷ bytes) after)
-  → reading_of (getas_line before between (byte ∷ bytes) after) ≡ structure (before + 6 + between) (byte ∷ bytes)
+    → IsUtf8 (getas_line before between (byte ∷ bytes) after)
+    → reading_of (getas_line before between (byte ∷ bytes) after) ≡ structure (before + 6 + between) (byte ∷ bytes)
 reading_of-getas_line before between byte bytes after bare utf8 =
     let text : List ℕ = byte ∷ bytes in
     let line = getas_line before between text after in
     let behind : List ℕ = spaces between ++ (text ++ spaces after) in
     let bared : without_leading behind ≡ text ++ spaces after =
-        without_leading-spaces between (text ++ spaces after) ∙ without_leading-bare (text ++ spaces after) bare.front in
-    let place : length line - length (text ++ spaces after) ≡ before + 6 + between = omega (arith
-      , length-append (spaces before) (codes "getas" ++ (space ∷ behind)), length-append (spaces between) (text ++ spaces after)
-      , length-replicate before space, length-replicate between space) in
+    without_leading-spaces between (text ++ spaces after) ∙ without_leading-bare (text ++ spaces after) bare.front in
+    let place : length line - length (text ++ spaces after) ≡ before + 6 + between = omega (
+      arith,
+      length-append (spaces before) (codes "getas" ++ (space ∷ behind)),
+      length-append (spaces between) (text ++ spaces after),
+      length-replicate before space,
+      length-replicate between space,
+    ) in
     reading_of-text line utf8
     ∙ ap (reading_of_rest (length line)) (without_leading-spaces before (codes "getas" ++ (space ∷ behind)))
     ∙ ap (λ rest. structure (length line - length rest) (without_trailing rest)) bared

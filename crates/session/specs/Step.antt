@@ -1,9 +1,9 @@
 -- One line's effect: the reply that it may have in a world, and the world that it leaves.
-use Rattle.std.specs.Prelude.{◌≡◌, ℕ, ◌<◌, ◌≤◌, Bool, true, false, List, [], ◌∷◌, length, ◌⊎◌}
+use Rattle.std.specs.Prelude.{◌≡◌, ℕ, ◌<◌, ◌≤◌, Bool, true, false, List, [], length, ◌⊎◌}
 use Rattle.struct_text.specs.Spelling.{Spells}
 use Rattle.struct_text.specs.Offences.{IsFirstOffence}
 use Rattle.struct_text.specs.declared.error.StructError.{StructError}
-use Rattle.lines.specs.Machine.{Machine, State}
+use Rattle.lines.specs.Machine.{Machine}
 use Rattle.session.specs.declared.refusal.Refusal.{Refusal}
 use Rattle.session.specs.declared.refusal.Refusal.TheVariants.{Memory, Syntax, Limit}
 use Rattle.session.specs.Line.{Reading, blank, leave, structure, unknown, reading_of}

@@ -3,7 +3,7 @@ ghost use Rattle.lines.specs.Lines.{max_line};
 ghost use Rattle.lines.specs.Crash.{IsReady};
 
 use crate::Session;
-use host_io::{Disk, Failed, Host};
+use host_io::{Host, MemHost};
 use lines::{Flow, MAX_LINE, Session as LineSession};
 use mk_value::Text;
 use std::process::Abort;
@@ -21,47 +21,6 @@ fn reply(
     let went = session.step(line, &mut out);
     assert!(rt; went == flow, "at {line:?}");
     Ok(out)
-}
-
-/// A host of which contracts know nothing: an empty file, no input, and an output that takes all.
-struct Mute;
-
-impl Disk for Mute {
-    ghost use Rattle.std.specs.Prelude.{[]};
-
-    ghost tells = { ⊥ };
-
-    ghost outside = { λ _. record { now = record { disk = record { seen = []; synced = []; pending = []; longest = 0 }; said = [] }; past = []; input = []; disk_faults = 0; take_faults = 0; say_faults = 0 } };
-
-    fn attach(&mut self, _name: &str, _create: bool) -> Result<(), Failed> {
-        Ok(())
-    }
-
-    fn len(&mut self) -> Result<u64, Failed> {
-        Ok(0)
-    }
-
-    fn read_at(&mut self, _at: u64, _into: &mut [u8]) -> Result<(), Failed> {
-        Ok(())
-    }
-
-    fn write_at(&mut self, _at: u64, _from: &[u8]) -> Result<(), Failed> {
-        Ok(())
-    }
-
-    fn sync(&mut self) -> Result<(), Failed> {
-        Ok(())
-    }
-}
-
-impl Host for Mute {
-    fn take(&mut self, _into: &mut [u8]) -> Result<usize, Failed> {
-        Ok(0)
-    }
-
-    fn say(&mut self, from: &[u8]) -> Result<usize, Failed> {
-        Ok(from.len())
-    }
 }
 
 /// Answers a line as the loop over lines does.
@@ -170,7 +129,8 @@ fn the_1025th_view_is_refused(rt: HostRuntime) -> Result<(), Fail> {
 fn a_line_is_answered_over_a_host(rt: HostRuntime) -> Result<(), Fail> {
     let mut session = Session::new(rt.alloc());
     let mut out = Text::with_room(rt.alloc(), MAX_LINE + 1)?;
-    let flow = answer(&mut session, &mut Mute, b"getas x[a:I]", &mut out);
+    let mut host = MemHost::new(rt.alloc(), &[], &[], &[], 0, 0)?;
+    let flow = answer(&mut session, &mut host, b"getas x[a:I]", &mut out);
     assert!(rt; flow == Flow::Goes);
     assert_eq!(rt; out.as_str(), "ok x[a:I]\n");
     Ok(())

@@ -1,6 +1,5 @@
-use Rattle.std.proofs.Common.{Some, None, inl, inr, refl, sym, ◌∙◌, subst, arith}
+use Rattle.std.proofs.Common.{Some, None, inl, inr, refl, sym, ◌∙◌, arith}
 use Rattle.session.proofs.Named.{searched, put_found, put_last}
-use Rattle.session.specs.World.{AreViews}
 use Rattle.session.proofs.world.Views.put.Goals as goal
 
 pub invariant_of-self : goal.invariant_of-self
