@@ -101,3 +101,14 @@ module _ {old new : Outside} where
   pub disk-says : {E : Type 0} {result : Result ℕ E} {piece : List ℕ} → Says piece old new result → new.now.disk ≡ old.now.disk
   disk-says {result = Ok n} says = says.ok.1
   disk-says {result = Err e} says = ap (λ (m : Moment). m.disk) says.err.now
+
+  pub IsImage-says : {E : Type 0} {result : Result ℕ E} {piece : List ℕ} (image : List ℕ) → Says piece old new result → IsImage new.now.disk image → IsImage old.now.disk image
+  IsImage-says image says is = subst (λ (d : DiskState). IsImage d image) (disk-says says) is
+
+  pub IsSound-says : {E : Type 0} {result : Result ℕ E} {piece : List ℕ} → Says piece old new result → IsSound old.now.disk → IsSound new.now.disk
+  IsSound-says says sound = subst IsSound (sym (disk-says says)) sound
+
+  -- a sync leaves no image that was not there before it
+  pub IsImage-syncs : {T E : Type 0} {result : Result T E} (image : List ℕ) → Syncs old new result → IsSound old.now.disk → IsImage new.now.disk image → IsImage old.now.disk image
+  IsImage-syncs {result = Ok x} image syncs sound is = subst (IsImage old.now.disk) (sym (IsImage-synced image syncs is)) sound
+  IsImage-syncs {result = Err e} image syncs sound is = IsImage-still image syncs.err is

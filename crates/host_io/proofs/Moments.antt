@@ -104,6 +104,11 @@ pub Left-since : {P : Moment → Type 0} {old new : Outside} (image : List ℕ) 
     → (IsImage old.now.disk image × (n ≡ length old.now.said)) ⊎ LeftBy P image n
 Left-since {P} {old} {new} image n goes left = ⊎_elim (λ before. inl (only_now old image n before)) (λ by. inr by) (Left-goes (moment old) image n goes left)
 
+-- after one call: it was left before, or it is left by the new moment
+pub Left-one : {old new : Outside} (since : ℕ) (image : List ℕ) (n : ℕ) → Goes (λ m. m ≡ new.now) old new → Left since new image n → Left since old image n ⊎ (IsImage new.now.disk image × (n ≡ length new.now.said))
+Left-one {old} {new} since image n goes left =
+    ⊎_elim (λ before. inl before) (λ by. inr (subst (λ (m : Moment). IsImage m.disk image × (n ≡ length m.said)) by.holds (by.is_image, by.said))) (Left-goes since image n goes left)
+
 -- where the moment at the start has P too, each has
 pub Left-within : {P : Moment → Type 0} {old new : Outside} (image : List ℕ) (n : ℕ) → Goes P old new → P old.now → Left (moment old) new image n → LeftBy P image n
 Left-within {P} {old} {new} image n goes start left =
