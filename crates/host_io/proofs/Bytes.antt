@@ -1,8 +1,8 @@
 -- The bytes of a file after a write, whole or cut short.
-use Rattle.std.proofs.Common.{◌≡◌, ℕ, ◌+◌, ◌-◌, ◌<◌, ◌≤◌, List, [], ◌∷◌, ◌++◌, length, take, drop, max, min, refl, sym, ◌∙◌, ap, subst, arith, ⊎_elim, length-append, length-drop, length-take, slice_index, get_or}
+use Rattle.std.proofs.Common.{◌≡◌, ℕ, ◌+◌, ◌-◌, ◌<◌, ◌≤◌, List, ◌++◌, length, take, drop, max, refl, sym, ◌∙◌, ap, subst, arith, ⊎_elim, length-append, length-drop, length-take, slice_index}
 use Rattle.std.proofs.lemmas.Bool.{cases_lt}
-use Rattle.std.proofs.lemmas.List.{append_assoc, take_at, drop_at, take_all, drop_all, drop-append-le, take-append-le, drop-drop, get_or-take, get_or-drop, get_or_append_left, get_or-append_right, length-take-le}
-use Rattle.host_io.specs.Disk.{Range, IsWithin}
+use Rattle.std.proofs.lemmas.List.{append_assoc, take_at, drop_at, get_or-take, get_or-drop, length-take-le}
+use Rattle.host_io.specs.Disk.{IsWithin}
 use Rattle.host_io.specs.Calls.{put_bytes, IsTorn}
 
 module _ (file : List ℕ) (place : ℕ) (bytes : List ℕ) (within : place ≤ length file) where

@@ -1,12 +1,12 @@
 -- What a crash leaves, one event after another.
-use Rattle.std.proofs.Common.{◌≡◌, ◌≢◌, ℕ, ◌+◌, ◌-◌, ◌<◌, ◌≤◌, ◌⊎◌, inl, inr, ⊎_elim, List, [], ◌∷◌, ◌++◌, length, take, drop, max, replicate, refl, sym, ◌∙◌, ap, subst, arith, slice_index, get_or, zero, suc, add-one, take-append-drop}
+use Rattle.std.proofs.Common.{◌≡◌, ◌≢◌, ℕ, ◌+◌, ◌-◌, ◌<◌, ◌≤◌, ◌⊎◌, inl, inr, ⊎_elim, List, [], ◌∷◌, ◌++◌, length, take, drop, replicate, refl, sym, ◌∙◌, ap, subst, arith, slice_index, get_or, zero, suc, add-one, take-append-drop}
 use Rattle.std.proofs.lemmas.Bool.{cases_lt}
 use Rattle.std.proofs.lemmas.Bool.Decides.{nat_tests}
-use Rattle.std.proofs.lemmas.List.{length-replicate, get_or-replicate, append_assoc, append-nil, take_more, drop_more, take_all}
-use Rattle.host_io.specs.Disk.{Range, DiskState, IsWithin, IsUntouched, IsImage, IsSound, settled, widened}
+use Rattle.std.proofs.lemmas.List.{length-replicate, get_or-replicate, append_assoc, append-nil, take_more, drop_more}
+use Rattle.host_io.specs.Disk.{DiskState, IsWithin, IsImage, IsSound, settled, widened}
 use Rattle.host_io.specs.Outside.{Moment}
 use Rattle.host_io.specs.Calls.{put_bytes, IsTorn}
-use Rattle.host_io.specs.Memory.{Timed, Trail, extended, left_by, left_pending, written, newest_within, moment_after, IsTouched, IsOnes, IsLeft}
+use Rattle.host_io.specs.Memory.{Timed, Trail, extended, left_by, left_pending, written, newest_within, moment_after, IsOnes, IsLeft}
 use Rattle.host_io.specs.Log.{piece_bytes, disk_after, disk_at, next_moment, replayed, first_trail, WriteFits, WritesFit, AreLater, IsRedone, CanRedo}
 use Rattle.host_io.specs.declared.fault.Effect.{Effect}
 use Rattle.host_io.specs.declared.fault.Effect.TheVariants.{Nothing, Whole, Ones}

@@ -1,5 +1,5 @@
 -- Counts of faults over a series of calls.
-use Rattle.std.proofs.Common.{◌≡◌, ℕ, ◌-◌, ◌^◌, ◌<◌, ◌≤◌, ◌⊎◌, inl, inr, ⊎_elim, refl, sym, ◌∙◌, arith, Result, Ok, Err, IsErr}
+use Rattle.std.proofs.Common.{ℕ, ◌≤◌, ◌⊎◌, inl, inr, ⊎_elim, refl, ◌∙◌, arith, Result, IsErr}
 use Rattle.host_io.specs.Outside.{Outside}
 use Rattle.host_io.specs.Calls.{Rose, Counts, CountsDisk, CountsTake, CountsSay}
 use Rattle.std.proofs.lemmas.Bool.{cases_lt}

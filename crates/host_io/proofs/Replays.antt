@@ -1,11 +1,11 @@
 -- What entries stand for as a log grows.
-use Rattle.std.proofs.Common.{◌≡◌, ℕ, ◌+◌, ◌-◌, ◌<◌, ◌≤◌, List, [], ◌∷◌, ◌++◌, length, take, drop, max, min, refl, sym, ◌∙◌, ap, subst, arith, length-append, length-drop, length-take, replicate, Vec, vec_len, vec_capacity}
-use Rattle.std.proofs.lemmas.List.{append-nil, append_assoc, take-append-le, drop-append-le, drop_at, take_all, length_push, length-replicate}
+use Rattle.std.proofs.Common.{◌≡◌, ℕ, ◌+◌, ◌-◌, ◌<◌, ◌≤◌, List, [], ◌∷◌, ◌++◌, length, take, drop, max, refl, sym, ◌∙◌, ap, subst, arith, length-append, length-drop, length-take, replicate, Vec, vec_len, vec_capacity}
+use Rattle.std.proofs.lemmas.List.{append-nil, take-append-le, drop-append-le, drop_at, take_all, length_push, length-replicate}
 use Rattle.std.specs.declared.alloc.Global.{Global}
 use Rattle.host_io.specs.Disk.{DiskState, settled}
 use Rattle.host_io.specs.Outside.{Moment}
 use Rattle.host_io.specs.Calls.{put_bytes}
-use Rattle.host_io.specs.Memory.{Timed, Trail, History, left_by, written, extended, recorded}
+use Rattle.host_io.specs.Memory.{Trail, left_by, written, extended, recorded}
 use Rattle.host_io.specs.declared.fault.Effect.{Effect}
 use Rattle.host_io.specs.declared.fault.Effect.TheVariants.{Nothing, Whole, Ones}
 use Rattle.host_io.specs.Log.{piece_bytes, disk_after, said_after, next_moment, replayed, disk_at, first_trail, WriteFits, WritesFit, SayFits, SaysFit, history_of, IsLog}

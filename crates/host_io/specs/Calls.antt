@@ -1,7 +1,7 @@
 -- What one call may do to the outside.
-use Rattle.std.specs.Prelude.{◌≡◌, ◌≢◌, ℕ, ◌+◌, ◌-◌, ◌^◌, ◌<◌, ◌≤◌, List, [], ◌∷◌, ◌++◌, length, take, drop, max, ◌⊎◌, Result, IsErr, IfOk, OnOk, OnErr}
-use Rattle.host_io.specs.Disk.{Range, DiskState, settled}
-use Rattle.host_io.specs.Outside.{Moment, Outside}
+use Rattle.std.specs.Prelude.{◌≡◌, ℕ, ◌+◌, ◌-◌, ◌^◌, ◌<◌, ◌≤◌, List, [], ◌∷◌, ◌++◌, length, take, drop, max, ◌⊎◌, Result, IsErr, IfOk, OnOk, OnErr}
+use Rattle.host_io.specs.Disk.{settled}
+use Rattle.host_io.specs.Outside.{Outside}
 
 -- a count of faults rose, or it stands at its type's end, where it cannot rise
 abbrev pub Rose : ℕ → ℕ → Type 0

@@ -3,7 +3,7 @@ use Rattle.std.specs.Prelude.{◌≡◌, ◌≢◌, ℕ, ◌+◌, ◌-◌, ◌<�
 use Rattle.std.specs.declared.alloc.Global.{Global}
 use Rattle.host_io.specs.Disk.{DiskState, settled, IsSound}
 use Rattle.host_io.specs.Outside.{Moment}
-use Rattle.host_io.specs.Memory.{Timed, Trail, History, written, extended, IsLeft}
+use Rattle.host_io.specs.Memory.{Trail, History, written, extended, IsLeft}
 use Rattle.host_io.specs.declared.fault.Effect.{Effect}
 use Rattle.host_io.specs.declared.fault.Effect.TheVariants.{Nothing}
 use Rattle.host_io.specs.declared.entry.Piece.{Piece}

@@ -19,4 +19,4 @@ mod traits;
 
 pub use fault::{Effect, Fault};
 pub use memory_host::MemHost;
-pub use traits::{Disk, Failed, Host};
+pub use traits::{Disk, Failed, Host, MAX_WRITE};

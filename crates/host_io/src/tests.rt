@@ -18,47 +18,17 @@ enum Call {
 type Step = (Call, Option<u64>, &'static [u8]);
 
 // One fault at each kind of call, and a second entry for call 8, which counts for nothing.
-const SCRIPT: [Fault; 10] = [
-    Fault {
-        call: 0,
-        effect: Effect::Whole,
-    },
-    Fault {
-        call: 2,
-        effect: Effect::Whole,
-    },
-    Fault {
-        call: 4,
-        effect: Effect::Whole,
-    },
-    Fault {
-        call: 6,
-        effect: Effect::Nothing,
-    },
-    Fault {
-        call: 7,
-        effect: Effect::Whole,
-    },
-    Fault {
-        call: 8,
-        effect: Effect::Ones,
-    },
-    Fault {
-        call: 8,
-        effect: Effect::Nothing,
-    },
-    Fault {
-        call: 10,
-        effect: Effect::Whole,
-    },
-    Fault {
-        call: 12,
-        effect: Effect::Whole,
-    },
-    Fault {
-        call: 14,
-        effect: Effect::Whole,
-    },
+const SCRIPT: [(u64, Effect); 10] = [
+    (0, Effect::Whole),
+    (2, Effect::Whole),
+    (4, Effect::Whole),
+    (6, Effect::Nothing),
+    (7, Effect::Whole),
+    (8, Effect::Ones),
+    (8, Effect::Nothing),
+    (10, Effect::Whole),
+    (12, Effect::Whole),
+    (14, Effect::Whole),
 ];
 
 // Over the file `abcd` and the input `xyz`, with two bytes a piece.
@@ -143,11 +113,15 @@ fn make(rt: &impl Abort, host: &mut MemHost, call: &Call) -> Result<u64, Failed>
     }
 }
 
+fn shows(host: &MemHost, image: &[u8]) -> bool {
+    host.image() == image
+}
+
 fn run(rt: &impl Abort, host: &mut MemHost, steps: &[Step]) {
     for (call, answer, image) in steps {
         let number = host.calls();
         assert_eq!(rt; make(rt, host, call).ok(), *answer, "call {number}");
-        assert_eq!(rt; host.image(), *image, "call {number}");
+        assert!(rt; shows(host, image), "call {number}");
     }
 }
 
@@ -165,7 +139,11 @@ fn crash(rt: &impl Abort, host: &MemHost, after: u64, images: &[&[u8]; 3]) -> Re
 
 #[test]
 fn fails_and_crashes_by_the_script(rt: HostRuntime) -> Result<(), Fail> {
-    let mut host = MemHost::new(rt.alloc(), b"abcd", b"xyz", &SCRIPT, 2, 99)?;
+    let mut script = Vec::new(rt.alloc());
+    for (call, effect) in SCRIPT {
+        script.push(Fault { call, effect })?;
+    }
+    let mut host = MemHost::new(rt.alloc(), b"abcd", b"xyz", &script, 2, 99)?;
     run(&rt, &mut host, &SCRIPTED);
     assert_eq!(rt; host.said(), b"he".as_slice());
     for (after, images) in IMAGES {

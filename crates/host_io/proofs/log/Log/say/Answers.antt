@@ -1,4 +1,4 @@
-use Rattle.std.proofs.Common.{◌∙◌, ◌<◌, ◌≤◌, ◌++◌, sym, ap, subst, length, arith}
+use Rattle.std.proofs.Common.{◌∙◌, ◌<◌, ◌≤◌, ◌++◌, sym, ap, subst, length}
 use Rattle.host_io.specs.Memory.{History, recorded}
 use Rattle.host_io.proofs.Replays.{Grows-say, history-grown, IsLog-grown}
 use Rattle.host_io.proofs.log.Log.say.Goals as goal
