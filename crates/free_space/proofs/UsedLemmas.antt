@@ -1,19 +1,19 @@
 -- The used spans of a free map: how they come to be laid out, and that they stay so.
-use Rattle.std.proofs.Common.{ℕ, ◌≡◌, ◌+◌, ◌<◌, ◌≤◌, List, ◌∷◌, length, get_or, refl, sym, ◌∙◌, inl, inr, arith, All, AllPairs, Contains, IsPermutation, Some, slice_get}
+use Rattle.std.proofs.Common.{ℕ, ◌≡◌, ◌+◌, ◌<◌, ◌≤◌, List, [], ◌∷◌, length, get_or, refl, inl, inr, arith, All, Contains, IsPermutation}
 use Rattle.std.specs.List.{AllAdjacentBelow, insert, remove}
 use Rattle.std.specs.List.Sorted.{IsNonDecreasingBy, IsPartitionPoint}
 use Rattle.std.proofs.lemmas.Bool.{cases_lt, cases_order}
 use Rattle.std.proofs.lemmas.List.{get_or_default}
-use Rattle.std.proofs.lemmas.List.Elements.{All-cons, All-tail}
+use Rattle.std.proofs.lemmas.List.Elements.{All-cons, All-head, All-tail, Contains-append_right}
 use Rattle.std.proofs.lemmas.List.Quantifiers.{all_pairs_remove}
-use Rattle.std.proofs.lemmas.List.Sorted.{All-permutation, IsPermutation-insert, IsPermutation-remove}
+use Rattle.std.proofs.lemmas.List.Sorted.{All-permutation, Contains-permutation, IsPermutation-insert, IsPermutation-remove, IsPermutation-sym}
 use Rattle.std.proofs.lemmas.Option.{get_or_from_slice_get, slice_get_within}
 use Rattle.mk_value.specs.declared.span.Span.{Span}
-use Rattle.free_space.specs.Extents.{AreApart, AreInOrder, IsBlock, Meets, extent_end}
+use Rattle.free_space.specs.Extents.{AreApart, IsBlock, Meets, extent_end}
 use Rattle.free_space.specs.FreeSpace.{IsFree, IsLaidOut}
 use Rattle.free_space.specs.Overlaps.{AreFirstToMeet, place_of}
 use Rattle.free_space.proofs.ExtentLemmas.{apart_sym, end_before, place_below_end}
-use Rattle.free_space.proofs.OrderLemmas.{all_pairs_insert, apart_permutation, order_from_neighbors}
+use Rattle.free_space.proofs.OrderLemmas.{all_pairs_insert, apart_from_order, apart_permutation, order_from_neighbors}
 
 -- each extent ends at or before the place of the later one
 Before : Span → Span → Type 0
@@ -41,8 +41,8 @@ pub laid_out_insert : (used : List Span) (at : ℕ) (span : Span) → IsLaidOut 
 laid_out_insert used at span laid block free inside split = record {
   blocks = All-permutation IsBlock (span ∷ used) (insert used at span) (IsPermutation-insert used at span) (All-cons IsBlock span used block laid.blocks);
   in_order = all_pairs_insert (λ one later. extent_end one ≤ later.place) used at span inside laid.in_order
-    (λ k d below. let lower : (get_or used k d).place < span.place = split.0 k d (omega arith) below in end_before (get_or used k d) span block.not_empty (omega arith) (free k d (omega arith)))
-    (λ k d from within. end_before span (get_or used k d) (laid.blocks k d within).not_empty (split.1 k d from within) (apart_sym (get_or used k d) span (free k d within)));
+      (λ k d below. let lower : (get_or used k d).place < span.place = split.0 k d (omega arith) below in end_before (get_or used k d) span block.not_empty (omega arith) (free k d (omega arith)))
+      (λ k d from within. end_before span (get_or used k d) (laid.blocks k d within).not_empty (split.1 k d from within) (apart_sym (get_or used k d) span (free k d within)));
 }
 
 pub laid_out_remove : (used : List Span) (at : ℕ) → IsLaidOut used → at < length used → IsLaidOut (remove used at)
@@ -70,3 +70,27 @@ rising_from_laid_out used laid = λ i j d upto within. elim (cases_lt i j) [
   | inl before ↦ let next : extent_end (get_or used i d) ≤ (get_or used j d).place = laid.in_order i j d before within in omega arith
   | inr at ↦ let here : i ≡ j = omega arith in rw here (omega arith)
 ]
+
+-- ---- what a span that was taken changes
+
+pub taken_is_used : (used taken : List Span) (span : Span) → IsPermutation (span ∷ used) taken → Contains taken span
+taken_is_used used taken span same = Contains-permutation (span ∷ used) taken span same (0, omega arith, refl)
+
+pub still_used : (used taken : List Span) (span other : Span) → IsPermutation (span ∷ used) taken → Contains used other → Contains taken other
+still_used used taken span other same there = Contains-permutation (span ∷ used) taken other same (Contains-append_right (span ∷ []) used other there)
+
+-- an extent is free beside the taken one and the earlier ones exactly where it meets neither
+pub free_beside_taken : (used taken : List Span) (span other : Span) → IsPermutation (span ∷ used) taken → IsFree taken other → (¬ Meets span other) × IsFree used other
+free_beside_taken used taken span other same free =
+    let Apart : Span → Type 0 = λ one. ¬ Meets one other in
+    let both : All Apart (span ∷ used) = All-permutation Apart taken (span ∷ used) (IsPermutation-sym (span ∷ used) taken same) free in
+    (All-head Apart span used both, All-tail Apart span used both)
+
+pub free_of_taken : (used taken : List Span) (span other : Span) → IsPermutation (span ∷ used) taken → ¬ Meets span other → IsFree used other → IsFree taken other
+free_of_taken used taken span other same apart free =
+    let Apart : Span → Type 0 = λ one. ¬ Meets one other in
+    All-permutation Apart (span ∷ used) taken same (All-cons Apart span used apart free)
+
+-- the used spans of a map do not meet
+pub apart_from_laid_out : (used : List Span) → IsLaidOut used → AreApart used
+apart_from_laid_out used laid = apart_from_order used laid.in_order

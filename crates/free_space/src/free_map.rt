@@ -12,7 +12,7 @@ use std::alloc::Global;
 use std::marker::Model;
 
 /// The extents of a file that are in use, and the floor, below which no block is placed.
-#[derive(Drop)]
+#[derive(Debug, Drop)]
 pub struct FreeMap {
     floor: u64,
     used: Vec<Span>,

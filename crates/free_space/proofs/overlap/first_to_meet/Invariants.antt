@@ -1,4 +1,3 @@
-use Rattle.std.proofs.Common.{ℕ}
 use Rattle.std.specs.List.{AllAdjacentBelow}
 use Rattle.free_space.specs.Extents.{Meets}
 use Rattle.free_space.proofs.overlap.first_to_meet.Given as goal
