@@ -67,7 +67,8 @@ fn span(place: u64, len: u64) -> Span
 }
 
 // Worked by hand: a column of 64 numbers as its width goes from 0 to 1, 4, 32 and back to 0 bits, then 4,000 more
-// of one bit, under a directory of 35 bytes; and other small files, the last two with the floor at the old end.
+// of one bit, or none at all, under a directory of 35 bytes; texts of 512 and 513 bytes; and a file that is only
+// ever extended, with the floor at its old end.
 #[test]
 fn places_blocks_at_the_least_place(rt: HostRuntime) -> Result<(), Fail> {
     let commits = [
