@@ -1,5 +1,5 @@
 -- The used spans of a free map: how they come to be laid out, and that they stay so.
-use Rattle.std.proofs.Common.{ℕ, ◌≡◌, ◌+◌, ◌<◌, ◌≤◌, List, [], ◌∷◌, length, get_or, refl, inl, inr, arith, All, Contains, IsPermutation}
+use Rattle.std.proofs.Common.{ℕ, suc, zero, ap, sym, ◌⊎◌, ◌≡◌, ◌+◌, ◌<◌, ◌≤◌, List, [], ◌∷◌, length, get_or, refl, inl, inr, arith, All, Contains, IsPermutation}
 use Rattle.std.specs.List.{AllAdjacentBelow, insert, remove}
 use Rattle.std.specs.List.Sorted.{IsNonDecreasingBy, IsPartitionPoint}
 use Rattle.std.proofs.lemmas.Bool.{cases_lt, cases_order}
@@ -94,3 +94,64 @@ free_of_taken used taken span other same apart free =
 -- the used spans of a map do not meet
 pub apart_from_laid_out : (used : List Span) → IsLaidOut used → AreApart used
 apart_from_laid_out used laid = apart_from_order used laid.in_order
+
+-- ---- a list of used spans is determined by what it contains
+
+AreAmong : List Span → List Span → Type 0
+AreAmong ones others = (span : Span) → Contains ones span → Contains others span
+
+laid_out_rest : (first : Span) (rest : List Span) → IsLaidOut (first ∷ rest) → IsLaidOut rest
+laid_out_rest first rest laid = record {
+  blocks = All-tail IsBlock first rest laid.blocks;
+  in_order = λ i j d lower within. laid.in_order (suc i) (suc j) d (omega arith) (omega arith);
+}
+
+-- a later span begins at or past the end of the first
+past_first : (first : Span) (rest : List Span) (span : Span) → IsLaidOut (first ∷ rest) → Contains rest span → extent_end first ≤ span.place
+past_first first rest span laid (k, within, is) =
+    let next : extent_end first ≤ (get_or rest k span).place = laid.in_order 0 (suc k) span (omega arith) (omega arith) in
+    rw is at next
+
+first_or_rest : (first : Span) (rest : List Span) (span : Span) → Contains (first ∷ rest) span → (first ≡ span) ⊎ Contains rest span
+first_or_rest first rest span (zero, within, is) = inl is
+first_or_rest first rest span (suc k, within, is) = inr (k, omega arith, is)
+
+same_first : (one other : Span) (ones others : List Span) → IsLaidOut (one ∷ ones) → IsLaidOut (other ∷ others) → Contains (other ∷ others) one → Contains (one ∷ ones) other → one ≡ other
+same_first one other ones others laid laid' there here = elim (first_or_rest other others one there) [
+  | inl same ↦ sym same
+  | inr later ↦ elim (first_or_rest one ones other here) [
+    | inl same ↦ same
+    | inr also ↦
+        let below : extent_end other ≤ one.place = past_first other others one laid' later in
+        let above : extent_end one ≤ other.place = past_first one ones other laid also in
+        absurd (omega (arith, place_below_end one (All-head IsBlock one ones laid.blocks).not_empty, place_below_end other (All-head IsBlock other others laid'.blocks).not_empty))
+  ]
+]
+
+among_rest : (first : Span) (ones others : List Span) → IsLaidOut (first ∷ ones) → AreAmong (first ∷ ones) (first ∷ others) → AreAmong ones others
+unfolding AreAmong
+among_rest first ones others laid among = λ span there. elim (first_or_rest first others span (among span (Contains-append_right (first ∷ []) ones span there))) [
+  | inl same ↦
+      let past : extent_end first ≤ span.place = past_first first ones span laid there in
+      let level : first.place ≡ span.place = ap place_of same in
+      absurd (omega (arith, place_below_end first (All-head IsBlock first ones laid.blocks).not_empty))
+  | inr later ↦ later
+]
+
+same_members : (ones others : List Span) → IsLaidOut ones → IsLaidOut others → AreAmong ones others → AreAmong others ones → ones ≡ others
+unfolding AreAmong
+same_members [] [] laid laid' there here = refl
+same_members [] (other ∷ others) laid laid' there here = let (k, within, is) = here other (0, omega arith, refl) in absurd (omega arith)
+same_members (one ∷ ones) [] laid laid' there here = let (k, within, is) = there one (0, omega arith, refl) in absurd (omega arith)
+same_members (one ∷ ones) (other ∷ others) laid laid' there here =
+    let first : one ≡ other = same_first one other ones others laid laid' (there one (0, omega arith, refl)) (here other (0, omega arith, refl)) in
+    let laid_other : IsLaidOut (one ∷ others) = rw (← first) at laid' in
+    let there_one : AreAmong (one ∷ ones) (one ∷ others) = rw (← first) at there in
+    let here_one : AreAmong (one ∷ others) (one ∷ ones) = rw (← first) at here in
+    let rest : ones ≡ others = same_members ones others (laid_out_rest one ones laid) (laid_out_rest one others laid_other) (among_rest one ones others laid there_one) (among_rest one others ones laid_other here_one) in
+    cc
+
+-- two maps that use the same spans list them in the same order
+pub laid_out_unique : (ones others : List Span) → IsLaidOut ones → IsLaidOut others → IsPermutation ones others → ones ≡ others
+unfolding AreAmong
+laid_out_unique ones others laid laid' same = same_members ones others laid laid' (λ span there. Contains-permutation ones others span same there) (λ span here. Contains-permutation others ones span (IsPermutation-sym ones others same) here)

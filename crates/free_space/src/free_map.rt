@@ -35,7 +35,8 @@ impl FreeMap {
     /// A free map of the given spans, which may lie below the floor. It takes the time of one sort.
     ///
     /// It refuses spans of which two extents meet by `Overlap`, with the first two neighbors that meet: the spans
-    /// are taken by place, and those of one place in their order in the slice. `Memory` may come at any call.
+    /// are taken by place, and those of one place in their order in the slice. `Memory` may come at any call, and
+    /// then says nothing of the spans.
     pub fn from_used(alloc: Global, floor: u64, spans: &[Span]) -> Result<FreeMap, FreeError>
         requires floor_aligned { IsAligned floor }
         requires are_blocks { All IsBlock spans.now }
@@ -58,8 +59,8 @@ impl FreeMap {
     }
 
     /// The least place for a block of `len` bytes: the least multiple of 16, at or above the floor, at which its
-    /// extent meets no used one. There is always one, at or below `end`; the extent's end may not fit in a `u64`.
-    /// Each used span is looked at once.
+    /// extent meets no used one. There is always one, at or below `end`, but the end of an extent there may not fit
+    /// in a `u64`. Each used span is looked at once at most.
     pub fn place(&self, len: u64) -> u64
         requires { 0 < len }
         ensures least { IsLeastPlace self.now.floor self.now.used len result }
@@ -88,7 +89,8 @@ impl FreeMap {
         Ok(())
     }
 
-    /// Adds a span to the used ones. It takes no memory, and lowers what is reserved by one.
+    /// Adds a span to the used ones. It takes no memory, and lowers what is reserved by one. The spans of higher
+    /// places are moved up, so its time grows with their number, as that of `give` does.
     pub fn take(&mut self, span: Span)
         requires block { IsBlock span }
         requires from_floor { self.old.floor ≤ span.place }
