@@ -1,6 +1,6 @@
 -- The used spans of a free map: how they come to be laid out, and that they stay so.
 use Rattle.std.proofs.Common.{ℕ, suc, zero, ap, sym, ◌⊎◌, ◌≡◌, ◌+◌, ◌<◌, ◌≤◌, List, [], ◌∷◌, length, get_or, refl, inl, inr, arith, All, Contains, IsPermutation}
-use Rattle.std.specs.List.{AllAdjacentBelow, insert, remove}
+use Rattle.std.specs.List.{insert, remove}
 use Rattle.std.specs.List.Sorted.{IsNonDecreasingBy, IsPartitionPoint}
 use Rattle.std.proofs.lemmas.Bool.{cases_lt, cases_order}
 use Rattle.std.proofs.lemmas.List.{get_or_default}
@@ -11,7 +11,7 @@ use Rattle.std.proofs.lemmas.Option.{get_or_from_slice_get, slice_get_within}
 use Rattle.mk_value.specs.declared.span.Span.{Span}
 use Rattle.free_space.specs.Extents.{AreApart, IsBlock, Meets, extent_end}
 use Rattle.free_space.specs.FreeSpace.{IsFree, IsLaidOut}
-use Rattle.free_space.specs.Overlaps.{AreFirstToMeet, place_of}
+use Rattle.free_space.specs.Overlaps.{AreFirstToMeet, AreNeighborsApart, place_of}
 use Rattle.free_space.proofs.ExtentLemmas.{apart_sym, end_before, place_below_end}
 use Rattle.free_space.proofs.OrderLemmas.{all_pairs_insert, apart_from_order, apart_permutation, order_from_neighbors}
 
@@ -20,7 +20,7 @@ Before : Span → Span → Type 0
 Before one later = extent_end one ≤ later.place
 
 -- blocks in order of place of which no two neighbors meet
-pub laid_out_from_neighbors : (spans : List Span) → All IsBlock spans → IsNonDecreasingBy place_of spans → AllAdjacentBelow (λ one later. ¬ Meets one later) spans (length spans) → IsLaidOut spans
+pub laid_out_from_neighbors : (spans : List Span) → All IsBlock spans → IsNonDecreasingBy place_of spans → AreNeighborsApart spans (length spans) → IsLaidOut spans
 laid_out_from_neighbors spans blocks rising apart = record {
   blocks = blocks;
   in_order = order_from_neighbors spans (λ k d within. end_before (get_or spans k d) (get_or spans (k + 1) d) (blocks (k + 1) d (omega arith)).not_empty (rising k (k + 1) d (omega arith) (omega arith)) (apart k d within));

@@ -26,7 +26,11 @@ impl Model for FreeMap {
 
     ghost Value = { FreeSpace };
 
-    ghost view = { λ m. record { floor = m.floor; used = m.used.items; spare = vec_capacity m.used - vec_len m.used } };
+    ghost view = { λ m. record {
+      floor = m.floor;
+      used = m.used.items;
+      spare = vec_capacity m.used - vec_len m.used;
+    } };
 
     ghost invariant = { λ m. IsAligned m.floor × IsLaidOut m.used.items };
 }
@@ -124,7 +128,8 @@ impl FreeMap {
     /// How many used spans stand below the place.
     fn count_below(&self, place: u64) -> usize
         ensures bound { result ≤ length self.now.used }
-        ensures splits { IsPartitionPoint (λ span. span.place < place) (λ span. place ≤ span.place) self.now.used result }
+        ensures splits { IsPartitionPoint (λ span. span.place < place) (λ span. place ≤ span.place)
+            self.now.used result }
     {
         self.used.partition_point(|span| span.place < place)
     }
