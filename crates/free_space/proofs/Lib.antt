@@ -1,5 +1,6 @@
 pub mod EndLemmas
 pub mod ExtentLemmas
 pub mod OrderLemmas
+pub mod OverlapLemmas
 pub mod PlaceLemmas
 pub mod UsedLemmas

@@ -1,12 +1,12 @@
 -- Lists of spans in order of place, and pairs of them that do not meet.
-use Rattle.std.proofs.Common.{ℕ, suc, zero, ◌≡◌, ◌≢◌, ◌+◌, ◌-◌, ◌<◌, ◌≤◌, ◌⊎◌, List, [], ◌∷◌, length, get_or, refl, sym, ap, add-one, inl, inr, arith, All, AllPairs, IsPermutation}
+use Rattle.std.proofs.Common.{ℕ, suc, zero, ◌≡◌, ◌+◌, ◌-◌, ◌<◌, ◌≤◌, ◌⊎◌, List, length, get_or, refl, ap, add-one, inl, inr, arith, AllPairs, IsPermutation}
 use Rattle.std.specs.List.{AllAdjacentBelow, insert, swap}
 use Rattle.std.proofs.lemmas.Bool.{cases_lt, cases_eq, cases_order}
 use Rattle.std.proofs.lemmas.List.Edits.{length-insert, get_or-insert_below, get_or-insert_at, get_or-insert_above, swapped_from_swap, Swapped, length-swap}
 use Rattle.std.proofs.lemmas.List.Sorted.{IsPermutation-keeps}
 use Rattle.mk_value.specs.declared.span.Span.{Span}
-use Rattle.free_space.specs.Extents.{AreApart, AreInOrder, IsBlock, Meets, extent_end}
-use Rattle.free_space.proofs.ExtentLemmas.{apart_from_end, apart_sym, place_below_end}
+use Rattle.free_space.specs.Extents.{AreApart, AreInOrder, Meets, extent_end}
+use Rattle.free_space.proofs.ExtentLemmas.{apart_from_end, apart_sym}
 
 -- how a swap of i and j moves the element at a place
 Turned : ℕ → ℕ → ℕ → ℕ → Type 0
@@ -36,9 +36,9 @@ unfolding Turned
 moved_from xs ys i j d left right moved at within = elim (cases_eq at i) [
   | inl first ↦ record { place = j; inside = right; is = rw first moved.0; turned = inl (first, refl) }
   | inr not_first ↦ elim (cases_eq at j) [
-      | inl second ↦ record { place = i; inside = left; is = rw second moved.1; turned = inr (inl (second, refl)) }
-      | inr not_second ↦ record { place = at; inside = within; is = moved.2 at not_first not_second; turned = inr (inr (not_first, not_second, refl)) }
-    ]
+    | inl second ↦ record { place = i; inside = left; is = rw second moved.1; turned = inr (inl (second, refl)) }
+    | inr not_second ↦ record { place = at; inside = within; is = moved.2 at not_first not_second; turned = inr (inr (not_first, not_second, refl)) }
+  ]
 ]
 
 -- ---- pairs of a list

@@ -1,5 +1,5 @@
 -- Placing: why the first gap that is long enough is the least place.
-use Rattle.std.proofs.Common.{ℕ, ◌≡◌, ◌+◌, ◌-◌, ◌%◌, ◌<◌, ◌≤◌, max, List, length, get_or, sym, arith, All, IsPermutation, ◌⊎◌, inl, inr}
+use Rattle.std.proofs.Common.{ℕ, ◌≡◌, ◌+◌, ◌-◌, ◌<◌, ◌≤◌, max, List, length, get_or, arith, IsPermutation, inl, inr}
 use Rattle.std.proofs.lemmas.Bool.{cases_lt}
 use Rattle.std.proofs.lemmas.List.{get_or_default}
 use Rattle.std.proofs.lemmas.List.Sorted.{All-permutation, IsPermutation-sym}
@@ -66,11 +66,11 @@ reached_none floor used len aligned = record {
 stands_past : (floor : ℕ) (used : List Span) (len place other : ℕ) (span : Span) → 0 < len → IsBlock span → ¬ Meets span (span_at len other) → place ≤ other → span.place < place + len → extent_end span ≤ other
 stands_past floor used len place other span some block apart from short = elim (cases_lt other (extent_end span)) [
   | inl before ↦ elim (cases_lt other span.place) [
-      | inl below ↦
-          let whole : extent_end (span_at len other) ≤ span.place = end_before (span_at len other) span block.not_empty (omega arith) (apart_sym span (span_at len other) apart) in
-          absurd (omega (arith, le-extent_len len))
-      | inr at ↦ absurd (apart (meets_within span (span_at len other) some at before))
-    ]
+    | inl below ↦
+        let whole : extent_end (span_at len other) ≤ span.place = end_before (span_at len other) span block.not_empty (omega arith) (apart_sym span (span_at len other) apart) in
+        absurd (omega (arith, le-extent_len len))
+    | inr at ↦ absurd (apart (meets_within span (span_at len other) some at before))
+  ]
   | inr past ↦ past
 ]
 
@@ -86,11 +86,11 @@ reached_more floor used len seen place span some laid within is short so_far =
         | inr at ↦ let here : k ≡ seen = omega arith in rw (here, get_or_default used seen d span within, ← is) (omega arith)
       ];
       least = λ other stands.
-        let from : place ≤ other = so_far.least other stands in
-        let free : ¬ Meets (get_or used seen span) (span_at len other) = stands.free seen span within in
-        let apart : ¬ Meets span (span_at len other) = rw (← is) at free in
-        let past : extent_end span ≤ other = stands_past floor used len place other span some block apart from short in
-        omega arith;
+          let from : place ≤ other = so_far.least other stands in
+          let free : ¬ Meets (get_or used seen span) (span_at len other) = stands.free seen span within in
+          let apart : ¬ Meets span (span_at len other) = rw (← is) at free in
+          let past : extent_end span ≤ other = stands_past floor used len place other span some block apart from short in
+          omega arith;
     }
 
 -- a block that reaches up to the next used span at most stands free of all
@@ -112,12 +112,12 @@ least_before floor used len seen place span laid within is fits reached = record
     free = λ k d inside. elim (cases_lt k seen) [
       | inl before ↦ apart_from_end (get_or used k d) (span_at len place) (reached.past k d before)
       | inr from ↦ elim (cases_lt seen k) [
-          | inl later ↦
-              let next : extent_end (get_or used seen span) ≤ (get_or used k span).place = laid.in_order seen k span later inside in
-              let past : extent_end span ≤ (get_or used k span).place = rw (← is) at next in
-              rw (get_or_default used k d span inside) (apart_sym (span_at len place) (get_or used k span) (apart_from_end (span_at len place) (get_or used k span) (omega (arith, rounded))))
-          | inr at ↦ let here : k ≡ seen = omega arith in rw (here, get_or_default used seen d span within, ← is) (apart_sym (span_at len place) span (apart_from_end (span_at len place) span rounded))
-        ]
+        | inl later ↦
+            let next : extent_end (get_or used seen span) ≤ (get_or used k span).place = laid.in_order seen k span later inside in
+            let past : extent_end span ≤ (get_or used k span).place = rw (← is) at next in
+            rw (get_or_default used k d span inside) (apart_sym (span_at len place) (get_or used k span) (apart_from_end (span_at len place) (get_or used k span) (omega (arith, rounded))))
+        | inr at ↦ let here : k ≡ seen = omega arith in rw (here, get_or_default used seen d span within, ← is) (apart_sym (span_at len place) span (apart_from_end (span_at len place) span rounded))
+      ]
     ]
 
 -- past all used spans a block stands free of all

@@ -8,6 +8,7 @@ use Rattle.free_space.specs.declared.error.FreeError.{FreeError}
 use Rattle.free_space.specs.declared.error.FreeError.TheVariants.{Overlap, Memory}
 use Rattle.free_space.specs.Extents.{Meets}
 
+-- where a span begins
 abbrev pub place_of : Span → ℕ
 place_of span = span.place
 
@@ -17,13 +18,17 @@ pub record IsByPlace (spans ordered : List Span) : Type 0 where
   pub sorted : IsSortedByKey place_of nat_cmp ordered
   pub stable : IsStableByKey place_of nat_cmp spans ordered
 
+-- of the first `count` spans of the list no two neighbors meet
+abbrev pub AreNeighborsApart : List Span → ℕ → Type 0
+AreNeighborsApart spans count = AllAdjacentBelow (λ one next. ¬ Meets one next) spans count
+
 -- these two are neighbors in the list and meet, and no earlier neighbors do
 pub record AreFirstNeighborsToMeet (ordered : List Span) (one other : Span) : Type 0 where
   pub at : ℕ
   pub first : slice_get ordered at ≡ Some one
   pub second : slice_get ordered (at + 1) ≡ Some other
   pub meet : Meets one other
-  pub none_before : AllAdjacentBelow (λ earlier later. ¬ Meets earlier later) ordered (at + 1)
+  pub none_before : AreNeighborsApart ordered (at + 1)
 
 -- the spans being taken by place, these two are the first neighbors that meet
 pub record AreFirstToMeet (spans : List Span) (one other : Span) : Type 0 where

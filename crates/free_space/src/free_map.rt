@@ -12,7 +12,7 @@ use std::alloc::Global;
 use std::marker::Model;
 
 /// The extents of a file that are in use, and the floor, below which no block is placed.
-#[derive(Drop)]
+#[derive(Debug, Drop)]
 pub struct FreeMap {
     floor: u64,
     used: Vec<Span>,
@@ -26,7 +26,11 @@ impl Model for FreeMap {
 
     ghost Value = { FreeSpace };
 
-    ghost view = { λ m. record { floor = m.floor; used = m.used.items; spare = vec_capacity m.used - vec_len m.used } };
+    ghost view = { λ m. record {
+      floor = m.floor;
+      used = m.used.items;
+      spare = vec_capacity m.used - vec_len m.used;
+    } };
 
     ghost invariant = { λ m. IsAligned m.floor × IsLaidOut m.used.items };
 }
@@ -35,7 +39,8 @@ impl FreeMap {
     /// A free map of the given spans, which may lie below the floor. It takes the time of one sort.
     ///
     /// It refuses spans of which two extents meet by `Overlap`, with the first two neighbors that meet: the spans
-    /// are taken by place, and those of one place in their order in the slice. `Memory` may come at any call.
+    /// are taken by place, and those of one place in their order in the slice. `Memory` may come at any call, and
+    /// then says nothing of the spans.
     pub fn from_used(alloc: Global, floor: u64, spans: &[Span]) -> Result<FreeMap, FreeError>
         requires floor_aligned { IsAligned floor }
         requires are_blocks { All IsBlock spans.now }
@@ -58,8 +63,8 @@ impl FreeMap {
     }
 
     /// The least place for a block of `len` bytes: the least multiple of 16, at or above the floor, at which its
-    /// extent meets no used one. There is always one, at or below `end`; the extent's end may not fit in a `u64`.
-    /// Each used span is looked at once.
+    /// extent meets no used one. There is always one, at or below `end`, but the end of an extent there may not fit
+    /// in a `u64`. Each used span is looked at once at most.
     pub fn place(&self, len: u64) -> u64
         requires { 0 < len }
         ensures least { IsLeastPlace self.now.floor self.now.used len result }
@@ -88,7 +93,8 @@ impl FreeMap {
         Ok(())
     }
 
-    /// Adds a span to the used ones. It takes no memory, and lowers what is reserved by one.
+    /// Adds a span to the used ones. It takes no memory, and lowers what is reserved by one. The spans of higher
+    /// places are moved up, so its time grows with their number, as that of `give` does.
     pub fn take(&mut self, span: Span)
         requires block { IsBlock span }
         requires from_floor { self.old.floor ≤ span.place }
@@ -122,7 +128,8 @@ impl FreeMap {
     /// How many used spans stand below the place.
     fn count_below(&self, place: u64) -> usize
         ensures bound { result ≤ length self.now.used }
-        ensures splits { IsPartitionPoint (λ span. span.place < place) (λ span. place ≤ span.place) self.now.used result }
+        ensures splits { IsPartitionPoint (λ span. span.place < place) (λ span. place ≤ span.place)
+            self.now.used result }
     {
         self.used.partition_point(|span| span.place < place)
     }

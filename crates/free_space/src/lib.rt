@@ -9,6 +9,8 @@ mod error;
 mod extent;
 mod free_map;
 mod overlap;
+#[cfg(test)]
+mod tests;
 
 pub use error::FreeError;
 pub use extent::{extent_end, extent_len};

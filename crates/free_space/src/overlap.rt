@@ -1,8 +1,7 @@
 ghost use Rattle.std.specs.Prelude.{length, All, IfNone, IfSome};
-ghost use Rattle.std.specs.List.{AllAdjacentBelow};
 ghost use Rattle.std.specs.List.Sorted.{IsNonDecreasingBy};
-ghost use Rattle.free_space.specs.Extents.{IsBlock, Meets};
-ghost use Rattle.free_space.specs.Overlaps.{AreFirstNeighborsToMeet, place_of};
+ghost use Rattle.free_space.specs.Extents.{IsBlock};
+ghost use Rattle.free_space.specs.Overlaps.{AreFirstNeighborsToMeet, AreNeighborsApart, place_of};
 
 use crate::extent::extent_end;
 use mk_value::Span;
@@ -12,7 +11,7 @@ pub(crate) fn first_to_meet(ordered: &[Span]) -> Option<(Span, Span)>
     requires blocks { All IsBlock ordered.now }
     requires by_place { IsNonDecreasingBy place_of ordered.now }
     ensures found { IfSome result (λ pair. AreFirstNeighborsToMeet ordered.now pair.0 pair.1) }
-    ensures none { IfNone result (AllAdjacentBelow (λ one later. ¬ Meets one later) ordered.now (length ordered.now)) }
+    ensures none { IfNone result (AreNeighborsApart ordered.now (length ordered.now)) }
 {
     for at in 1..ordered.len() {
         let one = ordered[at - 1];

@@ -1,9 +1,9 @@
-use Rattle.std.proofs.Common.{ℕ, ◌≡◌, ◌+◌, ◌-◌, ◌<◌, ◌≤◌, get_or, length, sym, arith}
+use Rattle.std.proofs.Common.{◌≡◌, ◌+◌, ◌-◌, ◌<◌, get_or, length, arith}
 use Rattle.std.proofs.lemmas.List.{get_or_default}
 use Rattle.std.proofs.lemmas.List.Sorted.{all_adjacent_more}
 use Rattle.std.proofs.lemmas.Option.{slice_get-get_or}
 use Rattle.mk_value.specs.declared.span.Span.{Span}
-use Rattle.free_space.specs.Extents.{Meets, extent_end}
+use Rattle.free_space.specs.Extents.{Meets}
 use Rattle.free_space.proofs.ExtentLemmas.{apart_from_end, meets_within}
 use Rattle.free_space.proofs.overlap.first_to_meet.Goals as goal
 

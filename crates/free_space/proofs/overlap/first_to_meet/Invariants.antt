@@ -1,7 +1,5 @@
-use Rattle.std.proofs.Common.{ℕ}
-use Rattle.std.specs.List.{AllAdjacentBelow}
-use Rattle.free_space.specs.Extents.{Meets}
+use Rattle.free_space.specs.Overlaps.{AreNeighborsApart}
 use Rattle.free_space.proofs.overlap.first_to_meet.Given as goal
 
 abbrev pub invariant-loop-at : goal.invariant-loop-at
-invariant-loop-at l = AllAdjacentBelow (λ one later. ¬ Meets one later) l.ordered l.at
+invariant-loop-at l = AreNeighborsApart l.ordered l.at

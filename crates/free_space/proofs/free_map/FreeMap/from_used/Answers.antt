@@ -1,10 +1,9 @@
-use Rattle.std.proofs.Common.{◌≡◌, length, All, rules}
-use Rattle.std.specs.List.{AllAdjacentBelow}
+use Rattle.std.proofs.Common.{length, All, rules}
 use Rattle.std.specs.List.Sorted.{IsNonDecreasingBy}
 use Rattle.std.proofs.lemmas.List.Sorted.{All-permutation, IsNonDecreasingBy-from_sort, IsPermutation-sym, answers_always}
-use Rattle.free_space.specs.Extents.{IsBlock, Meets}
+use Rattle.free_space.specs.Extents.{IsBlock}
 use Rattle.free_space.specs.FreeSpace.{IsLaidOut}
-use Rattle.free_space.specs.Overlaps.{AreFirstToMeet, IsByPlace, place_of}
+use Rattle.free_space.specs.Overlaps.{AreFirstToMeet, AreNeighborsApart, IsByPlace, place_of}
 use Rattle.free_space.proofs.OrderLemmas.{apart_from_order, apart_permutation}
 use Rattle.free_space.proofs.UsedLemmas.{laid_out_from_neighbors, not_apart_from_meeting}
 use Rattle.free_space.proofs.free_map.FreeMap.from_used.Goals as goal
@@ -41,7 +40,7 @@ returns-in-Some-clause-overlap c = meeting c
 laid_out : (c : In_default) → IsLaidOut c.sort_by_key.new.self.items
 laid_out c =
     let spans = c.sort_by_key.new.self.items in
-    let apart : AllAdjacentBelow (λ one later. ¬ Meets one later) spans (length spans) = rw c.deref.ensures.value at c.in_default.ensures.none in
+    let apart : AreNeighborsApart spans (length spans) = rw c.deref.ensures.value at c.in_default.ensures.none in
     laid_out_from_neighbors spans (all_blocks (goal.at.returns-clause-laid_out c).After-deref) (rising (goal.at.returns-clause-laid_out c).After-deref) apart
 
 pub invariant_of-result : goal.invariant_of-result

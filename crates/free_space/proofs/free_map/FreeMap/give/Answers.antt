@@ -1,4 +1,4 @@
-use Rattle.std.proofs.Common.{◌≡◌, ◌∷◌, IsPermutation, get_or, sym}
+use Rattle.std.proofs.Common.{◌≡◌, sym}
 use Rattle.std.specs.List.{remove}
 use Rattle.std.proofs.lemmas.List.Sorted.{IsPermutation-remove}
 use Rattle.free_space.specs.FreeSpace.{IsLaidOut}

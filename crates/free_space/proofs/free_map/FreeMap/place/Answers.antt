@@ -1,4 +1,4 @@
-use Rattle.std.proofs.Common.{ℕ, ◌≡◌, ◌+◌, ◌<◌, ◌≤◌, List, length, get_or, ap, subst, ◌∙◌, rules, arith}
+use Rattle.std.proofs.Common.{ℕ, ◌≡◌, ◌+◌, ◌<◌, ◌≤◌, List, length, get_or, subst, rules, arith}
 use Rattle.std.proofs.lemmas.List.{get_or_default}
 use Rattle.mk_value.specs.declared.span.Span.{Span}
 use Rattle.free_space.specs.FreeSpace.{IsLeastPlace}
@@ -19,7 +19,7 @@ least c =
     let same : items ≡ used = rw (← c.self.view_is) c.deref-span-items.ensures.value in
     let fits : c.loop-span.place + c.args.len ≤ (get_or items c.loop-span.span-index blank).place = search rules in
     least_before c.args.self.now.floor used c.args.len c.loop-span.span-index c.loop-span.place (get_or items c.loop-span.span-index blank)
-      (rw (← c.self.view_is) c.self.invariant.1) (rw (← same) c.loop-span-test.true) (read_of items used c.loop-span.span-index same c.loop-span-test.true) fits c.loop-span.invariant
+    (rw (← c.self.view_is) c.self.invariant.1) (rw (← same) c.loop-span-test.true) (read_of items used c.loop-span.span-index same c.loop-span-test.true) fits c.loop-span.invariant
 
 pub returns-then-fits_before-clause-least : goal.returns-then-fits_before-clause-least
 returns-then-fits_before-clause-least c = least c
@@ -35,7 +35,7 @@ loop-span-preserved c =
     let same : items ≡ used = rw (← c.self.view_is) c.deref-span-items.ensures.value in
     let short : (get_or items c.loop-span.span-index blank).place < c.loop-span.place + c.args.len = search rules in
     rw (c.max-place.ensures, c.extent_end.ensures) (reached_more c.args.self.now.floor used c.args.len c.loop-span.span-index c.loop-span.place (get_or items c.loop-span.span-index blank)
-      c.requires (rw (← c.self.view_is) c.self.invariant.1) (rw (← same) c.loop-span-test.true) (read_of items used c.loop-span.span-index same c.loop-span-test.true) short c.loop-span.invariant)
+    c.requires (rw (← c.self.view_is) c.self.invariant.1) (rw (← same) c.loop-span-test.true) (read_of items used c.loop-span.span-index same c.loop-span-test.true) short c.loop-span.invariant)
 
 pub returns-clause-within : goal.returns-clause-within
 returns-clause-within c =
@@ -43,4 +43,4 @@ returns-clause-within c =
     let same : c.deref-span-items.result.now ≡ used = rw (← c.self.view_is) c.deref-span-items.ensures.value in
     let all : c.loop-span.span-index ≡ length used = rw (← same) (omega arith) in
     least_place-le-end_of c.args.self.now.floor used c.args.len c.loop-span.place (rw (← c.self.view_is) c.self.invariant.0) (rw (← c.self.view_is) c.self.invariant.1)
-      (least_past_all c.args.self.now.floor used c.args.len c.loop-span.place (rw all at c.loop-span.invariant))
+    (least_past_all c.args.self.now.floor used c.args.len c.loop-span.place (rw all at c.loop-span.invariant))
