@@ -3,4 +3,4 @@
 
 mod widths;
 
-pub use widths::Width;
+pub use widths::{Width, width_for};
