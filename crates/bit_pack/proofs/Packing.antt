@@ -90,7 +90,7 @@ reaches_within w bytes m n le h =
     omega (arith, grows, h)
 
 -- a number is made of its digits
-number_of-digits : (w n i number : ℕ) → number_of (2 ^ w) (map (λ j. number / 2 ^ (w * j) % 2 ^ w) (range_with_len i n)) ≡ number / 2 ^ (w * i) % 2 ^ (w * n)
+pub number_of-digits : (w n i number : ℕ) → number_of (2 ^ w) (map (λ j. number / 2 ^ (w * j) % 2 ^ w) (range_with_len i n)) ≡ number / 2 ^ (w * i) % 2 ^ (w * n)
 number_of-digits w zero i number =
     let none : 2 ^ (w * 0) ≡ 1 = ap (λ (n : ℕ). 2 ^ n) (mul-zero w) in
     sym (ap (λ (n : ℕ). number / 2 ^ (w * i) % n) none ∙ mod-one (number / 2 ^ (w * i)))
@@ -105,14 +105,14 @@ number_of-digits w (suc n) i number =
     let multiplied : (m / 2 ^ w % 2 ^ (w * n)) * 2 ^ w ≡ 2 ^ w * number_of (2 ^ w) (map (λ j. number / 2 ^ (w * j) % 2 ^ w) (range_with_len (i + 1) n)) = mul_comm (m / 2 ^ w % 2 ^ (w * n)) (2 ^ w) ∙ ap (λ (k : ℕ). 2 ^ w * k) inner in
     omega (arith, split, multiplied)
 
-residues-values : (w : Width) (bytes : List ℕ) (i n : ℕ) → residues (bit_count w) (values_from w bytes i n) ≡ map (digit_at w bytes) (range_with_len i n)
+pub residues-values : (w : Width) (bytes : List ℕ) (i n : ℕ) → residues (bit_count w) (values_from w bytes i n) ≡ map (digit_at w bytes) (range_with_len i n)
 residues-values w bytes i zero = refl
 residues-values w bytes i (suc n) =
     let first = residue-value_of w (digit_at w bytes i) (mod_below (little_endian bytes / 2 ^ (bit_count w * i)) (2 ^ bit_count w) (pow_pos (bit_count w))) in
     let rest = residues-values w bytes (i + 1) n in
     cc
 
-Holds-values : (w : Width) (bytes : List ℕ) (i n : ℕ) → All (Holds w) (values_from w bytes i n)
+pub Holds-values : (w : Width) (bytes : List ℕ) (i n : ℕ) → All (Holds w) (values_from w bytes i n)
 Holds-values w bytes i n = All-from_recursion (Holds w) (values_from w bytes i n) (by_recursion i n)
   where
     by_recursion : (i n : ℕ) → AllByRecursion (Holds w) (values_from w bytes i n)
