@@ -75,24 +75,25 @@ same_least u w vs h k =
 -- the least width of two lists together is the wider of theirs
 pub least-append : (u w t : Width) (xs ys : List ℤ) → IsLeastWidth u xs → IsLeastWidth w ys → bit_count t ≡ max (bit_count u) (bit_count w) → IsLeastWidth t (xs ++ ys)
 least-append u w t xs ys h k e = record {
-    held = All-append (Holds t) xs ys (All-Holds-wider u t xs (omega (arith, e)) h.held) (All-Holds-wider w t ys (omega (arith, e)) k.held);
-    least = λ s all.
-        let first : bit_count u ≤ bit_count s = h.least s (All-append_left s xs ys all) in
-        let second : bit_count w ≤ bit_count s = k.least s (All-append_right s xs ys all) in
-        omega (arith, e);
-  }
+  held = All-append (Holds t) xs ys (All-Holds-wider u t xs (omega (arith, e)) h.held) (All-Holds-wider w t ys (omega (arith, e)) k.held);
+  least = λ s all.
+      let first : bit_count u ≤ bit_count s = h.least s (All-append_left s xs ys all) in
+      let second : bit_count w ≤ bit_count s = k.least s (All-append_right s xs ys all) in
+      omega (arith, e);
+}
   where
     All-append_left : (s : Width) (xs ys : List ℤ) → All (Holds s) (xs ++ ys) → All (Holds s) xs
     All-append_left s xs ys all = λ j d within. subst (Holds s) (get_or_append_left xs ys d j within) (all j d (omega (arith, length-append xs ys)))
+
     All-append_right : (s : Width) (xs ys : List ℤ) → All (Holds s) (xs ++ ys) → All (Holds s) ys
     All-append_right s xs ys all = λ j d within. subst (Holds s) (get_or-append-add xs ys j d) (all (length xs + j) d (omega (arith, length-append xs ys)))
 
 -- the least width of values is that of their least and greatest, or of 0 where it is outside them
 pub least_by_range : (w : Width) (low high : ℤ) (vs : List ℤ) → low ≡ fold int_min (pos 0) vs → high ≡ fold int_max (pos 0) vs → Holds w low → Holds w high → ((u : Width) → Holds u low → Holds u high → bit_count w ≤ bit_count u) → IsLeastWidth w vs
 least_by_range w low high vs low_is high_is h k least = record {
-    held = λ j d within. Holds-between w low high (get_or vs j d) h k ((fold-int_min_bounds (pos 0) vs low low_is).1 j d within) ((fold-int_max_bounds (pos 0) vs high high_is).1 j d within);
-    least = λ u all. least u (by_reach u low all (fold-int_min_reached (pos 0) vs low low_is)) (by_reach u high all (fold-int_max_reached (pos 0) vs high high_is));
-  }
+  held = λ j d within. Holds-between w low high (get_or vs j d) h k ((fold-int_min_bounds (pos 0) vs low low_is).1 j d within) ((fold-int_max_bounds (pos 0) vs high high_is).1 j d within);
+  least = λ u all. least u (by_reach u low all (fold-int_min_reached (pos 0) vs low low_is)) (by_reach u high all (fold-int_max_reached (pos 0) vs high high_is));
+}
   where
     by_reach : (u : Width) (v : ℤ) → All (Holds u) vs → (v ≡ pos 0) ⊎ Contains vs v → Holds u v
     by_reach u v all (inl e) = subst (Holds u) (sym e) (zero_held u)

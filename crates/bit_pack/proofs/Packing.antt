@@ -57,8 +57,8 @@ values_from_is w vs bytes h =
     let n = length vs in
     let len : length (values_from w bytes 0 n) ≡ n = length-map-range_with_len (value_at w bytes) 0 n in
     same_lists (values_from w bytes 0 n) vs len (λ k d within.
-        let inside : k < n = omega (arith, within, len) in
-        get_or-map-range_with_len (value_at w bytes) 0 n k k d inside (omega arith) ∙ value_at_is w vs bytes k d h inside)
+    let inside : k < n = omega (arith, within, len) in
+    get_or-map-range_with_len (value_at w bytes) 0 n k k d inside (omega arith) ∙ value_at_is w vs bytes k d h inside)
 
 pub same_values : (w : Width) (vs us : List ℤ) (bytes : List ℕ) → PackedAt w vs bytes → PackedAt w us bytes → length vs ≡ length us → vs ≡ us
 same_values w vs us bytes h k same =
