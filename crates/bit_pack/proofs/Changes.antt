@@ -2,10 +2,10 @@
 use Rattle.std.proofs.Common.{◌≡◌, ℕ, zero, suc, ◌+◌, ◌-◌, ◌*◌, ◌/◌, ◌%◌, ◌^◌, ◌<◌, ◌≤◌, ℤ, pos, List, [], ◌∷◌, ◌++◌, length, map, get_or, set, take, drop, replicate, inl, inr, refl, sym, ap, subst, ◌∙◌, arith}
 use Rattle.std.proofs.Math.Nat.{mul-zero, mul_comm, mul_assoc, one-mul, div-one, mod-eq_of_lt}
 use Rattle.std.proofs.lemmas.Nat.{pow-add, pow_pos}
-use Rattle.std.proofs.lemmas.List.{length-map, get_or-map, length-replicate, map-append, map-set, length-set, length-append, length-take, length-drop, take_at, drop_at}
+use Rattle.std.proofs.lemmas.List.{length-map, get_or-map, length-replicate, map-append, map-set, length-set, length-append, length-take, length-drop, take_at, drop_at, set_at, take_more, append_assoc, same_lists, get_or_default}
 use Rattle.std.proofs.lemmas.List.Elements.{All-append, All-set, All-take, All-drop, All-replicate}
 use Rattle.std.proofs.lemmas.Bool.{cases_lt}
-use Rattle.std.proofs.lemmas.List.FromFn.{length-map-range_with_len}
+use Rattle.std.proofs.lemmas.List.FromFn.{length-map-range_with_len, get_or-map-range_with_len, map-range_with_len_more}
 use Rattle.std.specs.List.{range_with_len, All}
 use Rattle.bit_pack.specs.declared.widths.Width.{Width}
 use Rattle.bit_pack.specs.Width.{bit_count, Holds}
@@ -99,3 +99,31 @@ packed-values w n bytes octets len clean =
   where
     by_cases_le : (a b : ℕ) → (a ≤ b → ⊥) → b < a
     by_cases_le a b h = elim (cases_lt b a) [ inl lt ↦ lt | inr le ↦ absurd (h le) ]
+
+-- ---- lists of values that loops make
+
+pub length-values_from : (w : Width) (bytes : List ℕ) (i n : ℕ) → length (values_from w bytes i n) ≡ n
+length-values_from w bytes i n = length-map-range_with_len (value_at w bytes) i n
+
+-- one more value
+pub values_from-more : (w : Width) (bytes : List ℕ) (i n j : ℕ) → i + n ≡ j → values_from w bytes i (n + 1) ≡ values_from w bytes i n ++ value_at w bytes j ∷ []
+values_from-more w bytes i n j e = map-range_with_len_more (value_at w bytes) i n j e
+
+pub get_or-values_from : (w : Width) (bytes : List ℕ) (i n k j : ℕ) (d : ℤ) → k < n → i + k ≡ j → get_or (values_from w bytes i n) k d ≡ value_at w bytes j
+get_or-values_from w bytes i n k j d within e = get_or-map-range_with_len (value_at w bytes) i n k j d within e
+
+pub values_from-made : (w : Width) (bytes : List ℕ) (i n : ℕ) (xs : List ℤ) → length xs ≡ n → ((k : ℕ) → k < n → get_or xs k (pos 0) ≡ value_at w bytes (i + k)) → xs ≡ values_from w bytes i n
+values_from-made w bytes i n xs len at =
+    same_lists xs (values_from w bytes i n) (len ∙ sym (length-map-range_with_len (value_at w bytes) i n)) (λ k d within.
+        let inside : k < n = omega (arith, within, len) in
+        get_or_default xs k d (pos 0) within ∙ at k inside ∙ sym (get_or-values_from w bytes i n k (i + k) d inside refl))
+
+-- the next value in place of the first zero
+pub set-next : (vs : List ℤ) (i : ℕ) (v d : ℤ) → i < length vs → v ≡ get_or vs i d → set (take i vs ++ replicate (length vs - i) (pos 0)) i v ≡ take (i + 1) vs ++ replicate (length vs - (i + 1)) (pos 0)
+set-next vs i v d within is =
+    let left : length vs - i ≡ suc (length vs - (i + 1)) = omega arith in
+    let front_len : length (take i vs) ≡ i = simp length-take (omega arith) in
+    let zeros = replicate (length vs - (i + 1)) (pos 0) in
+    let placed : set (take i vs ++ pos 0 ∷ zeros) i v ≡ take i vs ++ v ∷ zeros = set_at (take i vs) (pos 0) zeros v i front_len in
+    let front : take (i + 1) vs ≡ take i vs ++ get_or vs i d ∷ [] = take_more vs i d within in
+    ap (λ (n : ℕ). set (take i vs ++ replicate n (pos 0)) i v) left ∙ placed ∙ ap (λ (x : ℤ). take i vs ++ x ∷ zeros) is ∙ sym (append_assoc (take i vs) (get_or vs i d ∷ []) zeros) ∙ ap (λ (xs : List ℤ). xs ++ zeros) (sym front)

@@ -36,6 +36,7 @@ residue_8 v fits h = ap (of_z w8) (ap (λ (z : ℤ). to_z w8 (of_z w8 z)) (to_z-
     signed : (v : ℤ) → Holds W8 v → FitsSigned w8 v
     signed (pos n) h = record { sfits = omega (arith, ints, h.low, h.high) }
     signed (negsuc n) h = record { sfits = omega (arith, ints, h.low, h.high) }
+
     by_sign : (v : ℤ) → Holds W8 v → of_z w8 v ≡ residue 8 v
     by_sign (pos n) h = omega (arith, ints, h.low, h.high)
     by_sign (negsuc n) h = omega (arith, ints, h.low, h.high)
@@ -47,6 +48,7 @@ residue_16 v fits h = ap (of_z w16) (ap (λ (z : ℤ). to_z w16 (of_z w16 z)) (t
     signed : (v : ℤ) → Holds W16 v → FitsSigned w16 v
     signed (pos n) h = record { sfits = omega (arith, ints, h.low, h.high) }
     signed (negsuc n) h = record { sfits = omega (arith, ints, h.low, h.high) }
+
     by_sign : (v : ℤ) → Holds W16 v → of_z w16 v ≡ residue 16 v
     by_sign (pos n) h = omega (arith, ints, h.low, h.high)
     by_sign (negsuc n) h = omega (arith, ints, h.low, h.high)
@@ -58,6 +60,7 @@ residue_32 v fits h = ap (of_z w32) (ap (λ (z : ℤ). to_z w32 (of_z w32 z)) (t
     signed : (v : ℤ) → Holds W32 v → FitsSigned w32 v
     signed (pos n) h = record { sfits = omega (arith, ints, h.low, h.high) }
     signed (negsuc n) h = record { sfits = omega (arith, ints, h.low, h.high) }
+
     by_sign : (v : ℤ) → Holds W32 v → of_z w32 v ≡ residue 32 v
     by_sign (pos n) h = omega (arith, ints, h.low, h.high)
     by_sign (negsuc n) h = omega (arith, ints, h.low, h.high)
@@ -69,6 +72,7 @@ residue_64 v fits h = ap (of_z w64) (to_z-of_z w64 v (signed v h)) ∙ by_sign v
     signed : (v : ℤ) → Holds W64 v → FitsSigned w64 v
     signed (pos n) h = record { sfits = omega (arith, ints, h.low, h.high) }
     signed (negsuc n) h = record { sfits = omega (arith, ints, h.low, h.high) }
+
     by_sign : (v : ℤ) → Holds W64 v → of_z w64 v ≡ residue 64 v
     by_sign (pos n) h = omega (arith, ints, h.low, h.high)
     by_sign (negsuc n) h = omega (arith, ints, h.low, h.high)

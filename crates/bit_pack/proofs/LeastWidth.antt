@@ -1,9 +1,9 @@
 -- Widths in their order, and the least width of values.
-use Rattle.std.proofs.Common.{◌≡◌, ℕ, ◌+◌, ◌<◌, ◌≤◌, max, ℤ, pos, negsuc, ◌≤ℤ◌, List, ◌++◌, length, get_or, fold, ◌⊎◌, inl, inr, refl, sym, subst, arith}
+use Rattle.std.proofs.Common.{◌≡◌, ℕ, ◌+◌, ◌<◌, ◌≤◌, max, ℤ, pos, negsuc, ◌≤ℤ◌, List, ◌++◌, length, get_or, fold, ◌⊎◌, inl, inr, FitsSigned, refl, sym, subst, arith}
 use Rattle.std.proofs.lemmas.Int.{ints, fold-int_min_bounds, fold-int_min_reached, fold-int_max_bounds, fold-int_max_reached}
 use Rattle.std.proofs.lemmas.List.{length-append, get_or_append_left, get_or-append-add}
 use Rattle.std.proofs.lemmas.List.Elements.{All-append, All-contains}
-use Rattle.std.specs.Int.{int_min, int_max}
+use Rattle.std.specs.Int.{int_min, int_max, w64}
 use Rattle.std.specs.List.{All, Contains}
 use Rattle.bit_pack.specs.declared.widths.Width.{Width}
 use Rattle.bit_pack.specs.declared.widths.Width.TheVariants.{W0, W1, W2, W4, W8, W16, W32, W64}
@@ -98,3 +98,14 @@ least_by_range w low high vs low_is high_is h k least = record {
     by_reach : (u : Width) (v : ℤ) → All (Holds u) vs → (v ≡ pos 0) ⊎ Contains vs v → Holds u v
     by_reach u v all (inl e) = subst (Holds u) (sym e) (zero_held u)
     by_reach u v all (inr c) = All-contains (Holds u) vs v all c
+
+-- 64 bits hold each value that any width holds, and those are the values of an `i64`
+pub held_fits : (w : Width) (v : ℤ) → Holds w v → FitsSigned w64 v
+held_fits w v h = signed v (Holds-wider w W64 v (widest w) h)
+  where
+    widest : (w : Width) → bit_count w ≤ bit_count W64
+    widest W0 = omega arith
+    widest w = omega arith
+    signed : (v : ℤ) → Holds W64 v → FitsSigned w64 v
+    signed (pos n) h = record { sfits = omega (arith, ints, h.low, h.high) }
+    signed (negsuc n) h = record { sfits = omega (arith, ints, h.low, h.high) }
