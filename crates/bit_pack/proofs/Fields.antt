@@ -3,16 +3,16 @@ use Rattle.std.proofs.Common.{◌≡◌, ℕ, zero, suc, ◌+◌, ◌-◌, ◌*�
 use Rattle.std.proofs.Math.Nat.{mod-eq_of_lt, add-zero}
 use Rattle.std.proofs.lemmas.Int.{ints, to_z-of_z}
 use Rattle.std.proofs.lemmas.List.{length-set, length-append, length-take, length-drop, drop-drop}
-use Rattle.std.proofs.lemmas.List.Elements.{All-set, All-append, All-take, All-drop, All-from_get_or, All-from_recursion, recursion_from_All}
+use Rattle.std.proofs.lemmas.List.Elements.{All-set, All-append, All-take, All-drop, All-from_get_or, All-from_recursion}
 use Rattle.std.proofs.lemmas.Nat.{mod_below, from_le_bytes-to_le_bytes_2, from_le_bytes-to_le_bytes_4, from_le_bytes-to_le_bytes_8}
 use Rattle.std.specs.Int.{w8, w16, w32, w64, byte_at, bytes_low_first, to_le_bytes, from_le_bytes}
 use Rattle.std.specs.List.{range_with_len, AllByRecursion}
 use Rattle.bit_pack.specs.declared.widths.Width.{Width}
-use Rattle.bit_pack.specs.declared.widths.Width.TheVariants.{W0, W1, W2, W4, W8, W16, W32, W64}
-use Rattle.bit_pack.specs.Width.{bit_count, lowest, highest, Holds}
+use Rattle.bit_pack.specs.declared.widths.Width.TheVariants.{W8, W16, W32, W64}
+use Rattle.bit_pack.specs.Width.{bit_count, Holds}
 use Rattle.bit_pack.specs.Packed.{number_of, little_endian, residue, AreBytes, digit_at}
 use Rattle.bit_pack.specs.Lane.{Writes}
-use Rattle.bit_pack.proofs.Digits.{AreDigits, pow-mul}
+use Rattle.bit_pack.proofs.Digits.{pow-mul}
 use Rattle.bit_pack.proofs.Packing.{AreDigits-bytes}
 use Rattle.bit_pack.proofs.Residues.{residue-lt}
 use Rattle.bit_pack.proofs.Windows.{window_is, wide_digit, number_of-splice, narrow_digit, narrow_change}

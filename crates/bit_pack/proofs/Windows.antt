@@ -1,12 +1,12 @@
 -- Where the digit of a value stands in the bytes: in whole bytes, or within one byte.
-use Rattle.std.proofs.Common.{◌≡◌, ℕ, zero, suc, ◌+◌, ◌-◌, ◌*◌, ◌/◌, ◌%◌, ◌^◌, ◌<◌, ◌≤◌, List, [], ◌∷◌, ◌++◌, length, map, get_or, set, take, drop, refl, sym, ap, subst, ◌∙◌, arith}
-use Rattle.std.proofs.Math.Nat.{mul_comm, mul_assoc, div-div-eq-div-mul, add-mul-mod_self_left, mod-eq_of_lt, mod-le, pow-le-pow_right, mul-le-mul_left, mul-le-mul_right, zero-div, zero-mod}
-use Rattle.std.proofs.lemmas.Nat.{pow-add, pow_pos, field_of, shr_split, shr_below, shl_below, mod_below, pow_below}
-use Rattle.std.proofs.lemmas.List.{get_or-take, get_or-drop, length-take, length-drop, length-append, same_lists, get_or_default, drop-drop, drop_more}
+use Rattle.std.proofs.Common.{◌≡◌, ℕ, suc, ◌+◌, ◌-◌, ◌*◌, ◌/◌, ◌%◌, ◌^◌, ◌<◌, ◌≤◌, List, ◌++◌, length, map, get_or, set, take, drop, sym, ap, subst, ◌∙◌, arith}
+use Rattle.std.proofs.Math.Nat.{mul_assoc, div-div-eq-div-mul, add-mul-mod_self_left, mod-le, pow-le-pow_right, mul-le-mul_right}
+use Rattle.std.proofs.lemmas.Nat.{pow-add, pow_pos, field_of, shr_split, shr_below, shl_below, mod_below}
+use Rattle.std.proofs.lemmas.List.{get_or-take, get_or-drop, length-take, length-drop, same_lists, get_or_default, drop-drop, drop_more}
 use Rattle.std.proofs.lemmas.List.FromFn.{length-map-range_with_len, get_or-map-range_with_len}
 use Rattle.std.specs.List.{range_with_len}
 use Rattle.bit_pack.specs.Packed.{number_of}
-use Rattle.bit_pack.proofs.Digits.{AreDigits, AreDigits-drop, AreDigits-take, pow-mul, number_of-append, number_of-window, number_of-div, number_of-split, number_of-first, number_of-set}
+use Rattle.bit_pack.proofs.Digits.{AreDigits, pow-mul, number_of-append, number_of-window, number_of-div, number_of-split, number_of-set}
 
 -- k bytes from place m on, one by one
 pub window_is : (k m : ℕ) (bytes : List ℕ) → m + k ≤ length bytes → take k (drop m bytes) ≡ map (λ j. get_or bytes (m + j) 0) (range_with_len 0 k)

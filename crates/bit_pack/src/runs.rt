@@ -1,11 +1,29 @@
-//! Loops over the values of a slice of bytes, over any lane.
-ghost use Rattle.std.specs.Prelude.{◌≡◌, ℕ, ℤ, ◌+◌, ◌^◌, ◌<◌, ◌≤◌, ◌≤ℤ◌, length, replicate, pos, fold, All};
-ghost use Rattle.std.specs.Bool.{OnTrue, OnFalse};
+//! One value and loops over values of a slice of bytes, over any lane.
+ghost use Rattle.std.specs.Prelude.{◌≡◌, ℕ, ℤ, ◌+◌, ◌^◌, ◌<◌, ◌≤◌, ◌↔◌, length, replicate, pos, fold, IsTrue};
 ghost use Rattle.std.specs.Int.{int_min, int_max};
-ghost use Rattle.bit_pack.specs.Width.{Holds};
-ghost use Rattle.bit_pack.specs.Packed.{Reaches, PackedAt, packed_len, values_from};
+ghost use Rattle.bit_pack.specs.Width.{Holds, HoldsAll};
+ghost use Rattle.bit_pack.specs.Lane.{Writes};
+ghost use Rattle.bit_pack.specs.Packed.{AreBytes, Reaches, PackedAt, packed_len, value_at, values_from};
 
 use crate::lanes::Lane;
+use crate::widths::Width;
+
+/// The value at a place.
+pub fn read_one<L: Lane>(bytes: &[u8], at: usize) -> i64
+    requires { Reaches L.width bytes.now (at + 1) }
+    ensures { result ≡ value_at L.width bytes.now at }
+{
+    L::read(bytes, at)
+}
+
+/// Writes the value at a place.
+pub fn write_one<L: Lane>(bytes: &mut [u8], at: usize, value: i64)
+    requires reaches { Reaches L.width bytes.old (at + 1) }
+    requires holds { Holds L.width value }
+    ensures { AreBytes bytes.old → Writes L.width bytes.old bytes.new at value }
+{
+    L::write(bytes, at, value);
+}
 
 /// Reads the values from place `from` on.
 pub fn read_run<L: Lane>(bytes: &[u8], from: usize, into: &mut [i64])
@@ -20,7 +38,7 @@ pub fn read_run<L: Lane>(bytes: &[u8], from: usize, into: &mut [i64])
 
 /// Writes the values over zeros.
 pub fn write_run<L: Lane>(values: &[i64], into: &mut [u8])
-    requires held { All (Holds L.width) values.now }
+    requires held { HoldsAll L.width values.now }
     requires len { length into.old ≡ packed_len L.width (length values.now) }
     requires zeros { into.old ≡ replicate (length into.old) 0 }
     ensures { PackedAt L.width values.now into.new }
@@ -30,19 +48,20 @@ pub fn write_run<L: Lane>(values: &[i64], into: &mut [u8])
     }
 }
 
-/// Whether one of the first `count` values is below `low` or above `high`.
-pub fn any_outside<L: Lane>(bytes: &[u8], count: usize, low: i64, high: i64) -> bool
+/// Whether the width holds each of the first `count` values.
+pub fn all_held<L: Lane>(bytes: &[u8], count: usize, width: Width) -> bool
     requires { Reaches L.width bytes.now count }
-    ensures inside { OnFalse result (All (λ v. (low ≤ℤ v) × (v ≤ℤ high)) (values_from L.width bytes.now 0 count)) }
-    ensures outside { OnTrue result (¬ All (λ v. (low ≤ℤ v) × (v ≤ℤ high)) (values_from L.width bytes.now 0 count)) }
+    ensures { IsTrue result ↔ HoldsAll width (values_from L.width bytes.now 0 count) }
 {
+    let low = width.lowest();
+    let high = width.highest();
     for at in 0..count {
         let value = L::read(bytes, at);
         if value < low || high < value {
-            return true;
+            return false;
         }
     }
-    false
+    true
 }
 
 /// The least and the greatest of the first `count` values and of 0.

@@ -1,4 +1,4 @@
-use Rattle.std.proofs.Common.{◌≡◌, ℕ, ◌-◌, ◌<◌, ◌++◌, ℤ, List, length, take, replicate, get_or, pos, to_z, of_z, sym, ap, subst, ◌∙◌, arith}
+use Rattle.std.proofs.Common.{◌≡◌, ◌-◌, ◌<◌, ◌++◌, ℤ, List, length, take, replicate, get_or, pos, to_z, of_z, sym, ap, subst, ◌∙◌, arith}
 use Rattle.std.specs.Int.{w64}
 use Rattle.std.proofs.lemmas.Int.{to_z-of_z}
 use Rattle.std.proofs.lemmas.List.{length-append, length-take, length-replicate}
@@ -22,7 +22,7 @@ loop-at-preserved g c =
     let vs = c.args.values.now in
     let v = to_z w64 (of_z w64 (get_or vs at (pos 0))) in
     let so_far = take at vs ++ replicate (length vs - at) (pos 0) in
-    let here = c.requires.held at (pos 0) c.loop-at-test.true in
+    let here = c.requires.held.each at (pos 0) c.loop-at-test.true in
     let is : v ≡ get_or vs at (pos 0) = to_z-of_z w64 (get_or vs at (pos 0)) (held_fits w (get_or vs at (pos 0)) here) in
     let held : Holds w v = subst (Holds w) (sym is) here in
     let inside : at < length so_far = simp (length-append, length-take, length-replicate) (omega arith) in

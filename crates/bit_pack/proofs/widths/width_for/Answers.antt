@@ -1,4 +1,4 @@
-use Rattle.std.proofs.Common.{◌≡◌, ◌≤◌, max, ◌∙◌, to_z, of_z, FitsSigned, arith, rules}
+use Rattle.std.proofs.Common.{◌≤◌, ◌∙◌, to_z, of_z, FitsSigned, arith, rules}
 use Rattle.std.specs.Int.{w64}
 use Rattle.std.proofs.lemmas.Int.{to_z-of_z}
 use Rattle.bit_pack.specs.Width.{bit_count}

@@ -1,5 +1,5 @@
 -- The digit is a field of one byte.
-use Rattle.std.proofs.Common.{◌≡◌, ◌*◌, ◌/◌, ◌%◌, sym, ◌∙◌, arith}
+use Rattle.std.proofs.Common.{◌≡◌, ◌/◌, ◌%◌, sym, ◌∙◌, arith}
 use Rattle.std.proofs.lemmas.Int.{ints}
 use Rattle.bit_pack.specs.declared.widths.Width.TheVariants.{W1}
 use Rattle.bit_pack.specs.Packed.{AreBytes, digit_at}
