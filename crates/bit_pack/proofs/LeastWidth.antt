@@ -154,20 +154,22 @@ pub least-set_kept : (w : Width) (vs : List ℤ) (i : ℕ) (v d : ℤ) (s : Widt
 least-set_kept w vs i v d s h within held old narrow = record {
   held = record { each = All-set (Holds w) vs i v held h.held.each };
   least = λ u all. elim (cases_lt (bit_count u) (bit_count w)) [
-    inl lt ↦ absurd (too_narrow u all lt)
-  | inr le ↦ le
+    | inl lt ↦ absurd (too_narrow u all lt)
+    | inr le ↦ le
   ];
 }
   where
     others : (u : Width) → HoldsAll u (set vs i v) → (k : ℕ) (e : ℤ) → k < length vs → (k ≡ i → ⊥) → Holds u (get_or vs k e)
     others u all k e there apart = subst (Holds u) (get_or-set_other vs i k v e apart) (all.each k e (omega (arith, there, length-set vs i v)))
+
     by_place : (u t : Width) → bit_count u ≤ bit_count t → bit_count s ≤ bit_count t → HoldsAll u (set vs i v) → (k : ℕ) (e : ℤ) → k < length vs → Holds t (get_or vs k e)
     by_place u t wide wide_s all k e there = elim (cases_eq k i) [
-      inl same ↦ Holds-wider s t (get_or vs k e) wide_s (subst (Holds s) (get_or_default vs i d e within ∙ ap (λ (j : ℕ). get_or vs j e) (sym same)) old)
-    | inr apart ↦ Holds-wider u t (get_or vs k e) wide (others u all k e there apart)
+      | inl same ↦ Holds-wider s t (get_or vs k e) wide_s (subst (Holds s) (get_or_default vs i d e within ∙ ap (λ (j : ℕ). get_or vs j e) (sym same)) old)
+      | inr apart ↦ Holds-wider u t (get_or vs k e) wide (others u all k e there apart)
     ]
+
     too_narrow : (u : Width) → HoldsAll u (set vs i v) → bit_count u < bit_count w → ⊥
     too_narrow u all lt = elim (cases_lt (bit_count u) (bit_count s)) [
-      inl below ↦ omega (arith, narrow, h.least s (record { each = by_place u s (omega arith) (omega arith) all }))
-    | inr above ↦ omega (arith, lt, h.least u (record { each = by_place u u (omega arith) above all }))
+      | inl below ↦ omega (arith, narrow, h.least s (record { each = by_place u s (omega arith) (omega arith) all }))
+      | inr above ↦ omega (arith, lt, h.least u (record { each = by_place u u (omega arith) above all }))
     ]

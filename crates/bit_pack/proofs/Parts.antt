@@ -34,6 +34,7 @@ AreBytes-bytes_low_first i k n = All-from_recursion (λ b. b < 256) (bytes_low_f
     byte_lt : (i : ℕ) → byte_at i n < 256
     byte_lt zero = mod_below n 256 (omega arith)
     byte_lt (suc i) = mod_below (n / 256 ^ suc i) 256 (omega arith)
+
     by_recursion : (i k : ℕ) → AllByRecursion (λ b. b < 256) (bytes_low_first i k n)
     by_recursion i zero = tt
     by_recursion i (suc k) = (byte_lt i, by_recursion (suc i) k)
