@@ -23,6 +23,7 @@ mod widths;
 pub use error::PackError;
 pub use lists::{Bytes, Values};
 pub use packed::{
-    MOST_VALUES, get, is_least, least_width, pack, pack_into, put, unpack, unpack_into,
+    MOST_VALUES, get, is_least, least_width, pack, pack_into, pack_range, packed_byte, put, unpack,
+    unpack_into,
 };
 pub use widths::{Width, width_for};

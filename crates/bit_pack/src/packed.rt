@@ -1,8 +1,8 @@
 //! Packing, unpacking, and single values of packed bytes.
-ghost use Rattle.std.specs.Prelude.{◌≡◌, ℕ, ℤ, List, ◌+◌, ◌*◌, ◌^◌, ◌<◌, ◌≤◌, ◌↔◌, length, slice_get, slice_set, slice_range, Some, IsTrue, IfOk, IfErr};
+ghost use Rattle.std.specs.Prelude.{◌≡◌, ℕ, ℤ, List, ◌+◌, ◌*◌, ◌^◌, ◌<◌, ◌≤◌, ◌↔◌, length, slice_get, slice_set, slice_index, slice_range, Some, IsTrue, IfOk, IfErr};
 ghost use Rattle.bit_pack.specs.declared.widths.Width.{Width};
 ghost use Rattle.bit_pack.specs.Width.{Holds, HoldsAll, IsLeastWidth};
-ghost use Rattle.bit_pack.specs.Packed.{Reaches, HasPadding, PackedAt, Packed, packed_len, value_at, values_from};
+ghost use Rattle.bit_pack.specs.Packed.{Reaches, HasPadding, PackedAt, Packed, packed_len, packing, value_at, values_from};
 ghost use Rattle.bit_pack.specs.Refusal.{IsRefusal};
 
 use crate::by_width;
@@ -50,6 +50,47 @@ pub fn pack_into(width: Width, values: &[i64], into: &mut [u8])
 {
     into.fill(0);
     by_width::write_run(width, values, into);
+}
+
+/// The byte at place `at` of the packing of the values, where the width need not be the least. Eight values are
+/// as many bytes as a value has bits, so it packs the eight that the byte is among.
+pub fn packed_byte(width: Width, values: &[i64], at: usize) -> u8
+    requires held { HoldsAll width values.now }
+    requires within { at < packed_len width (length values.now) }
+    ensures { result ≡ slice_index (packing width values.now) at }
+{
+    let bits = usize::from(width.bits());
+    let first = 8 * (at / bits);
+    let group = &values[first..values.len().min(first + 8)];
+    let len = width.packed_len(group.len());
+    let mut bytes = [0; 64];
+    pack_into(width, group, &mut bytes[..len]);
+    bytes[at % bits]
+}
+
+/// Packs the values, where the width need not be the least, and writes the bytes of the packing from place `from`
+/// on. It is fast where it writes all of them.
+pub fn pack_range(width: Width, values: &[i64], from: usize, into: &mut [u8])
+    requires held { HoldsAll width values.now }
+    requires within { from + length into.old ≤ packed_len width (length values.now) }
+    ensures { into.new ≡ slice_range (packing width values.now) from (from + length into.old) }
+{
+    if into.len() == width.packed_len(values.len()) {
+        pack_into(width, values, into);
+    } else {
+        pack_bytes(width, values, from, into);
+    }
+}
+
+/// Writes the bytes of the packing from place `from` on, one by one.
+fn pack_bytes(width: Width, values: &[i64], from: usize, into: &mut [u8])
+    requires held { HoldsAll width values.now }
+    requires within { from + length into.old ≤ packed_len width (length values.now) }
+    ensures { into.new ≡ slice_range (packing width values.now) from (from + length into.old) }
+{
+    for (i, byte) in into.iter_mut().enumerate() {
+        *byte = packed_byte(width, values, from + i);
+    }
 }
 
 /// Whether the width is the least that holds the first `count` values of packed bytes. It stops at the first
