@@ -5,7 +5,6 @@ use std::time::Instant;
 const COUNT: usize = 1_048_576;
 
 trait Lane {
-    const BITS: usize;
     fn read(bytes: &[u8], at: usize) -> i64;
     fn write(bytes: &mut [u8], at: usize, value: i64);
 }
@@ -13,7 +12,7 @@ trait Lane {
 struct Narrow<const BITS: usize>;
 
 impl<const BITS: usize> Lane for Narrow<BITS> {
-    const BITS: usize = BITS;
+
     fn read(bytes: &[u8], at: usize) -> i64 {
         let per = 8 / BITS;
         i64::from((bytes[at / per] >> (BITS * (at % per))) & ((1 << BITS) - 1))
@@ -31,7 +30,6 @@ macro_rules! wide {
     ($name:ident, $int:ty, $size:literal) => {
         struct $name;
         impl Lane for $name {
-            const BITS: usize = 8 * $size;
             fn read(bytes: &[u8], at: usize) -> i64 {
                 let part = bytes[$size * at..$size * at + $size].try_into().unwrap();
                 <$int>::from_le_bytes(part) as i64
@@ -50,7 +48,7 @@ wide!(W64, i64, 8);
 
 struct W0;
 impl Lane for W0 {
-    const BITS: usize = 0;
+
     fn read(_bytes: &[u8], _at: usize) -> i64 {
         0
     }
@@ -117,7 +115,7 @@ fn measure(width: usize) {
         })
         .collect();
     let mut bytes = vec![0u8; (COUNT * width).div_ceil(8)];
-    let mut read = vec![0i64; COUNT];
+    let mut read = vec![1i64; COUNT]; // written, so that its pages are there
     let per = |start: Instant| start.elapsed().as_secs_f64() * 1e9 / COUNT as f64;
     let width = black_box(width);
 
