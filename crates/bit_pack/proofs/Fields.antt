@@ -1,12 +1,12 @@
 -- What reading and writing a value's bits in a slice comes to.
-use Rattle.std.proofs.Common.{◌≡◌, ℕ, zero, suc, ◌+◌, ◌-◌, ◌*◌, ◌/◌, ◌%◌, ◌^◌, ◌<◌, ◌≤◌, ℤ, pos, negsuc, ◌≤ℤ◌, List, [], ◌∷◌, ◌++◌, length, map, get_or, set, take, drop, to_z, of_z, FitsSigned, unsigned_abs, ◌<ℤ◌, refl, sym, ap, subst, ◌∙◌, arith}
+use Rattle.std.proofs.Common.{◌≡◌, ℕ, ◌+◌, ◌-◌, ◌*◌, ◌/◌, ◌%◌, ◌^◌, ◌<◌, ◌≤◌, ℤ, pos, negsuc, ◌≤ℤ◌, List, [], ◌∷◌, ◌++◌, length, map, get_or, set, take, drop, to_z, of_z, FitsSigned, unsigned_abs, ◌<ℤ◌, refl, sym, ap, subst, ◌∙◌, arith}
 use Rattle.std.proofs.Math.Nat.{mod-eq_of_lt, add-zero}
 use Rattle.std.proofs.lemmas.Int.{ints, to_z-of_z}
 use Rattle.std.proofs.lemmas.List.{length-set, length-append, length-take, length-drop, drop-drop}
-use Rattle.std.proofs.lemmas.List.Elements.{All-set, All-append, All-take, All-drop, All-from_get_or, All-from_recursion}
-use Rattle.std.proofs.lemmas.Nat.{mod_below, from_le_bytes-to_le_bytes_2, from_le_bytes-to_le_bytes_4, from_le_bytes-to_le_bytes_8}
-use Rattle.std.specs.Int.{w8, w16, w32, w64, byte_at, bytes_low_first, to_le_bytes, from_le_bytes}
-use Rattle.std.specs.List.{range_with_len, AllByRecursion}
+use Rattle.std.proofs.lemmas.List.Elements.{All-set, All-append, All-take, All-drop, All-from_get_or}
+use Rattle.std.proofs.lemmas.Nat.{from_le_bytes-to_le_bytes_2, from_le_bytes-to_le_bytes_4, from_le_bytes-to_le_bytes_8}
+use Rattle.std.specs.Int.{w8, w16, w32, w64, byte_at, to_le_bytes, from_le_bytes}
+use Rattle.std.specs.List.{range_with_len}
 use Rattle.bit_pack.specs.declared.widths.Width.{Width}
 use Rattle.bit_pack.specs.declared.widths.Width.TheVariants.{W8, W16, W32, W64}
 use Rattle.bit_pack.specs.Width.{bit_count, Holds}
@@ -15,6 +15,7 @@ use Rattle.bit_pack.specs.Lane.{Writes}
 use Rattle.bit_pack.proofs.Digits.{pow-mul}
 use Rattle.bit_pack.proofs.Packing.{AreDigits-bytes}
 use Rattle.bit_pack.proofs.Residues.{residue-lt}
+use Rattle.bit_pack.proofs.Parts.{AreBytes-bytes_low_first}
 use Rattle.bit_pack.proofs.Windows.{window_is, wide_digit, number_of-splice, narrow_digit, narrow_change}
 
 -- the bytes of a slice, by its type
@@ -125,15 +126,6 @@ replaced w k i v bytes ys bits within h octets len number =
       number = omega (arith, spliced, gone, come);
     }
 
--- the bytes of a number of k bytes
-bytes_of_AreBytes : (i k n : ℕ) → AllByRecursion (λ b. b < 256) (bytes_low_first i k n)
-bytes_of_AreBytes i zero n = tt
-bytes_of_AreBytes i (suc k) n = (byte_lt i n, bytes_of_AreBytes (suc i) k n)
-  where
-    byte_lt : (i n : ℕ) → byte_at i n < 256
-    byte_lt zero n = mod_below n 256 (omega arith)
-    byte_lt (suc i) n = mod_below (n / 256 ^ suc i) 256 (omega arith)
-
 -- 2 bytes are the number that `from_le_bytes` gives
 pub from_le_bytes_2 : (b0 b1 : ℕ) → from_le_bytes w16 (b0 ∷ b1 ∷ []) ≡ number_of 256 (b0 ∷ b1 ∷ [])
 from_le_bytes_2 b0 b1 = omega arith
@@ -149,7 +141,7 @@ pub write_of_2 : (i n m : ℕ) (v : ℤ) (bytes ys : List ℕ) → 2 * i + 2 ≤
 write_of_2 i n m v bytes ys within h made digit count =
     let small : n < 2 ^ 16 = omega (arith, digit, residue-lt 16 v) in
     let number : number_of 256 (to_le_bytes w16 n) ≡ residue 16 v = sym (from_le_bytes_2 (byte_at 0 n) (byte_at 1 n)) ∙ from_le_bytes-to_le_bytes_2 n small ∙ digit in
-    let octets : AreBytes (to_le_bytes w16 n) = All-from_recursion (λ b. b < 256) (to_le_bytes w16 n) (bytes_of_AreBytes 0 2 n) in
+    let octets : AreBytes (to_le_bytes w16 n) = AreBytes-bytes_low_first 0 2 n in
     let done : Writes W16 bytes (take (2 * i) bytes ++ (to_le_bytes w16 n ++ drop 2 (drop (2 * i) bytes))) i v = replaced W16 2 i v bytes (to_le_bytes w16 n) refl within h octets refl number in
     subst (λ (xs : List ℕ). Writes W16 bytes (take (2 * i) bytes ++ (xs ++ drop m (drop (2 * i) bytes))) i v) (sym made) (subst (λ (j : ℕ). Writes W16 bytes (take (2 * i) bytes ++ (to_le_bytes w16 n ++ drop j (drop (2 * i) bytes))) i v) (sym count) done)
 
@@ -168,7 +160,7 @@ pub write_of_4 : (i n m : ℕ) (v : ℤ) (bytes ys : List ℕ) → 4 * i + 4 ≤
 write_of_4 i n m v bytes ys within h made digit count =
     let small : n < 2 ^ 32 = omega (arith, digit, residue-lt 32 v) in
     let number : number_of 256 (to_le_bytes w32 n) ≡ residue 32 v = sym (from_le_bytes_4 (byte_at 0 n) (byte_at 1 n) (byte_at 2 n) (byte_at 3 n)) ∙ from_le_bytes-to_le_bytes_4 n small ∙ digit in
-    let octets : AreBytes (to_le_bytes w32 n) = All-from_recursion (λ b. b < 256) (to_le_bytes w32 n) (bytes_of_AreBytes 0 4 n) in
+    let octets : AreBytes (to_le_bytes w32 n) = AreBytes-bytes_low_first 0 4 n in
     let done : Writes W32 bytes (take (4 * i) bytes ++ (to_le_bytes w32 n ++ drop 4 (drop (4 * i) bytes))) i v = replaced W32 4 i v bytes (to_le_bytes w32 n) refl within h octets refl number in
     subst (λ (xs : List ℕ). Writes W32 bytes (take (4 * i) bytes ++ (xs ++ drop m (drop (4 * i) bytes))) i v) (sym made) (subst (λ (j : ℕ). Writes W32 bytes (take (4 * i) bytes ++ (to_le_bytes w32 n ++ drop j (drop (4 * i) bytes))) i v) (sym count) done)
 
@@ -187,6 +179,6 @@ pub write_of_8 : (i n m : ℕ) (v : ℤ) (bytes ys : List ℕ) → 8 * i + 8 ≤
 write_of_8 i n m v bytes ys within h made digit count =
     let small : n < 2 ^ 64 = omega (arith, digit, residue-lt 64 v) in
     let number : number_of 256 (to_le_bytes w64 n) ≡ residue 64 v = sym (from_le_bytes_8 (byte_at 0 n) (byte_at 1 n) (byte_at 2 n) (byte_at 3 n) (byte_at 4 n) (byte_at 5 n) (byte_at 6 n) (byte_at 7 n)) ∙ from_le_bytes-to_le_bytes_8 n small ∙ digit in
-    let octets : AreBytes (to_le_bytes w64 n) = All-from_recursion (λ b. b < 256) (to_le_bytes w64 n) (bytes_of_AreBytes 0 8 n) in
+    let octets : AreBytes (to_le_bytes w64 n) = AreBytes-bytes_low_first 0 8 n in
     let done : Writes W64 bytes (take (8 * i) bytes ++ (to_le_bytes w64 n ++ drop 8 (drop (8 * i) bytes))) i v = replaced W64 8 i v bytes (to_le_bytes w64 n) refl within h octets refl number in
     subst (λ (xs : List ℕ). Writes W64 bytes (take (8 * i) bytes ++ (xs ++ drop m (drop (8 * i) bytes))) i v) (sym made) (subst (λ (j : ℕ). Writes W64 bytes (take (8 * i) bytes ++ (to_le_bytes w64 n ++ drop j (drop (8 * i) bytes))) i v) (sym count) done)

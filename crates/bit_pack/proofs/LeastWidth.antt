@@ -74,21 +74,26 @@ same_least u w vs h k =
     let ge : bit_count w ≤ bit_count u = k.least u h.held in
     same_width u w (omega arith)
 
+-- what holds two lists together holds each
+pub held-append_left : (w : Width) (xs ys : List ℤ) → HoldsAll w (xs ++ ys) → HoldsAll w xs
+held-append_left w xs ys h = record {
+  each = λ j d within. subst (Holds w) (get_or_append_left xs ys d j within) (h.each j d (omega (arith, length-append xs ys)));
+}
+
+pub held-append_right : (w : Width) (xs ys : List ℤ) → HoldsAll w (xs ++ ys) → HoldsAll w ys
+held-append_right w xs ys h = record {
+  each = λ j d within. subst (Holds w) (get_or-append-add xs ys j d) (h.each (length xs + j) d (omega (arith, length-append xs ys)));
+}
+
 -- the least width of two lists together is the wider of theirs
 pub least-append : (u w t : Width) (xs ys : List ℤ) → IsLeastWidth u xs → IsLeastWidth w ys → bit_count t ≡ max (bit_count u) (bit_count w) → IsLeastWidth t (xs ++ ys)
 least-append u w t xs ys h k e = record {
   held = record { each = All-append (Holds t) xs ys (HoldsAll-wider u t xs (omega (arith, e)) h.held).each (HoldsAll-wider w t ys (omega (arith, e)) k.held).each };
   least = λ s all.
-      let first : bit_count u ≤ bit_count s = h.least s (record { each = held_left s xs ys all.each }) in
-      let second : bit_count w ≤ bit_count s = k.least s (record { each = held_right s xs ys all.each }) in
+      let first : bit_count u ≤ bit_count s = h.least s (held-append_left s xs ys all) in
+      let second : bit_count w ≤ bit_count s = k.least s (held-append_right s xs ys all) in
       omega (arith, e);
 }
-  where
-    held_left : (s : Width) (xs ys : List ℤ) → All (Holds s) (xs ++ ys) → All (Holds s) xs
-    held_left s xs ys all = λ j d within. subst (Holds s) (get_or_append_left xs ys d j within) (all j d (omega (arith, length-append xs ys)))
-
-    held_right : (s : Width) (xs ys : List ℤ) → All (Holds s) (xs ++ ys) → All (Holds s) ys
-    held_right s xs ys all = λ j d within. subst (Holds s) (get_or-append-add xs ys j d) (all (length xs + j) d (omega (arith, length-append xs ys)))
 
 -- the least width of values is that of their least and greatest, or of 0 where it is outside them
 pub least_by_range : (w : Width) (low high : ℤ) (vs : List ℤ) → low ≡ fold int_min (pos 0) vs → high ≡ fold int_max (pos 0) vs → Holds w low → Holds w high → ((u : Width) → Holds u low → Holds u high → bit_count w ≤ bit_count u) → IsLeastWidth w vs

@@ -8,7 +8,7 @@ use Rattle.std.proofs.lemmas.List.FromFn.{length-map-range_with_len, get_or-map-
 use Rattle.std.specs.List.{range_with_len, AllByRecursion}
 use Rattle.bit_pack.specs.declared.widths.Width.{Width}
 use Rattle.bit_pack.specs.Width.{bit_count, Holds, HoldsAll}
-use Rattle.bit_pack.specs.Packed.{number_of, little_endian, residue, sum_from, packed_number, AreBytes, PackedAt, value_of, digit_at, value_at, values_from, HasPadding, Reaches}
+use Rattle.bit_pack.specs.Packed.{number_of, little_endian, residue, sum_from, packed_number, packed_len, AreBytes, PackedAt, value_of, digit_at, value_at, values_from, HasPadding, Reaches}
 use Rattle.bit_pack.proofs.Digits.{AreDigits, pow-mul, number_of-lt, number_of-digit, number_of-injective}
 use Rattle.bit_pack.proofs.Residues.{residue-lt, value_of-residue, Holds-value_of, residue-value_of}
 
@@ -88,6 +88,10 @@ pub reaches_within : (w : Width) (bytes : List ℕ) (m n : ℕ) → m ≤ n → 
 reaches_within w bytes m n le h =
     let grows : bit_count w * m ≤ bit_count w * n = mul-le-mul_left (bit_count w) le in
     omega (arith, grows, h)
+
+-- as many bytes as n values take have the bits of each place up to n
+pub reaches_len : (w : Width) (bytes : List ℕ) (n m : ℕ) → length bytes ≡ packed_len w n → m ≤ n → Reaches w bytes m
+reaches_len w bytes n m len le = reaches_within w bytes m n le (omega (arith, len, mul_comm n (bit_count w)))
 
 -- a number is made of its digits
 pub number_of-digits : (w n i number : ℕ) → number_of (2 ^ w) (map (λ j. number / 2 ^ (w * j) % 2 ^ w) (range_with_len i n)) ≡ number / 2 ^ (w * i) % 2 ^ (w * n)

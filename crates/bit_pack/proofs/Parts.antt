@@ -1,17 +1,18 @@
 -- The packing of values, and of their parts at a byte's edge.
-use Rattle.std.proofs.Common.{◌≡◌, ℕ, zero, suc, ◌+◌, ◌-◌, ◌*◌, ◌/◌, ◌%◌, ◌^◌, ◌<◌, ◌≤◌, ℤ, pos, List, [], ◌∷◌, ◌++◌, length, map, get_or, set, take, drop, inl, inr, refl, sym, ap, subst, ◌∙◌, add-one, arith}
-use Rattle.std.proofs.Math.Nat.{mul_comm, mul_assoc, mul-zero, mul-le-mul_right, mod-eq_of_lt, div-one, pow-zero, pow-le-pow_right}
+use Rattle.std.proofs.Common.{◌≡◌, ℕ, zero, suc, ◌+◌, ◌-◌, ◌*◌, ◌/◌, ◌%◌, ◌^◌, ◌<◌, ◌≤◌, ℤ, List, ◌++◌, length, map, get_or, take, drop, inl, inr, refl, sym, ap, subst, ◌∙◌, add-one, arith}
+use Rattle.std.proofs.Math.Nat.{mul_comm, mul_assoc, mul-zero, mul-le-mul_right, mod-eq_of_lt, div-one, pow-le-pow_right}
 use Rattle.std.proofs.lemmas.Nat.{mod_below}
 use Rattle.std.proofs.lemmas.Bool.{cases_lt}
-use Rattle.std.proofs.lemmas.List.{length-append, take_all, length-take, length-drop, take-append-drop, take_at, drop_at, append_cancel_left, length-map, get_or_append_left, get_or-append-add}
+use Rattle.std.proofs.lemmas.List.{length-append, take_all, length-take, length-drop, take-append-drop, take_at, drop_at, get_or_append_left, get_or-append-add}
 use Rattle.std.proofs.lemmas.List.Elements.{All-from_recursion}
 use Rattle.std.specs.Int.{byte_at, bytes_low_first}
-use Rattle.std.specs.List.{range_with_len, All, AllByRecursion}
+use Rattle.std.specs.List.{range_with_len, AllByRecursion}
 use Rattle.bit_pack.specs.declared.widths.Width.{Width}
-use Rattle.bit_pack.specs.Width.{bit_count, Holds, HoldsAll}
-use Rattle.bit_pack.specs.Packed.{number_of, little_endian, packed_number, packed_len, AreBytes, PackedAt, packing}
+use Rattle.bit_pack.specs.Width.{bit_count, HoldsAll}
+use Rattle.bit_pack.specs.Packed.{number_of, packed_number, packed_len, AreBytes, PackedAt, packing}
 use Rattle.bit_pack.proofs.Digits.{pow-mul}
 use Rattle.bit_pack.proofs.Packing.{number_of-digits, packed_number-lt, same_bytes}
+use Rattle.bit_pack.proofs.LeastWidth.{held-append_left, held-append_right}
 use Rattle.bit_pack.proofs.Changes.{packed-append}
 
 byte_at_is : (i n : ℕ) → byte_at i n ≡ n / 2 ^ (8 * i) % 2 ^ 8
@@ -29,7 +30,7 @@ length-bytes_low_first : (i k n : ℕ) → length (bytes_low_first i k n) ≡ k
 length-bytes_low_first i zero n = refl
 length-bytes_low_first i (suc k) n = omega (arith, length-bytes_low_first (suc i) k n)
 
-AreBytes-bytes_low_first : (i k n : ℕ) → AreBytes (bytes_low_first i k n)
+pub AreBytes-bytes_low_first : (i k n : ℕ) → AreBytes (bytes_low_first i k n)
 AreBytes-bytes_low_first i k n = All-from_recursion (λ b. b < 256) (bytes_low_first i k n) (by_recursion i k)
   where
     byte_lt : (i : ℕ) → byte_at i n < 256
@@ -65,12 +66,6 @@ pub ends_at_edge : (w : Width) (n m : ℕ) → n ≡ 8 * m → bit_count w * n �
 ends_at_edge w n m e =
     let bits : n * bit_count w ≡ 8 * (m * bit_count w) = ap (λ (k : ℕ). k * bit_count w) e ∙ mul_assoc 8 m (bit_count w) in
     omega (arith, bits, mul_comm n (bit_count w))
-
-held-append_left : (w : Width) (xs ys : List ℤ) → HoldsAll w (xs ++ ys) → HoldsAll w xs
-held-append_left w xs ys h = record { each = λ j d within. subst (Holds w) (get_or_append_left xs ys d j within) (h.each j d (omega (arith, length-append xs ys))) }
-
-held-append_right : (w : Width) (xs ys : List ℤ) → HoldsAll w (xs ++ ys) → HoldsAll w ys
-held-append_right w xs ys h = record { each = λ j d within. subst (Holds w) (get_or-append-add xs ys j d) (h.each (length xs + j) d (omega (arith, length-append xs ys))) }
 
 -- the packing of joined values, the first of which end at a byte's edge
 pub packing-append : (w : Width) (xs ys : List ℤ) → HoldsAll w (xs ++ ys) → bit_count w * length xs ≡ 8 * packed_len w (length xs) → packing w (xs ++ ys) ≡ packing w xs ++ packing w ys

@@ -18,7 +18,8 @@ pub const MOST_VALUES: usize = 16_777_216;
 pub fn get(width: Width, bytes: &[u8], at: usize) -> i64
     requires { Reaches width bytes.now (at + 1) }
     ensures value { result ≡ value_at width bytes.now at }
-    ensures packed { (values : List ℤ) → PackedAt width values bytes.now → at < length values → slice_get values at ≡ Some result }
+    ensures packed { (values : List ℤ) → PackedAt width values bytes.now → at < length values
+        → slice_get values at ≡ Some result }
 {
     by_width::read_one(width, bytes, at)
 }
@@ -28,7 +29,8 @@ pub fn get(width: Width, bytes: &[u8], at: usize) -> i64
 pub fn put(width: Width, bytes: &mut [u8], at: usize, value: i64)
     requires reaches { Reaches width bytes.old (at + 1) }
     requires holds { Holds width value }
-    ensures { (values : List ℤ) → PackedAt width values bytes.old → at < length values → PackedAt width (slice_set values at value) bytes.new }
+    ensures { (values : List ℤ) → PackedAt width values bytes.old → at < length values
+        → PackedAt width (slice_set values at value) bytes.new }
 {
     by_width::write_one(width, bytes, at, value);
 }

@@ -1,10 +1,10 @@
-use Rattle.std.proofs.Common.{◌≡◌, ℕ, ◌+◌, ◌-◌, ◌*◌, ◌/◌, ◌%◌, ◌<◌, ◌≤◌, min, ℤ, List, length, take, drop, get_or, inl, inr, sym, ap, subst, ◌∙◌, arith}
+use Rattle.std.proofs.Common.{◌≡◌, ℕ, ◌+◌, ◌-◌, ◌*◌, ◌/◌, ◌%◌, ◌<◌, min, List, length, take, drop, get_or, inl, inr, sym, ap, subst, ◌∙◌, arith}
 use Rattle.std.proofs.Math.Nat.{div-add-mod}
 use Rattle.std.proofs.lemmas.Bool.{cases_lt}
 use Rattle.std.proofs.lemmas.Nat.{mod_below}
 use Rattle.std.proofs.lemmas.List.{length-drop, take_min, get_or_append_left}
 use Rattle.bit_pack.specs.Width.{bit_count}
-use Rattle.bit_pack.specs.Packed.{packed_len, packing}
+use Rattle.bit_pack.specs.Packed.{packing}
 use Rattle.bit_pack.proofs.Parts.{packing_is, packing-group, length-packing}
 use Rattle.bit_pack.proofs.packed.packed_byte.Goals as goal
 
