@@ -1,8 +1,7 @@
 -- One piece appended after another.
-use Rattle.std.proofs.Common.{◌≡◌, ℕ, ◌+◌, ◌<◌, ◌≤◌, List, [], ◌∷◌, ◌++◌, length, take, drop, get_or, zero, suc, add-one, Result, Ok, Err, OnOk, OnErr, IsOk, IsErr, is_err, true, MatchResult, refl, ap, sym, subst, ◌∙◌, append_assoc, arith, length-append, inl, inr}
+use Rattle.std.proofs.Common.{◌≡◌, ℕ, ◌+◌, ◌<◌, ◌≤◌, List, [], ◌∷◌, ◌++◌, length, take, drop, get_or, zero, suc, add-one, Result, Ok, Err, OnOk, OnErr, IsOk, IsErr, is_err, true, refl, ap, sym, subst, ◌∙◌, append_assoc, arith, length-append, inl, inr}
 use Rattle.std.proofs.lemmas.Bool.{cases_lt, false≢true}
 use Rattle.std.proofs.lemmas.Grind.{common_steps}
-use Rattle.std.proofs.lemmas.Result.{MatchResult-from_both}
 use Rattle.std.specs.List.{flat_map}
 use Rattle.std.specs.Str.{IsUtf8}
 use Rattle.mk_value.specs.Buffer.{Buffer}
@@ -24,23 +23,27 @@ appends_nothing a = record { bytes = sym (append_nil a.bytes); room = omega arit
 
 pub appends_then : (a b c : Buffer) (p q : List ℕ) → Appends a p b → Appends b q c → Appends a (p ++ q) c
 appends_then a b c p q first more = record {
-    bytes = more.bytes ∙ ap (λ xs. xs ++ q) first.bytes ∙ append_assoc a.bytes p q;
-    room = omega (arith, length-append p q) }
+  bytes = more.bytes ∙ ap (λ xs. xs ++ q) first.bytes ∙ append_assoc a.bytes p q;
+  room = omega (arith, length-append p q);
+}
 
 pub short_front : (a b : Buffer) (p q : List ℕ) → FellShort a p b → FellShort a (p ++ q) b
 short_front a b p q h = record {
-    front = h.front; longer = h.longer;
-    room = omega (arith, length-append p q);
-    short = omega (arith, length-append p q) }
+  front = h.front;
+  longer = h.longer;
+  room = omega (arith, length-append p q);
+  short = omega (arith, length-append p q);
+}
 
 pub short_then : (a b c : Buffer) (p q : List ℕ) → Appends a p b → FellShort b q c → FellShort a (p ++ q) c
 short_then a b c p q first h =
     let long : length b.bytes ≡ length a.bytes + length p = ap length first.bytes ∙ length-append a.bytes p in
     record {
-    front = sym (take_take (length a.bytes) (length b.bytes) c.bytes (omega arith)) ∙ ap (take (length a.bytes)) (h.front ∙ first.bytes) ∙ take_front a.bytes p;
-    longer = omega arith;
-    room = omega (arith, length-append p q);
-    short = omega (arith, length-append p q) }
+      front = sym (take_take (length a.bytes) (length b.bytes) c.bytes (omega arith)) ∙ ap (take (length a.bytes)) (h.front ∙ first.bytes) ∙ take_front a.bytes p;
+      longer = omega arith;
+      room = omega (arith, length-append p q);
+      short = omega (arith, length-append p q);
+    }
 
 pub writes_then : {T E : Type 0} (r : Result T E) (a b c : Buffer) (p q : List ℕ) → Appends a p b → Writes r b q c → Writes r a (p ++ q) c
 writes_then (Ok x) a b c p q first h = appends_then a b c p q first h
@@ -55,10 +58,11 @@ writes_pushed (Ok x) a b p ok err roomy spare = record { bytes = ok; room = spar
 writes_pushed (Err e) a b p ok err roomy spare =
     let long = ap length err in
     record {
-    front = ap (take (length a.bytes)) err ∙ ap (take (length a.bytes)) (sym (append_nil a.bytes)) ∙ take_front a.bytes [];
-    longer = omega arith;
-    room = omega arith;
-    short = elim (cases_lt a.spare (length p)) [ inl h ↦ h | inr h ↦ absurd (false≢true (roomy h)) ] }
+      front = ap (take (length a.bytes)) err ∙ ap (take (length a.bytes)) (sym (append_nil a.bytes)) ∙ take_front a.bytes [];
+      longer = omega arith;
+      room = omega arith;
+      short = elim (cases_lt a.spare (length p)) [ inl h ↦ h | inr h ↦ absurd (false≢true (roomy h)) ];
+    }
 
 -- the texts of a list's elements one after another: before an element, the element, and behind it
 split_suc : {X : Type 0} (f : X → List ℕ) (xs : List X) (i : ℕ) (x : X) → i < length xs → x ≡ get_or xs i x → flat_map f (take i xs) ++ (f x ++ flat_map f (drop (suc i) xs)) ≡ flat_map f xs
@@ -86,7 +90,7 @@ appends_next f xs i x a b c p e first more = subst (λ t. Appends a t c) (flat_n
 pub short_next : {X : Type 0} (f : X → List ℕ) (xs : List X) (i : ℕ) (x : X) (a b c : Buffer) → i < length xs → x ≡ get_or xs i x → Appends a (flat_map f (take i xs)) b → FellShort b (f x) c → FellShort a (flat_map f xs) c
 short_next f xs i x a b c p e first h =
     subst (λ t. FellShort a t c) (flat_split f xs i x p e)
-      (short_then a b c (flat_map f (take i xs)) (f x ++ flat_map f (drop (i + 1) xs)) first (short_front b c (f x) (flat_map f (drop (i + 1) xs)) h))
+    (short_then a b c (flat_map f (take i xs)) (f x ++ flat_map f (drop (i + 1) xs)) first (short_front b c (f x) (flat_map f (drop (i + 1) xs)) h))
 
 -- what the exit of a `?` hands on
 pub fell_short : {T E : Type 0} (r : Result T E) (a b : Buffer) (p : List ℕ) → IsErr r → FellShort a p b → Writes r a p b

@@ -1,5 +1,5 @@
 -- What stands for the characters of a text inside quotes.
-use Rattle.std.proofs.Common.{◌≡◌, ◌≢◌, ℕ, ◌+◌, ◌*◌, ◌<◌, ◌≤◌, List, [], ◌∷◌, ◌++◌, length, refl, ap, sym, ◌∙◌, append_assoc, arith, inl, inr, get_or, suc, append-nil}
+use Rattle.std.proofs.Common.{◌≡◌, ◌≢◌, ℕ, ◌<◌, ◌≤◌, List, [], ◌∷◌, ◌++◌, length, refl, ap, sym, ◌∙◌, append_assoc, arith, inl, inr, get_or, suc, append-nil}
 use Rattle.std.proofs.lemmas.Bool.{cases_lt}
 use Rattle.std.proofs.lemmas.Str.{encode_ascii, inside_one}
 use Rattle.std.specs.List.{flat_map}
@@ -27,10 +27,12 @@ high_bytes (b ∷ rest) high =
 -- any other character stands for itself
 pub escaped_character : (c : ℕ) → c ≢ 34 → c ≢ 92 → c ≢ 10 → flat_map escaped (encode_utf8 c) ≡ encode_utf8 c
 escaped_character c q s n = elim (cases_lt c 128) [
-    inl small ↦ rw (encode_ascii c small) (ap (λ xs. xs ++ []) (escaped_plain c q s n))
+  | inl small ↦ rw (encode_ascii c small) (ap (λ xs. xs ++ []) (escaped_plain c q s n))
   | inr wide ↦ high_bytes (encode_utf8 c) (λ k p. elim (cases_lt (get_or (encode_utf8 c) k 0) 128) [
-        inl low ↦ absurd (omega (arith, inside_one c [] (encode_utf8 c) k (sym (append-nil _)) p low))
-      | inr high ↦ high ]) ]
+    | inl low ↦ absurd (omega (arith, inside_one c [] (encode_utf8 c) k (sym (append-nil _)) p low))
+    | inr high ↦ high
+  ])
+]
 
 pub escaped_parts : (text front character rest : List ℕ) → text ≡ front ++ (character ++ rest) → flat_map escaped front ++ (flat_map escaped character ++ flat_map escaped rest) ≡ flat_map escaped text
 escaped_parts text front character rest e =

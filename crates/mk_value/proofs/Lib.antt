@@ -1,5 +1,6 @@
 pub mod Appending
 pub mod Cells
+pub mod Converting
 pub mod Escapes
 pub mod Headings
 pub mod Names

@@ -1,6 +1,5 @@
 -- The texts of values, taken apart into the pieces that are appended one after another.
-use Rattle.std.proofs.Common.{◌≡◌, ℕ, List, [], ◌∷◌, ◌++◌, refl, ap, sym, ◌∙◌, append_assoc, rules}
-use Rattle.std.specs.List.{flat_map}
+use Rattle.std.proofs.Common.{◌≡◌, List, [], ◌∷◌, ◌++◌, refl, ap, sym, ◌∙◌, append_assoc}
 use Rattle.mk_value.specs.Data.{Datum, tuple_of, relation_of}
 use Rattle.mk_value.specs.Tokens.{Token, spelling}
 use Rattle.mk_value.specs.Literals.{tokens_of, row_tokens, more_values, more_rows, spelled, value_text, row_text, rows_text, values_text, joined_rows_text, more_values_text, more_rows_text}
@@ -25,7 +24,7 @@ row_text_pieces [] = refl
 row_text_pieces (d ∷ rest) = ap (λ zs. 40 ∷ zs) (
     append_assoc (value_text d) (more_values_text rest) (41 ∷ [])
     ∙ ap (λ zs. value_text d ++ zs) (
-        ap (λ zs. zs ++ (41 ∷ [])) (sym (more_values_spelled rest)) ∙ sym (spelled-append (more_values (tuple_of rest)) (Token.sign 41 ∷ [])))
+    ap (λ zs. zs ++ (41 ∷ [])) (sym (more_values_spelled rest)) ∙ sym (spelled-append (more_values (tuple_of rest)) (Token.sign 41 ∷ [])))
     ∙ sym (spelled-append (tokens_of d) (more_values (tuple_of rest) ++ (Token.sign 41 ∷ []))))
 
 pub rows_text_pieces : (rows : List (List Datum)) → (123 ∷ []) ++ (joined_rows_text rows ++ (125 ∷ [])) ≡ rows_text rows

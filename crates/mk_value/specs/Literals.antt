@@ -1,8 +1,7 @@
 -- Literals: values as they are written, and the texts of values and rows.
-use Rattle.std.specs.Prelude.{◌≡◌, ℕ, zero, suc, ◌<◌, ℤ, List, [], ◌∷◌, ◌++◌, All, FitsSigned}
-use Rattle.std.specs.Int.{w64}
+use Rattle.std.specs.Prelude.{ℕ, List, [], ◌∷◌, ◌++◌}
 use Rattle.std.specs.List.{flat_map}
-use Rattle.mk_value.specs.Data.{Datum, integer, long, text, bytes, relation, Tuple, no_values, value, Relation, no_tuples, tuple, IsText, tuple_of, relation_of}
+use Rattle.mk_value.specs.Data.{Datum, integer, long, text, bytes, relation, Tuple, no_values, value, Relation, no_tuples, tuple, tuple_of, relation_of}
 use Rattle.mk_value.specs.Tokens.{Token, spelling}
 
 -- the tokens of a value: a number, a text or a byte string is one; a view is its rows in braces, joined by commas;

@@ -1,5 +1,5 @@
 -- The tokens that lines and literals are written in.
-use Rattle.std.specs.Prelude.{◌≡◌, ◌≢◌, ℕ, ◌+◌, ◌/◌, ◌%◌, ◌<◌, ◌≤◌, ℤ, Bool, true, false, ◌==◌, nat_lt, if◌then◌else◌, List, [], ◌∷◌, ◌++◌, length, drop, All, slice_index, FitsSigned, Option, Some, None, codes}
+use Rattle.std.specs.Prelude.{◌≡◌, ◌≢◌, ℕ, ◌+◌, ◌/◌, ◌%◌, ◌<◌, ◌≤◌, ℤ, false, ◌==◌, nat_lt, if◌then◌else◌, List, [], ◌∷◌, ◌++◌, length, drop, All, slice_index, FitsSigned, Option, Some, None, codes}
 use Rattle.std.specs.Int.{w64}
 use Rattle.std.specs.List.{flat_map, Contains}
 use Rattle.std.specs.Char.{is_ascii_digit}

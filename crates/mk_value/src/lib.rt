@@ -4,9 +4,11 @@
 #![tactic(auto)]
 
 mod bytes;
+mod conversion;
 mod fitting;
 mod key;
 mod limits;
+mod literal;
 mod memory;
 mod name;
 mod path;
@@ -20,9 +22,11 @@ mod text;
 mod value;
 
 pub use bytes::Bytes;
+pub use conversion::{FitError, literal_fits, to_value};
 pub use fitting::{default_of, fits, is_text, row_fits, rows_fit};
 pub use key::{KeyPart, KeyParts, KeyRow, cmp_value};
 pub use limits::{MAX_BYTES, MAX_DEPTH, MAX_NAME, MAX_PROPERTIES, MAX_ROWS};
+pub use literal::{Literal, LiteralRows, Literals};
 pub use memory::Memory;
 pub use name::Name;
 pub use path::{Path, Step};

@@ -111,7 +111,11 @@ fn hex_digit(digit: u8) -> char
     requires { digit < 16 }
     ensures { encode_utf8 result ≡ digit_of digit ∷ [] }
 {
-    let byte = if digit < 10 { b'0' + digit } else { b'a' + (digit - 10) };
+    let byte = if digit < 10 {
+        b'0' + digit
+    } else {
+        b'a' + (digit - 10)
+    };
     char::from(byte)
 }
 

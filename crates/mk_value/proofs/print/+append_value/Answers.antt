@@ -1,7 +1,7 @@
-use Rattle.std.proofs.Common.{◌≡◌, ◌+◌, ◌<◌, List, ◌∷◌, [], ◌++◌, map, length, arith, ap, sym, subst, ◌∙◌}
+use Rattle.std.proofs.Common.{◌<◌, ◌∷◌, [], map, length, arith, ap}
 use Rattle.std.proofs.lemmas.List.{length-map}
-use Rattle.mk_value.specs.Data.{datum_weight, row_weight, rows_weight}
-use Rattle.mk_value.specs.Literals.{value_text, row_text, values_text, joined_rows_text}
+use Rattle.mk_value.specs.Data.{datum_weight}
+use Rattle.mk_value.specs.Literals.{value_text, row_text}
 use Rattle.mk_value.specs.Values.{datum_of}
 use Rattle.mk_value.proofs.Appending.{short_first, short_second, short_mark, short_marked, appends_marked, writes_third, fell_short}
 use Rattle.mk_value.proofs.Printed.{row_text_pieces, rows_text_pieces, row_text_along, rows_text_along}
@@ -22,7 +22,7 @@ append_row-returns-in_err-append_str t c =
 pub append_row-returns-in_err-append_values : goal.append_row-returns-in_err-append_values
 append_row-returns-in_err-append_values t c =
     fell_short _ _ _ _ c.from_residual-in_err-append_values.ensures.0
-      (short_second _ _ _ _ _ _ _ (row_text_along _ _ c.as_slice.ensures) c.in_ok-append_str.ensures c.in_err-append_values.ensures)
+    (short_second _ _ _ _ _ _ _ (row_text_along _ _ c.as_slice.ensures) c.in_ok-append_str.ensures c.in_err-append_values.ensures)
 
 pub append_row-returns : goal.append_row-returns
 append_row-returns t c =
@@ -36,7 +36,7 @@ append_rows-returns-in_err-append_str t c =
 pub append_rows-returns-in_err-append_joined_rows : goal.append_rows-returns-in_err-append_joined_rows
 append_rows-returns-in_err-append_joined_rows t c =
     fell_short _ _ _ _ c.from_residual-in_err-append_joined_rows.ensures.0
-      (short_second _ _ _ _ _ _ _ (rows_text_along _ _ c.as_slice.ensures) c.in_ok-append_str.ensures c.in_err-append_joined_rows.ensures)
+    (short_second _ _ _ _ _ _ _ (rows_text_along _ _ c.as_slice.ensures) c.in_ok-append_str.ensures c.in_err-append_joined_rows.ensures)
 
 pub append_rows-returns : goal.append_rows-returns
 append_rows-returns t c =
@@ -50,12 +50,12 @@ append_more_rows-append_row-requires t c =
 pub append_more_rows-returns-in_err-append_str : goal.append_more_rows-returns-in_err-append_str
 append_more_rows-returns-in_err-append_str t c =
     fell_short _ _ _ _ c.from_residual.ensures.0
-      (short_mark (44 ∷ []) row_text c.args.rows.now _ c.row-item.result _ _ _ c.loop-row-test.true c.row-item.is c.loop-row.invariant c.in_err-append_str.ensures)
+    (short_mark (44 ∷ []) row_text c.args.rows.now _ c.row-item.result _ _ _ c.loop-row-test.true c.row-item.is c.loop-row.invariant c.in_err-append_str.ensures)
 
 pub append_more_rows-returns-in_err-append_row : goal.append_more_rows-returns-in_err-append_row
 append_more_rows-returns-in_err-append_row t c =
     fell_short _ _ _ _ c.from_residual-in_err-append_row.ensures.0
-      (short_marked (44 ∷ []) row_text c.args.rows.now _ c.row-item.result _ _ _ _ c.loop-row-test.true c.row-item.is c.loop-row.invariant c.in_ok-append_str.ensures c.in_err-append_row.ensures)
+    (short_marked (44 ∷ []) row_text c.args.rows.now _ c.row-item.result _ _ _ _ c.loop-row-test.true c.row-item.is c.loop-row.invariant c.in_ok-append_str.ensures c.in_err-append_row.ensures)
 
 pub append_more_rows-loop-row-preserved : goal.append_more_rows-loop-row-preserved
 append_more_rows-loop-row-preserved t c =
@@ -72,20 +72,20 @@ append_more_values-returns-in_err-append_str t c =
     let long = length-map c.args.values.now datum_of in
     let within : c.loop-value.value-index < length (map datum_of c.args.values.now) = omega arith in
     fell_short _ _ _ _ c.from_residual.ensures.0
-      (short_mark (44 ∷ []) value_text (map datum_of c.args.values.now) _ (datum_of c.value-item.result) _ _ _ within (map_read datum_of _ _ _ c.loop-value-test.true c.value-item.is)
-        c.loop-value.invariant c.in_err-append_str.ensures)
+    (short_mark (44 ∷ []) value_text (map datum_of c.args.values.now) _ (datum_of c.value-item.result) _ _ _ within (map_read datum_of _ _ _ c.loop-value-test.true c.value-item.is)
+    c.loop-value.invariant c.in_err-append_str.ensures)
 
 pub append_more_values-returns-in_err-append_value : goal.append_more_values-returns-in_err-append_value
 append_more_values-returns-in_err-append_value t c =
     let long = length-map c.args.values.now datum_of in
     let within : c.loop-value.value-index < length (map datum_of c.args.values.now) = omega arith in
     fell_short _ _ _ _ c.from_residual-in_err-append_value.ensures.0
-      (short_marked (44 ∷ []) value_text (map datum_of c.args.values.now) _ (datum_of c.value-item.result) _ _ _ _ within (map_read datum_of _ _ _ c.loop-value-test.true c.value-item.is)
-        c.loop-value.invariant c.in_ok-append_str.ensures c.in_err-append_value.ensures)
+    (short_marked (44 ∷ []) value_text (map datum_of c.args.values.now) _ (datum_of c.value-item.result) _ _ _ _ within (map_read datum_of _ _ _ c.loop-value-test.true c.value-item.is)
+    c.loop-value.invariant c.in_ok-append_str.ensures c.in_err-append_value.ensures)
 
 pub append_more_values-loop-value-preserved : goal.append_more_values-loop-value-preserved
 append_more_values-loop-value-preserved t c =
     let long = length-map c.args.values.now datum_of in
     let within : c.loop-value.value-index < length (map datum_of c.args.values.now) = omega arith in
     appends_marked (44 ∷ []) value_text (map datum_of c.args.values.now) _ (datum_of c.value-item.result) _ _ _ _ within (map_read datum_of _ _ _ c.loop-value-test.true c.value-item.is)
-      c.loop-value.invariant c.in_ok-append_str.ensures c.in_ok-append_value.ensures
+    c.loop-value.invariant c.in_ok-append_str.ensures c.in_ok-append_value.ensures
