@@ -1,5 +1,9 @@
 //! The ground that every layer of the store speaks in: names, kinds, schemas, values and their texts.
 //!
+//! Names, texts and byte strings are small types over arrays and vectors; kinds and schemas say which values a property
+//! may have; values, rows and tables of rows are what the store holds; keys order rows; literals are values as they are
+//! written; paths name views. A contract sees each as plain data, which the definitions of `specs/` speak of.
+//!
 //! This crate knows nothing of files, columns or commands.
 #![tactic(auto)]
 
@@ -38,3 +42,12 @@ pub use steps::Steps;
 pub use table::{HeldRows, Same, TableRead};
 pub use text::Text;
 pub use value::{Row, Rows, Value};
+
+/// A list of texts.
+pub type Texts = Sequence<Text>;
+
+/// A list of positions of rows.
+pub type Positions = Sequence<u32>;
+
+/// A list of spans.
+pub type Spans = Sequence<Span>;
