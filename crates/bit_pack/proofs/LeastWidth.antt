@@ -1,0 +1,99 @@
+-- Widths in their order, and the least width of values.
+use Rattle.std.proofs.Common.{◌≡◌, ℕ, ◌+◌, ◌<◌, ◌≤◌, max, ℤ, pos, negsuc, ◌≤ℤ◌, List, ◌++◌, length, get_or, fold, ◌⊎◌, inl, inr, refl, sym, subst, arith}
+use Rattle.std.proofs.lemmas.Int.{ints, fold-int_min_bounds, fold-int_min_reached, fold-int_max_bounds, fold-int_max_reached}
+use Rattle.std.proofs.lemmas.List.{length-append, get_or_append_left, get_or-append-add}
+use Rattle.std.proofs.lemmas.List.Elements.{All-append, All-contains}
+use Rattle.std.specs.Int.{int_min, int_max}
+use Rattle.std.specs.List.{All, Contains}
+use Rattle.bit_pack.specs.declared.widths.Width.{Width}
+use Rattle.bit_pack.specs.declared.widths.Width.TheVariants.{W0, W1, W2, W4, W8, W16, W32, W64}
+use Rattle.bit_pack.specs.Width.{bit_count, lowest, highest, Holds, IsLeastWidth}
+
+-- A wider width reaches further. The first clauses split the last one by both widths.
+pub lowest-falls : (u w : Width) → bit_count u ≤ bit_count w → lowest w ≤ℤ lowest u
+lowest-falls W0 W0 le = omega (arith, ints, le)
+lowest-falls W1 W0 le = omega (arith, ints, le)
+lowest-falls W2 W0 le = omega (arith, ints, le)
+lowest-falls W4 W0 le = omega (arith, ints, le)
+lowest-falls W8 W0 le = omega (arith, ints, le)
+lowest-falls W16 W0 le = omega (arith, ints, le)
+lowest-falls W32 W0 le = omega (arith, ints, le)
+lowest-falls W64 W0 le = omega (arith, ints, le)
+lowest-falls u w le = omega (arith, ints, le)
+
+-- likewise upward
+pub highest-rises : (u w : Width) → bit_count u ≤ bit_count w → highest u ≤ℤ highest w
+highest-rises W0 W0 le = omega (arith, ints, le)
+highest-rises W1 W0 le = omega (arith, ints, le)
+highest-rises W2 W0 le = omega (arith, ints, le)
+highest-rises W4 W0 le = omega (arith, ints, le)
+highest-rises W8 W0 le = omega (arith, ints, le)
+highest-rises W16 W0 le = omega (arith, ints, le)
+highest-rises W32 W0 le = omega (arith, ints, le)
+highest-rises W64 W0 le = omega (arith, ints, le)
+highest-rises u w le = omega (arith, ints, le)
+
+-- a width is known by its bits
+pub same_width : (u w : Width) → bit_count u ≡ bit_count w → u ≡ w
+same_width W0 W0 le = grind (arith, le)
+same_width W1 W0 le = grind (arith, le)
+same_width W2 W0 le = grind (arith, le)
+same_width W4 W0 le = grind (arith, le)
+same_width W8 W0 le = grind (arith, le)
+same_width W16 W0 le = grind (arith, le)
+same_width W32 W0 le = grind (arith, le)
+same_width W64 W0 le = grind (arith, le)
+same_width u w le = grind (arith, le)
+
+-- each width holds 0
+pub zero_held : (w : Width) → Holds w (pos 0)
+zero_held W0 = record { low = omega (arith, ints); high = omega (arith, ints) }
+zero_held w = record { low = omega (arith, ints); high = omega (arith, ints) }
+
+-- what a width holds, each wider one holds
+pub Holds-wider : (u w : Width) (v : ℤ) → bit_count u ≤ bit_count w → Holds u v → Holds w v
+Holds-wider u w v le h =
+    let low = lowest-falls u w le in
+    let high = highest-rises u w le in
+    record { low = omega (arith, ints, low, h.low); high = omega (arith, ints, high, h.high) }
+
+pub All-Holds-wider : (u w : Width) (vs : List ℤ) → bit_count u ≤ bit_count w → All (Holds u) vs → All (Holds w) vs
+All-Holds-wider u w vs le h = λ k d within. Holds-wider u w (get_or vs k d) le (h k d within)
+
+-- between two values that are held, all are
+pub Holds-between : (w : Width) (low high v : ℤ) → Holds w low → Holds w high → low ≤ℤ v → v ≤ℤ high → Holds w v
+Holds-between w low high v h k below above =
+    record { low = omega (arith, ints, h.low); high = omega (arith, ints, k.high) }
+
+-- values have one least width
+pub same_least : (u w : Width) (vs : List ℤ) → IsLeastWidth u vs → IsLeastWidth w vs → u ≡ w
+same_least u w vs h k =
+    let le : bit_count u ≤ bit_count w = h.least w k.held in
+    let ge : bit_count w ≤ bit_count u = k.least u h.held in
+    same_width u w (omega arith)
+
+-- the least width of two lists together is the wider of theirs
+pub least-append : (u w t : Width) (xs ys : List ℤ) → IsLeastWidth u xs → IsLeastWidth w ys → bit_count t ≡ max (bit_count u) (bit_count w) → IsLeastWidth t (xs ++ ys)
+least-append u w t xs ys h k e = record {
+    held = All-append (Holds t) xs ys (All-Holds-wider u t xs (omega (arith, e)) h.held) (All-Holds-wider w t ys (omega (arith, e)) k.held);
+    least = λ s all.
+        let first : bit_count u ≤ bit_count s = h.least s (All-append_left s xs ys all) in
+        let second : bit_count w ≤ bit_count s = k.least s (All-append_right s xs ys all) in
+        omega (arith, e);
+  }
+  where
+    All-append_left : (s : Width) (xs ys : List ℤ) → All (Holds s) (xs ++ ys) → All (Holds s) xs
+    All-append_left s xs ys all = λ j d within. subst (Holds s) (get_or_append_left xs ys d j within) (all j d (omega (arith, length-append xs ys)))
+    All-append_right : (s : Width) (xs ys : List ℤ) → All (Holds s) (xs ++ ys) → All (Holds s) ys
+    All-append_right s xs ys all = λ j d within. subst (Holds s) (get_or-append-add xs ys j d) (all (length xs + j) d (omega (arith, length-append xs ys)))
+
+-- the least width of values is that of their least and greatest, or of 0 where it is outside them
+pub least_by_range : (w : Width) (low high : ℤ) (vs : List ℤ) → low ≡ fold int_min (pos 0) vs → high ≡ fold int_max (pos 0) vs → Holds w low → Holds w high → ((u : Width) → Holds u low → Holds u high → bit_count w ≤ bit_count u) → IsLeastWidth w vs
+least_by_range w low high vs low_is high_is h k least = record {
+    held = λ j d within. Holds-between w low high (get_or vs j d) h k ((fold-int_min_bounds (pos 0) vs low low_is).1 j d within) ((fold-int_max_bounds (pos 0) vs high high_is).1 j d within);
+    least = λ u all. least u (by_reach u low all (fold-int_min_reached (pos 0) vs low low_is)) (by_reach u high all (fold-int_max_reached (pos 0) vs high high_is));
+  }
+  where
+    by_reach : (u : Width) (v : ℤ) → All (Holds u) vs → (v ≡ pos 0) ⊎ Contains vs v → Holds u v
+    by_reach u v all (inl e) = subst (Holds u) (sym e) (zero_held u)
+    by_reach u v all (inr c) = All-contains (Holds u) vs v all c

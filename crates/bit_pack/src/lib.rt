@@ -1,0 +1,6 @@
+//! Packed integers.
+#![tactic(auto)]
+
+mod widths;
+
+pub use widths::{Width, width_for};
