@@ -1,0 +1,5 @@
+pub mod CutLaws
+pub mod Joined
+pub mod Places
+pub mod Lists
+pub mod Edits

@@ -1,0 +1,20 @@
+-- What a column of integers is seen as, and what holds of each.
+use Rattle.std.specs.Prelude.{◌≡◌, ℕ, ◌≤◌, ℤ, List, length, take, drop, sum, slice_index, Option}
+use Rattle.mk_value.specs.declared.span.Span.{Span}
+use Rattle.int_col.specs.Cuts.{AreCuts}
+
+-- the values, the counts of the segments that hold them, in order, and where the column stands in a file
+pub record Column : Type 0 where
+  pub values : List ℤ
+  pub cuts : List ℕ
+  pub home : Option Span
+
+-- the cuts are as they have to be and add up to the length
+pub record IsColumn (c : Column) : Type 0 where
+  pub few : length c.values ≤ 16777216
+  pub cut : AreCuts c.cuts
+  pub whole : sum c.cuts ≡ length c.values
+
+-- the values that segment k holds
+abbrev pub segment_values : Column → ℕ → List ℤ
+segment_values c k = take (slice_index c.cuts k) (drop (sum (take k c.cuts)) c.values)
