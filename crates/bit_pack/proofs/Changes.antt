@@ -1,19 +1,18 @@
 -- Packed values that are changed, cut, joined and read back.
-use Rattle.std.proofs.Common.{◌≡◌, ℕ, zero, suc, ◌+◌, ◌-◌, ◌*◌, ◌/◌, ◌%◌, ◌^◌, ◌<◌, ◌≤◌, ℤ, pos, List, [], ◌∷◌, ◌++◌, length, map, get_or, set, take, drop, replicate, inl, inr, refl, sym, ap, subst, ◌∙◌, arith}
-use Rattle.std.proofs.Math.Nat.{mul-zero, mul_comm, mul_assoc, one-mul, div-one, mod-eq_of_lt}
-use Rattle.std.proofs.lemmas.Nat.{pow-add, pow_pos}
-use Rattle.std.proofs.lemmas.List.{length-map, get_or-map, length-replicate, map-append, map-set, length-set, length-append, length-take, length-drop, take_at, drop_at}
-use Rattle.std.proofs.lemmas.List.Elements.{All-append, All-set, All-take, All-drop, All-replicate}
+use Rattle.std.proofs.Common.{◌≡◌, ℕ, zero, suc, ◌+◌, ◌-◌, ◌*◌, ◌/◌, ◌%◌, ◌^◌, ◌<◌, ◌≤◌, ℤ, pos, List, [], ◌∷◌, ◌++◌, length, get_or, set, take, replicate, inl, inr, refl, sym, ap, ◌∙◌, arith}
+use Rattle.std.proofs.Math.Nat.{mul-zero, mul_comm, div-one, mod-eq_of_lt}
+use Rattle.std.proofs.lemmas.Nat.{pow_pos}
+use Rattle.std.proofs.lemmas.List.{length-map, get_or-map, length-replicate, map-append, map-set, length-set, length-append, length-take, set_at, take_more, append_assoc, same_lists, get_or_default}
+use Rattle.std.proofs.lemmas.List.Elements.{All-append, All-set, All-replicate}
 use Rattle.std.proofs.lemmas.Bool.{cases_lt}
-use Rattle.std.proofs.lemmas.List.FromFn.{length-map-range_with_len}
-use Rattle.std.specs.List.{range_with_len, All}
+use Rattle.std.proofs.lemmas.List.FromFn.{length-map-range_with_len, get_or-map-range_with_len, map-range_with_len_more}
 use Rattle.bit_pack.specs.declared.widths.Width.{Width}
 use Rattle.bit_pack.specs.Width.{bit_count, Holds}
-use Rattle.bit_pack.specs.Packed.{number_of, little_endian, residue, packed_number, packed_len, AreBytes, PackedAt, value_of, digit_at, value_at, values_from, HasPadding, Reaches}
+use Rattle.bit_pack.specs.Packed.{number_of, little_endian, residue, packed_number, packed_len, AreBytes, PackedAt, digit_at, value_at, values_from, HasPadding}
 use Rattle.bit_pack.specs.Lane.{Writes}
-use Rattle.bit_pack.proofs.Digits.{AreDigits, pow-mul, number_of-append, number_of-lt, number_of-set, number_of-replicate_zero, number_of-split}
+use Rattle.bit_pack.proofs.Digits.{pow-mul, number_of-append, number_of-set, number_of-replicate_zero}
 use Rattle.bit_pack.proofs.LeastWidth.{zero_held}
-use Rattle.bit_pack.proofs.Packing.{residues, AreDigits-residues, AreDigits-bytes, packed_number_is, packed_number-lt, digit_at_is, same_bytes, number_of-digits, residues-values, Holds-values}
+use Rattle.bit_pack.proofs.Packing.{residues, packed_number_is, digit_at_is, number_of-digits, residues-values, HoldsAll-values}
 
 -- one value set, by a write of it
 pub packed-set : (w : Width) (vs : List ℤ) (old new : List ℕ) (i : ℕ) (v : ℤ) → PackedAt w vs old → i < length vs → Holds w v → Writes w old new i v → PackedAt w (set vs i v) new
@@ -30,7 +29,7 @@ packed-set w vs old new i v h within held write =
     let gone : 2 ^ (k * i) * digit_at w old i ≡ (2 ^ k) ^ i * get_or digits i 0 = ap (λ (n : ℕ). n * digit_at w old i) place ∙ ap (λ (n : ℕ). (2 ^ k) ^ i * n) digit in
     let come : 2 ^ (k * i) * residue k v ≡ (2 ^ k) ^ i * residue k v = ap (λ (n : ℕ). n * residue k v) place in
     record {
-      held = All-set (Holds w) vs i v held h.held;
+      held = record { each = All-set (Holds w) vs i v held h.held.each };
       octets = write.octets;
       len = write.len ∙ h.len ∙ ap (packed_len w) (sym (length-set vs i v));
       number = omega (arith, write.number, changed, new_number, old_number, gone, come);
@@ -41,7 +40,7 @@ pub packed-zeros : (w : Width) (n m : ℕ) → m ≡ packed_len w n → PackedAt
 packed-zeros w n m e =
     let k = bit_count w in
     record {
-      held = All-replicate (Holds w) n (pos 0) (zero_held w);
+      held = record { each = All-replicate (Holds w) n (pos 0) (zero_held w) };
       octets = All-replicate (λ b. b < 256) m 0 (omega arith);
       len = length-replicate m 0 ∙ e ∙ ap (packed_len w) (sym (length-replicate n (pos 0)));
       number = number_of-replicate_zero 256 m ∙ sym (packed_number_is w (replicate n (pos 0)) ∙ ap (number_of (2 ^ k)) (residues-zeros k n) ∙ number_of-replicate_zero (2 ^ k) n);
@@ -70,7 +69,7 @@ packed-append w xs ys front back h k edge =
     let joined : little_endian (front ++ back) ≡ little_endian front + 256 ^ length front * little_endian back = number_of-append 256 front back in
     let second : 256 ^ length front * little_endian back ≡ 2 ^ (bit_count w * length xs) * packed_number w ys = ap (λ (n : ℕ). n * little_endian back) (sym power) ∙ ap (λ (n : ℕ). 2 ^ (bit_count w * length xs) * n) k.number in
     record {
-      held = All-append (Holds w) xs ys h.held k.held;
+      held = record { each = All-append (Holds w) xs ys h.held.each k.held.each };
       octets = All-append (λ b. b < 256) front back h.octets k.octets;
       len = joined_len;
       number = omega (arith, joined, second, h.number, packed_number-append w xs ys);
@@ -91,7 +90,7 @@ packed-values w n bytes octets len clean =
     let whole : little_endian bytes / 2 ^ (k * 0) ≡ little_endian bytes = ap (λ (j : ℕ). little_endian bytes / j) none ∙ div-one (little_endian bytes) in
     let small : little_endian bytes < 2 ^ (k * n) = by_cases_le (2 ^ (k * n)) (little_endian bytes) clean in
     record {
-      held = Holds-values w bytes 0 n;
+      held = HoldsAll-values w bytes 0 n;
       octets = octets;
       len = len ∙ ap (packed_len w) (sym count);
       number = sym (packed_number_is w vs ∙ ap (number_of (2 ^ k)) (residues-values w bytes 0 n) ∙ number_of-digits k n 0 (little_endian bytes) ∙ ap (λ (j : ℕ). j % 2 ^ (k * n)) whole ∙ mod-eq_of_lt small);
@@ -99,3 +98,31 @@ packed-values w n bytes octets len clean =
   where
     by_cases_le : (a b : ℕ) → (a ≤ b → ⊥) → b < a
     by_cases_le a b h = elim (cases_lt b a) [ inl lt ↦ lt | inr le ↦ absurd (h le) ]
+
+-- ---- lists of values that loops make
+
+pub length-values_from : (w : Width) (bytes : List ℕ) (i n : ℕ) → length (values_from w bytes i n) ≡ n
+length-values_from w bytes i n = length-map-range_with_len (value_at w bytes) i n
+
+-- one more value
+pub values_from-more : (w : Width) (bytes : List ℕ) (i n j : ℕ) → i + n ≡ j → values_from w bytes i (n + 1) ≡ values_from w bytes i n ++ value_at w bytes j ∷ []
+values_from-more w bytes i n j e = map-range_with_len_more (value_at w bytes) i n j e
+
+pub get_or-values_from : (w : Width) (bytes : List ℕ) (i n k j : ℕ) (d : ℤ) → k < n → i + k ≡ j → get_or (values_from w bytes i n) k d ≡ value_at w bytes j
+get_or-values_from w bytes i n k j d within e = get_or-map-range_with_len (value_at w bytes) i n k j d within e
+
+pub values_from-made : (w : Width) (bytes : List ℕ) (i n : ℕ) (xs : List ℤ) → length xs ≡ n → ((k : ℕ) → k < n → get_or xs k (pos 0) ≡ value_at w bytes (i + k)) → xs ≡ values_from w bytes i n
+values_from-made w bytes i n xs len at =
+    same_lists xs (values_from w bytes i n) (len ∙ sym (length-map-range_with_len (value_at w bytes) i n)) (λ k d within.
+    let inside : k < n = omega (arith, within, len) in
+    get_or_default xs k d (pos 0) within ∙ at k inside ∙ sym (get_or-values_from w bytes i n k (i + k) d inside refl))
+
+-- the next value in place of the first zero
+pub set-next : (vs : List ℤ) (i : ℕ) (v d : ℤ) → i < length vs → v ≡ get_or vs i d → set (take i vs ++ replicate (length vs - i) (pos 0)) i v ≡ take (i + 1) vs ++ replicate (length vs - (i + 1)) (pos 0)
+set-next vs i v d within is =
+    let left : length vs - i ≡ suc (length vs - (i + 1)) = omega arith in
+    let front_len : length (take i vs) ≡ i = simp length-take (omega arith) in
+    let zeros = replicate (length vs - (i + 1)) (pos 0) in
+    let placed : set (take i vs ++ pos 0 ∷ zeros) i v ≡ take i vs ++ v ∷ zeros = set_at (take i vs) (pos 0) zeros v i front_len in
+    let front : take (i + 1) vs ≡ take i vs ++ get_or vs i d ∷ [] = take_more vs i d within in
+    ap (λ (n : ℕ). set (take i vs ++ replicate n (pos 0)) i v) left ∙ placed ∙ ap (λ (x : ℤ). take i vs ++ x ∷ zeros) is ∙ sym (append_assoc (take i vs) (get_or vs i d ∷ []) zeros) ∙ ap (λ (xs : List ℤ). xs ++ zeros) (sym front)

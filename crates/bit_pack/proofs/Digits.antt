@@ -1,6 +1,6 @@
 -- Numbers by their digits in a base b, the lowest first.
-use Rattle.std.proofs.Common.{◌≡◌, ℕ, zero, suc, ◌+◌, ◌-◌, ◌*◌, ◌/◌, ◌%◌, ◌^◌, ◌<◌, ◌≤◌, min, List, [], ◌∷◌, ◌++◌, length, get_or, set, take, drop, replicate, refl, sym, ap, subst, ◌∙◌, arith, rules}
-use Rattle.std.proofs.Math.Nat.{pow-succ', pow-zero, pow-suc, mul-add-div, mul-add-mod_self_left, add-mul-mod_self_left, div-eq_of_lt, mod-eq_of_lt, div-div-eq-div-mul, div-one, mod-one, zero-div, zero-mod, mul_comm, mul_assoc, mul-zero, add-zero, mul-le-mul_left, pow-le-pow_right, one-le-pow}
+use Rattle.std.proofs.Common.{◌≡◌, ℕ, zero, suc, ◌+◌, ◌*◌, ◌/◌, ◌%◌, ◌^◌, ◌<◌, ◌≤◌, List, [], ◌∷◌, ◌++◌, length, get_or, set, take, drop, replicate, refl, sym, ap, ◌∙◌, arith}
+use Rattle.std.proofs.Math.Nat.{pow-succ', pow-zero, pow-suc, mul-add-div, add-mul-mod_self_left, div-eq_of_lt, mod-eq_of_lt, div-div-eq-div-mul, div-one, zero-div, zero-mod, mul_assoc, mul-zero, add-zero, mul-le-mul_left, pow-le-pow_right}
 use Rattle.std.proofs.lemmas.List.{get_or-drop, length-take}
 use Rattle.std.proofs.lemmas.Nat.{pow-add}
 use Rattle.std.specs.List.{AllByRecursion}

@@ -1,15 +1,15 @@
 -- Packed values as digits: what stands at a place, what determines what, and the parts at a byte's edge.
-use Rattle.std.proofs.Common.{◌≡◌, ℕ, zero, suc, ◌+◌, ◌-◌, ◌*◌, ◌/◌, ◌%◌, ◌^◌, ◌<◌, ◌≤◌, ℤ, pos, List, [], ◌∷◌, ◌++◌, length, map, get_or, set, take, drop, replicate, refl, sym, ap, subst, ◌∙◌, arith}
-use Rattle.std.proofs.Math.Nat.{mul-zero, mul_comm, mul_assoc, pow-zero, pow-succ', pow-le-pow_right, mul-le-mul_left, zero-div, zero-mod, one-mul, mod-eq_of_lt, mod-one, div-one, mul-one, add-zero}
+use Rattle.std.proofs.Common.{◌≡◌, ℕ, zero, suc, ◌+◌, ◌*◌, ◌/◌, ◌%◌, ◌^◌, ◌<◌, ◌≤◌, ℤ, List, [], ◌∷◌, length, map, get_or, refl, sym, ap, ◌∙◌, arith}
+use Rattle.std.proofs.Math.Nat.{mul-zero, mul_comm, mul_assoc, mul-le-mul_left, one-mul, mod-one}
 use Rattle.std.proofs.lemmas.Nat.{pow-add, pow_pos, shr-shr, mod-pow-add, mod_below}
-use Rattle.std.proofs.lemmas.List.{length-map, get_or-map, length-replicate, map-append, map-set, length-set, length-append, length-take, length-drop, take-append-drop, same_lists, get_or_default}
-use Rattle.std.proofs.lemmas.List.Elements.{recursion_from_All, All-from_recursion, All-append, All-set, All-take, All-drop, All-replicate, All-from_get_or, All-get_or}
+use Rattle.std.proofs.lemmas.List.{length-map, get_or-map, same_lists}
+use Rattle.std.proofs.lemmas.List.Elements.{recursion_from_All, All-from_recursion}
 use Rattle.std.proofs.lemmas.List.FromFn.{length-map-range_with_len, get_or-map-range_with_len}
-use Rattle.std.specs.List.{range_with_len, All, AllByRecursion}
+use Rattle.std.specs.List.{range_with_len, AllByRecursion}
 use Rattle.bit_pack.specs.declared.widths.Width.{Width}
-use Rattle.bit_pack.specs.Width.{bit_count, Holds}
-use Rattle.bit_pack.specs.Packed.{number_of, little_endian, residue, sum_from, packed_number, packed_len, AreBytes, PackedAt, value_of, digit_at, value_at, values_from, HasPadding, Reaches}
-use Rattle.bit_pack.proofs.Digits.{AreDigits, pow-mul, number_of-append, number_of-lt, number_of-digit, number_of-set, number_of-injective, number_of-replicate_zero, number_of-div, number_of-mod, number_of-split}
+use Rattle.bit_pack.specs.Width.{bit_count, Holds, HoldsAll}
+use Rattle.bit_pack.specs.Packed.{number_of, little_endian, residue, sum_from, packed_number, AreBytes, PackedAt, value_of, digit_at, value_at, values_from, HasPadding, Reaches}
+use Rattle.bit_pack.proofs.Digits.{AreDigits, pow-mul, number_of-lt, number_of-digit, number_of-injective}
 use Rattle.bit_pack.proofs.Residues.{residue-lt, value_of-residue, Holds-value_of, residue-value_of}
 
 -- the residues of the values
@@ -49,7 +49,7 @@ digit_at_is w vs bytes i d h within =
 -- the value at a place of packed bytes
 pub value_at_is : (w : Width) (vs : List ℤ) (bytes : List ℕ) (i : ℕ) (d : ℤ) → PackedAt w vs bytes → i < length vs → value_at w bytes i ≡ get_or vs i d
 value_at_is w vs bytes i d h within =
-    ap (value_of w) (digit_at_is w vs bytes i d h within) ∙ value_of-residue w (get_or vs i d) (h.held i d within)
+    ap (value_of w) (digit_at_is w vs bytes i d h within) ∙ value_of-residue w (get_or vs i d) (h.held.each i d within)
 
 -- the bytes determine the values
 pub values_from_is : (w : Width) (vs : List ℤ) (bytes : List ℕ) → PackedAt w vs bytes → values_from w bytes 0 (length vs) ≡ vs
@@ -57,8 +57,8 @@ values_from_is w vs bytes h =
     let n = length vs in
     let len : length (values_from w bytes 0 n) ≡ n = length-map-range_with_len (value_at w bytes) 0 n in
     same_lists (values_from w bytes 0 n) vs len (λ k d within.
-        let inside : k < n = omega (arith, within, len) in
-        get_or-map-range_with_len (value_at w bytes) 0 n k k d inside (omega arith) ∙ value_at_is w vs bytes k d h inside)
+    let inside : k < n = omega (arith, within, len) in
+    get_or-map-range_with_len (value_at w bytes) 0 n k k d inside (omega arith) ∙ value_at_is w vs bytes k d h inside)
 
 pub same_values : (w : Width) (vs us : List ℤ) (bytes : List ℕ) → PackedAt w vs bytes → PackedAt w us bytes → length vs ≡ length us → vs ≡ us
 same_values w vs us bytes h k same =
@@ -112,8 +112,8 @@ residues-values w bytes i (suc n) =
     let rest = residues-values w bytes (i + 1) n in
     cc
 
-pub Holds-values : (w : Width) (bytes : List ℕ) (i n : ℕ) → All (Holds w) (values_from w bytes i n)
-Holds-values w bytes i n = All-from_recursion (Holds w) (values_from w bytes i n) (by_recursion i n)
+pub HoldsAll-values : (w : Width) (bytes : List ℕ) (i n : ℕ) → HoldsAll w (values_from w bytes i n)
+HoldsAll-values w bytes i n = record { each = All-from_recursion (Holds w) (values_from w bytes i n) (by_recursion i n) }
   where
     by_recursion : (i n : ℕ) → AllByRecursion (Holds w) (values_from w bytes i n)
     by_recursion i zero = tt

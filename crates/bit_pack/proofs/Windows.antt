@@ -1,12 +1,12 @@
 -- Where the digit of a value stands in the bytes: in whole bytes, or within one byte.
-use Rattle.std.proofs.Common.{◌≡◌, ℕ, zero, suc, ◌+◌, ◌-◌, ◌*◌, ◌/◌, ◌%◌, ◌^◌, ◌<◌, ◌≤◌, List, [], ◌∷◌, ◌++◌, length, map, get_or, set, take, drop, refl, sym, ap, subst, ◌∙◌, arith}
-use Rattle.std.proofs.Math.Nat.{mul_comm, mul_assoc, div-div-eq-div-mul, add-mul-mod_self_left, mod-eq_of_lt, div-eq_of_lt, mul-le-mul_left, mul-le-mul_right, zero-div, zero-mod}
-use Rattle.std.proofs.lemmas.Nat.{pow-add, pow_pos, field_of, shr_split, shr_below, mod_below, pow_below}
-use Rattle.std.proofs.lemmas.List.{get_or-take, get_or-drop, length-take, length-drop, length-append, same_lists, get_or_default, drop-drop, drop_more}
+use Rattle.std.proofs.Common.{◌≡◌, ℕ, suc, ◌+◌, ◌-◌, ◌*◌, ◌/◌, ◌%◌, ◌^◌, ◌<◌, ◌≤◌, List, ◌++◌, length, map, get_or, set, take, drop, sym, ap, subst, ◌∙◌, arith}
+use Rattle.std.proofs.Math.Nat.{mul_assoc, div-div-eq-div-mul, add-mul-mod_self_left, mod-le, pow-le-pow_right, mul-le-mul_right}
+use Rattle.std.proofs.lemmas.Nat.{pow-add, pow_pos, field_of, shr_split, shr_below, shl_below, mod_below}
+use Rattle.std.proofs.lemmas.List.{get_or-take, get_or-drop, length-take, length-drop, same_lists, get_or_default, drop-drop, drop_more}
 use Rattle.std.proofs.lemmas.List.FromFn.{length-map-range_with_len, get_or-map-range_with_len}
 use Rattle.std.specs.List.{range_with_len}
 use Rattle.bit_pack.specs.Packed.{number_of}
-use Rattle.bit_pack.proofs.Digits.{AreDigits, AreDigits-drop, AreDigits-take, pow-mul, number_of-append, number_of-window, number_of-div, number_of-split, number_of-first, number_of-set}
+use Rattle.bit_pack.proofs.Digits.{AreDigits, pow-mul, number_of-append, number_of-window, number_of-div, number_of-split, number_of-set}
 
 -- k bytes from place m on, one by one
 pub window_is : (k m : ℕ) (bytes : List ℕ) → m + k ≤ length bytes → take k (drop m bytes) ≡ map (λ j. get_or bytes (m + j) 0) (range_with_len 0 k)
@@ -14,9 +14,9 @@ window_is k m bytes within =
     let len : length (take k (drop m bytes)) ≡ k = simp (length-take, length-drop) (omega arith) in
     let made : length (map (λ j. get_or bytes (m + j) 0) (range_with_len 0 k)) ≡ k = length-map-range_with_len (λ j. get_or bytes (m + j) 0) 0 k in
     same_lists (take k (drop m bytes)) (map (λ j. get_or bytes (m + j) 0) (range_with_len 0 k)) (len ∙ sym made) (λ i d below.
-        let inside : i < k = omega (arith, below, len) in
-        let there : m + i < length bytes = omega arith in
-        get_or-take k (drop m bytes) i d inside ∙ get_or-drop m bytes i d ∙ get_or_default bytes (m + i) d 0 there ∙ sym (get_or-map-range_with_len (λ j. get_or bytes (m + j) 0) 0 k i i d inside (omega arith)))
+    let inside : i < k = omega (arith, below, len) in
+    let there : m + i < length bytes = omega arith in
+    get_or-take k (drop m bytes) i d inside ∙ get_or-drop m bytes i d ∙ get_or_default bytes (m + i) d 0 there ∙ sym (get_or-map-range_with_len (λ j. get_or bytes (m + j) 0) 0 k i i d inside (omega arith)))
 
 -- a digit of k whole bytes
 pub wide_digit : (k i : ℕ) (bytes : List ℕ) → AreDigits 256 bytes → number_of 256 bytes / 2 ^ (8 * (k * i)) % 2 ^ (8 * k) ≡ number_of 256 (take k (drop (k * i) bytes))
@@ -69,6 +69,21 @@ narrow_change w q s y d bytes there changed =
     let byte : 256 ^ q * (y + 2 ^ s * g) ≡ 256 ^ q * (get_or bytes q 0 + 2 ^ s * d) = ap (λ (k : ℕ). 256 ^ q * k) changed in
     omega (arith, old, new, byte, number_of-set 256 q bytes y there)
 
+-- a field in its place is no more than the byte
+pub field_in_place : (b s w : ℕ) → (b / 2 ^ s % 2 ^ w) * 2 ^ s ≤ b
+field_in_place b s w =
+    let within : b / 2 ^ s % 2 ^ w ≤ b / 2 ^ s = mod-le (b / 2 ^ s) (2 ^ w) in
+    let placed : (b / 2 ^ s % 2 ^ w) * 2 ^ s ≤ b / 2 ^ s * 2 ^ s = mul-le-mul_right (2 ^ s) within in
+    omega (arith, placed, shr_split b s)
+
+-- another field in its place is below a byte's end
+pub new_field_in_place : (d s w : ℕ) → s + w ≤ 8 → d < 2 ^ w → d * 2 ^ s < 256
+new_field_in_place d s w within small =
+    let placed : d * 2 ^ s < 2 ^ (w + s) = shl_below d w s small in
+    let short : w + s ≤ 8 = omega arith in
+    let grows : 2 ^ (w + s) ≤ 2 ^ 8 = pow-le-pow_right (omega arith) short in
+    omega arith
+
 -- the byte with another field stays a byte
 pub field_change_fits : (b s w d : ℕ) → s + w ≤ 8 → b < 256 → d < 2 ^ w → b - (b / 2 ^ s % 2 ^ w) * 2 ^ s + d * 2 ^ s < 256
 field_change_fits b s w d within byte small =
@@ -85,7 +100,7 @@ field_change_fits b s w d within byte small =
     let m_small : m < 2 ^ (8 - s - w + w) = shr_below b (8 - s - w + w) s (subst (λ (k : ℕ). b < 2 ^ k) (sym turned) byte) in
     let high_small : high < 2 ^ (8 - s - w) = shr_below m (8 - s - w) w m_small in
     let changed_small : (high * 2 ^ w + d + 1) * 2 ^ s ≤ 2 ^ (8 - s - w) * 2 ^ w * 2 ^ s =
-        let step : suc high * 2 ^ w ≤ 2 ^ (8 - s - w) * 2 ^ w = mul-le-mul_right (2 ^ w) high_small in
-        mul-le-mul_right (2 ^ s) (omega (arith, step, small)) in
+    let step : suc high * 2 ^ w ≤ 2 ^ (8 - s - w) * 2 ^ w = mul-le-mul_right (2 ^ w) high_small in
+    mul-le-mul_right (2 ^ s) (omega (arith, step, small)) in
     let old_part : (high * 2 ^ w + g) * 2 ^ s ≡ m * 2 ^ s = ap (λ (k : ℕ). k * 2 ^ s) parts in
     omega (arith, whole, low_small, all, changed_small, old_part)

@@ -1,3 +1,4 @@
 pub mod Width
 pub mod Packed
 pub mod Lane
+pub mod Refusal

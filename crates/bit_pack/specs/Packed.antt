@@ -5,7 +5,7 @@ use Rattle.std.specs.List.{range_with_len}
 use Rattle.std.specs.Int.{div_ceil, cast_signed, w8, w16, w32, w64}
 use Rattle.bit_pack.specs.declared.widths.Width.{Width}
 use Rattle.bit_pack.specs.declared.widths.Width.TheVariants.{W0, W1, W2, W4, W8, W16, W32, W64}
-use Rattle.bit_pack.specs.Width.{bit_count, Holds, IsLeastWidth}
+use Rattle.bit_pack.specs.Width.{bit_count, HoldsAll, IsLeastWidth}
 
 -- the number whose digits in base b are these, the lowest first
 abbrev pub number_of : ℕ → List ℕ → ℕ
@@ -40,7 +40,7 @@ AreBytes bytes = All (λ b. b < 256) bytes
 -- The bytes are the values at this width, be it the least or not. The bits past the last value are zero,
 -- since the number has none.
 pub record PackedAt (w : Width) (values : List ℤ) (bytes : List ℕ) : Type 0 where
-  pub held : All (Holds w) values
+  pub held : HoldsAll w values
   pub octets : AreBytes bytes
   pub len : length bytes ≡ packed_len w (length values)
   pub number : little_endian bytes ≡ packed_number w values

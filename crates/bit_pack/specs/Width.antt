@@ -1,5 +1,5 @@
 -- How many bits a value takes at each width, and which values those bits hold.
-use Rattle.std.specs.Prelude.{ℕ, ◌-◌, ◌^◌, ◌<◌, ◌≤◌, ℤ, pos, negsuc, ◌≤ℤ◌, List, All}
+use Rattle.std.specs.Prelude.{ℕ, ◌<◌, ◌≤◌, ℤ, pos, negsuc, ◌≤ℤ◌, List, All}
 use Rattle.bit_pack.specs.declared.widths.Width.{Width}
 use Rattle.bit_pack.specs.declared.widths.Width.TheVariants.{W0, W1, W2, W4, W8, W16, W32, W64}
 
@@ -42,10 +42,14 @@ pub record Holds (w : Width) (v : ℤ) : Type 0 where
   pub low : lowest w ≤ℤ v
   pub high : v ≤ℤ highest w
 
+-- each value is one of the width
+pub record HoldsAll (w : Width) (values : List ℤ) : Type 0 where
+  pub each : All (Holds w) values
+
 -- w holds all values, and no narrower width does
 pub record IsLeastWidth (w : Width) (values : List ℤ) : Type 0 where
-  pub held : All (Holds w) values
-  pub least : (u : Width) → All (Holds u) values → bit_count w ≤ bit_count u
+  pub held : HoldsAll w values
+  pub least : (u : Width) → HoldsAll u values → bit_count w ≤ bit_count u
 
 -- u is the next width below w
 pub record IsNarrower (u w : Width) : Type 0 where

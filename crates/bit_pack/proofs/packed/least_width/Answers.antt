@@ -1,0 +1,22 @@
+use Rattle.std.proofs.Common.{◌≤◌, ◌∙◌, to_z, of_z, FitsSigned, arith, rules}
+use Rattle.std.specs.Int.{w64}
+use Rattle.std.proofs.lemmas.Int.{to_z-of_z}
+use Rattle.bit_pack.specs.Width.{bit_count}
+use Rattle.bit_pack.specs.Packed.{values_from}
+use Rattle.bit_pack.proofs.LeastWidth.{least_by_range, Holds-wider}
+use Rattle.bit_pack.proofs.packed.least_width.Goals as goal
+
+pub returns : goal.returns
+returns c =
+    let low = c.range_in-low.result.0 in
+    let high = c.range_in-low.result.1 in
+    let low_fits : FitsSigned w64 low = search rules in
+    let high_fits : FitsSigned w64 high = search rules in
+    let below : bit_count c.of.result ≤ bit_count c.wider.result = omega (arith, c.wider.ensures) in
+    let above : bit_count c.of-2.result ≤ bit_count c.wider.result = omega (arith, c.wider.ensures) in
+    least_by_range c.wider.result (to_z w64 (of_z w64 low)) (to_z w64 (of_z w64 high)) (values_from c.args.width c.args.bytes.now 0 c.args.count)
+    (to_z-of_z w64 low low_fits ∙ c.range_in-low.ensures.low)
+    (to_z-of_z w64 high high_fits ∙ c.range_in-low.ensures.high)
+    (Holds-wider c.of.result c.wider.result (to_z w64 (of_z w64 low)) below c.of.ensures.holds)
+    (Holds-wider c.of-2.result c.wider.result (to_z w64 (of_z w64 high)) above c.of-2.ensures.holds)
+    (λ u h k. let first = c.of.ensures.least u h in let second = c.of-2.ensures.least u k in omega (arith, c.wider.ensures, first, second))
