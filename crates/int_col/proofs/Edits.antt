@@ -189,3 +189,8 @@ ends_replaced ss fresh es a b start from to h at_start at_from at_to =
     ∙ append_assoc (ends_from 0 (take a cs)) (ends_from start fs) (ends_from to (drop b cs))
     ∙ sym all
     ∙ ap (ends_from 0) (sym (cuts-replaced ss fresh a b))
+
+-- the fresh segments behind the first a are part of all
+pub fresh_few : (ss fresh : List (List ℤ)) (a b : ℕ) → start_of ss a + length (joined fresh) ≤ length (joined (take a ss ++ (fresh ++ drop b ss)))
+fresh_few ss fresh a b =
+    omega (arith, ap length (joined-append (take a ss) (fresh ++ drop b ss)), length-append (joined (take a ss)) (joined (fresh ++ drop b ss)), ap length (joined-append fresh (drop b ss)), length-append (joined fresh) (joined (drop b ss)))

@@ -3,7 +3,6 @@ ghost use Rattle.std.specs.Prelude.{◌≡◌, ◌<◌, length, IfOk, OnOk, OnEr
 ghost use Rattle.int_col.specs.Spine.{joined};
 
 use crate::spine::Spine;
-use bit_pack::Width;
 use mk_value::{Memory, Span};
 use std::alloc::{AllocError, Global};
 use std::marker::Model;
@@ -37,13 +36,6 @@ impl Model for IntCol {
     ghost Value = { Column };
 
     ghost view = { λ c. column_of c.spine c.home };
-}
-
-/// One segment of a column, lent.
-pub struct Held<'a> {
-    pub count: usize,
-    pub width: Width,
-    pub bytes: &'a [u8],
 }
 
 impl IntCol {

@@ -11,8 +11,10 @@
 mod column;
 mod edit;
 mod ends;
+mod held;
 mod segment;
 mod shared;
 mod spine;
 
-pub use column::{Held, IntCol};
+pub use column::IntCol;
+pub use held::Held;

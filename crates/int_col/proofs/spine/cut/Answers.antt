@@ -13,5 +13,5 @@ loop-from-preserved c =
         in_range = omega (arith, c.min-to.ensures);
         values = more.0;
         cuts = more.1;
-        whole = λ l. ?;
+        whole = λ l. omega (arith, c.min-to.ensures, c.loop-from.invariant.whole c.loop-from-test.true);
     }
