@@ -8,7 +8,7 @@ use Rattle.int_col.specs.Cuts.{AreCuts, full_cuts, ends_from}
 use Rattle.int_col.specs.Spine.{joined, cuts_of, start_of, IsSpine}
 use Rattle.int_col.specs.Edit.{replaced, Applies, Covers, size_after, values_after, LeftApart, RightApart}
 use Rattle.int_col.proofs.CutLaws.{cut_few, cut_some, cut_neighbours, ends_from-append, take-ends_from, drop-ends_from, ends_from-shift, full_cuts-more, AreCuts-replaced}
-use Rattle.int_col.proofs.Lists.{take-split, drop-split}
+use Rattle.int_col.proofs.Lists.{take-split, drop-split, around}
 use Rattle.int_col.proofs.Joined.{joined-append, length-joined-take, start_next, length-cuts, length-joined, get_or-cuts, joined-replaced, cuts-replaced}
 use Rattle.int_col.proofs.Places.{start_within, start_mono}
 
@@ -194,3 +194,14 @@ ends_replaced ss fresh es a b start from to h at_start at_from at_to =
 pub fresh_few : (ss fresh : List (List ℤ)) (a b : ℕ) → start_of ss a + length (joined fresh) ≤ length (joined (take a ss ++ (fresh ++ drop b ss)))
 fresh_few ss fresh a b =
     omega (arith, ap length (joined-append (take a ss) (fresh ++ drop b ss)), length-append (joined (take a ss)) (joined (fresh ++ drop b ss)), ap length (joined-append fresh (drop b ss)), length-append (joined fresh) (joined (drop b ss)))
+
+-- copies of the edit's value, with the values before and behind written over their front and their end
+pub arranged : (xs : List ℤ) (e : Edit) (t : Touched) (copies front back post : List ℤ) (m : ℕ) → copies ≡ replicate (size_after e t) e.value → length front ≡ e.at - t.start → front ≡ take (e.at - t.start) (drop t.start xs) → back ≡ take m (drop e.end xs) → m ≡ t.stop - e.end → post ≡ [] → take (e.at - t.start + e.count) (front ++ drop (e.at - t.start) copies) ++ (back ++ post) ≡ values_after xs e t
+arranged xs e t copies front back post m are len before behind is none =
+    let b : ℕ = e.at - t.start in
+    let first : take (b + e.count) (front ++ drop b copies) ≡ front ++ replicate e.count e.value =
+        around front copies b e.count (size_after e t) e.value are (omega arith) len in
+    ap (λ ys. ys ++ (back ++ post)) first
+    ∙ append_assoc front (replicate e.count e.value) (back ++ post)
+    ∙ ap (λ ys. ys ++ (replicate e.count e.value ++ (back ++ post))) before
+    ∙ ap (λ ys. take b (drop t.start xs) ++ (replicate e.count e.value ++ ys)) (ap (λ ys. back ++ ys) none ∙ append-nil back ∙ behind ∙ ap (λ k. take k (drop e.end xs)) is)

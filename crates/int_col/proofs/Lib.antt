@@ -3,3 +3,4 @@ pub mod Joined
 pub mod Places
 pub mod Lists
 pub mod Edits
+pub mod Segments

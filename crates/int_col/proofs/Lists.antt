@@ -39,12 +39,11 @@ copied_more whole xs ys zs rest from done r in_range within new before =
     ∙ ap (λ n. take done (drop from whole) ++ take n (drop done (drop from whole))) (sym step)
     ∙ sym (take-split (drop from whole) done (done + r) (omega arith))
 
--- copies of v with other values written over their front and their end
-pub around : (front back whole middle : List ℤ) (b n size : ℕ) (v : ℤ) → whole ≡ replicate size v → b + n + length back ≡ size → length front ≡ b → middle ≡ front ++ drop b whole → take (b + n) middle ≡ front ++ replicate n v
-around front back whole middle b n size v copies sum len is =
-    let rest : drop b whole ≡ replicate (size - b) v = ap (drop b) copies ∙ drop-replicate b size v in
-    ap (take (b + n)) is
-    ∙ ap (λ k. take (k + n) (front ++ drop b whole)) (sym len)
-    ∙ take-append-more front (drop b whole) n
+-- copies of v with other values written over their front
+pub around : (front copies : List ℤ) (b n size : ℕ) (v : ℤ) → copies ≡ replicate size v → b + n ≤ size → length front ≡ b → take (b + n) (front ++ drop b copies) ≡ front ++ replicate n v
+around front copies b n size v are within len =
+    let rest : drop b copies ≡ replicate (size - b) v = ap (drop b) are ∙ drop-replicate b size v in
+    ap (λ k. take (k + n) (front ++ drop b copies)) (sym len)
+    ∙ take-append-more front (drop b copies) n
     ∙ ap (λ l. front ++ take n l) rest
     ∙ ap (λ l. front ++ l) (take-replicate n (size - b) v (omega arith))

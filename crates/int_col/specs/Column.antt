@@ -1,5 +1,5 @@
 -- What a column of integers is seen as, and what holds of each.
-use Rattle.std.specs.Prelude.{◌≡◌, ℕ, ◌≤◌, ℤ, List, length, take, drop, sum, slice_index, Option}
+use Rattle.std.specs.Prelude.{◌≡◌, ℕ, zero, suc, ◌≤◌, ℤ, List, length, take, drop, sum, slice_index, Option, None}
 use Rattle.mk_value.specs.declared.span.Span.{Span}
 use Rattle.int_col.specs.Cuts.{AreCuts}
 
@@ -18,3 +18,8 @@ pub record IsColumn (c : Column) : Type 0 where
 -- the values that segment k holds
 abbrev pub segment_values : Column → ℕ → List ℤ
 segment_values c k = take (slice_index c.cuts k) (drop (sum (take k c.cuts)) c.values)
+
+-- the home after an edit of n values: none, unless there are none
+abbrev pub home_after : ℕ → Option Span → Option Span
+home_after zero home = home
+home_after (suc n) home = None

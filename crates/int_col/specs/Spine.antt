@@ -4,6 +4,7 @@ use Rattle.std.specs.List.{flat_map}
 use Rattle.mk_value.specs.declared.span.Span.{Span}
 use Rattle.int_col.specs.Cuts.{AreCuts, ends_from}
 use Rattle.int_col.specs.Column.{Column}
+use Rattle.int_col.specs.Segment.{Takes}
 
 -- the values of all segments, one after another
 abbrev pub joined : List (List ℤ) → List ℤ
@@ -33,3 +34,8 @@ pub record IsPlace (segments : List (List ℤ)) (at k offset : ℕ) : Type 0 whe
   pub within : offset < length (slice_index_or segments k [])
   pub sum : start_of segments k + offset ≡ at
 
+
+-- the last segment takes one more value
+pub record LastTakes (segments : List (List ℤ)) (v : ℤ) : Type 0 where
+  pub some : 0 < length segments
+  pub takes : Takes (slice_index_or segments (length segments - 1) []) v

@@ -1,26 +1,18 @@
 //! A column of integers.
-ghost use Rattle.std.specs.Prelude.{◌≡◌, ◌<◌, length, IfOk, OnOk, OnErr, slice_set, Some};
-ghost use Rattle.int_col.specs.Spine.{joined};
+ghost use Rattle.std.specs.Prelude.{◌≡◌, ℕ, ℤ, ◌+◌, ◌-◌, ◌<◌, ◌≤◌, ◌==◌, [], ◌++◌, length, take, drop, replicate, slice_get, slice_set, sum, if◌then◌else◌, Some, None, IfOk, OnOk, OnErr};
+ghost use Rattle.bit_pack.specs.declared.widths.Width.{Width};
+ghost use Rattle.bit_pack.specs.Width.{IsLeastWidth};
+ghost use Rattle.bit_pack.specs.Packed.{Packed, packed_len};
+ghost use Rattle.int_col.specs.Cuts.{full_cuts};
+ghost use Rattle.int_col.specs.Column.{Column, IsColumn, segment_values, home_after};
 
-use crate::spine::Spine;
+use crate::edit::Edit;
+use crate::held::Held;
+use crate::shared::SharedSpine;
+use bit_pack::Width;
 use mk_value::{Memory, Span};
-use std::alloc::{AllocError, Global};
+use std::alloc::Global;
 use std::marker::Model;
-use std::rc::Rc;
-
-/// The spine of a column, with several owners, which is copied before a write unless it has only one.
-#[derive(Drop)]
-struct SharedSpine {
-    inner: Rc<Spine>,
-}
-
-impl Model for SharedSpine {
-    ghost use Rattle.std.specs.Prelude.{List, ℤ};
-
-    ghost Value = { List (List ℤ) };
-
-    ghost view = { λ s. s.inner.value };
-}
 
 /// A column of at most 16,777,216 integers, and where it stands in a file.
 #[derive(Drop)]
@@ -39,7 +31,134 @@ impl Model for IntCol {
 }
 
 impl IntCol {
-    /// Where the column stands in a file, if it stands there unchanged.
+    /// The column of these values, cut into full segments and a last one of what is left.
+    ///
+    /// # Errors
+    ///
+    /// `Memory`.
+    pub fn from_values(alloc: Global, values: &[i64], home: Option<Span>) -> Result<IntCol, Memory>
+        requires { length values.now ≤ 16777216 }
+        ensures values { IfOk result (λ column. column.values ≡ values.now) }
+        ensures cuts { IfOk result (λ column. column.cuts ≡ full_cuts (length values.now)) }
+        ensures home { IfOk result (λ column. column.home ≡ home) }
+        ensures column { IfOk result IsColumn }
+    {
+        let spine = SharedSpine::of(alloc, values)?;
+        Ok(IntCol { spine, home })
+    }
+
+    /// How many values there are.
+    pub fn len(&self) -> usize
+        ensures len { result ≡ length self.now.values }
+        ensures column { IsColumn self.now }
+    {
+        self.spine.spine().len()
+    }
+
+    /// Whether there are no values.
+    pub fn is_empty(&self) -> bool
+        ensures { result ≡ (length self.now.values == 0) }
+    {
+        self.len() == 0
+    }
+
+    /// How many segments there are.
+    pub fn segments(&self) -> usize
+        ensures count { result ≡ length self.now.cuts }
+        ensures column { IsColumn self.now }
+    {
+        self.spine.spine().segments()
+    }
+
+    /// The segment of this number, counted from 0: how many values it holds, and their bytes, packed at their
+    /// least width.
+    pub fn segment(&self, k: usize) -> Held<'_>
+        requires { k < length self.now.cuts }
+        ensures count { slice_get self.now.cuts k ≡ Some result.count }
+        ensures packed { Packed result.width (segment_values self.now k) result.bytes.now }
+    {
+        self.spine.spine().segment(k)
+    }
+
+    /// The value at a place.
+    pub fn get(&self, at: usize) -> i64
+        requires { at < length self.now.values }
+        ensures { slice_get self.now.values at ≡ Some result }
+    {
+        self.spine.spine().get(at)
+    }
+
+    /// Sets the value at a place. The home is then none, also where the value was there before.
+    ///
+    /// It is done in place where the segment is not shared and the width stays the least that holds its values.
+    ///
+    /// # Errors
+    ///
+    /// `Memory`, and the column is as it was.
+    pub fn set(&mut self, at: usize, value: i64) -> Result<(), Memory>
+        requires { at < length self.old.values }
+        ensures ok { OnOk result (self.new ≡ record self.old { values = slice_set self.old.values at value; home = None }) }
+        ensures column { IsColumn self.new }
+        ensures err { OnErr result (self.new ≡ self.old) }
+    {
+        self.spine.set(at, value)?;
+        self.home = None;
+        Ok(())
+    }
+
+    /// Inserts copies of a value before a place, or at the end. The home is then none, unless there are no copies.
+    ///
+    /// It costs the segments that the copies stand in and a walk over the list of segments.
+    ///
+    /// # Errors
+    ///
+    /// `Memory`, and the column is as it was.
+    pub fn insert(&mut self, at: usize, value: i64, count: usize) -> Result<(), Memory>
+        requires at { at ≤ length self.old.values }
+        requires few { length self.old.values + count ≤ 16777216 }
+        ensures values { OnOk result (self.new.values ≡ take at self.old.values ++ (replicate count value ++ drop at self.old.values)) }
+        ensures home { OnOk result (self.new.home ≡ home_after count self.old.home) }
+        ensures column { IsColumn self.new }
+        ensures err { OnErr result (self.new ≡ self.old) }
+    {
+        if count == 0 {
+            return Ok(());
+        }
+        self.spine.insert(at, value, count)?;
+        self.home = None;
+        Ok(())
+    }
+
+    /// Removes as many values from a place on. The home is then none, unless none are removed.
+    ///
+    /// It costs the segments at both ends of what is removed and a walk over the list of segments.
+    ///
+    /// # Errors
+    ///
+    /// `Memory`, and the column is as it was.
+    pub fn remove(&mut self, at: usize, count: usize) -> Result<(), Memory>
+        requires { at + count ≤ length self.old.values }
+        ensures values { OnOk result (self.new.values ≡ take at self.old.values ++ drop (at + count) self.old.values) }
+        ensures home { OnOk result (self.new.home ≡ home_after count self.old.home) }
+        ensures column { IsColumn self.new }
+        ensures err { OnErr result (self.new ≡ self.old) }
+    {
+        if count == 0 {
+            return Ok(());
+        }
+        self.spine.remove(at, count)?;
+        self.home = None;
+        Ok(())
+    }
+
+    /// The least width that holds all values.
+    pub fn width(&self) -> Width
+        ensures { IsLeastWidth result self.now.values }
+    {
+        self.spine.spine().width()
+    }
+
+    /// Where the column stands in a file, if it stands there as it is.
     pub fn home(&self) -> Option<Span>
         ensures { result ≡ self.now.home }
     {
@@ -51,5 +170,19 @@ impl IntCol {
         ensures { self.new ≡ record self.old { home = Some home } }
     {
         self.home = Some(home);
+    }
+
+    /// A copy, which shares all segments.
+    ///
+    /// # Errors
+    ///
+    /// `Memory`, where there are as many copies as can be counted.
+    pub fn same(&self) -> Result<IntCol, Memory>
+        ensures { IfOk result (λ copy. copy ≡ self.now) }
+    {
+        Ok(IntCol {
+            spine: self.spine.clone()?,
+            home: self.home,
+        })
     }
 }

@@ -140,7 +140,10 @@ impl Segment {
         requires exceeds { HoldsAll narrower self.now → ⊥ }
         ensures { OnTrue result (HoldsAll narrower (slice_set self.now at value) → ⊥) }
     {
-        if !narrower.holds(value) || narrower.holds(self.get(at)) {
+        if !narrower.holds(value) {
+            return true;
+        }
+        if narrower.holds(self.get(at)) {
             return true;
         }
         self.another_exceeds(narrower, at)
@@ -165,12 +168,20 @@ impl Segment {
         ensures len { length self.new ≡ length self.old }
         ensures err { OnErr result (self.new ≡ self.old) }
     {
-        let alloc = *self.bytes.allocator();
-        let mut values = vec![in alloc; 0; self.count]?;
-        self.copy_values(0, &mut values);
+        let mut values = self.values()?;
         values[at] = value;
-        *self = Segment::of(alloc, &values)?;
+        *self = Segment::of(*values.allocator(), &values)?;
         Ok(())
+    }
+
+    /// All values.
+    fn values(&self) -> Result<Vec<i64>, Memory>
+        ensures values { IfOk result (λ values. values.items ≡ self.now) }
+        ensures few { IfOk result (λ values. length values.items ≤ 2048) }
+    {
+        let mut values = vec![in *self.bytes.allocator(); 0; self.count]?;
+        self.copy_values(0, &mut values);
+        Ok(values)
     }
 
     /// Whether one more value has room and is one of the width.

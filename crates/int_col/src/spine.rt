@@ -1,14 +1,18 @@
 //! The list of a column's segments.
-ghost use Rattle.std.specs.Prelude.{◌≡◌, ℕ, ℤ, ◌+◌, ◌-◌, ◌%◌, ◌^◌, ◌<◌, ◌≤◌, ◌⊎◌, List, [], ◌++◌, length, slice_get, slice_set, slice_index, slice_index_or, take, drop, Some, IfOk, OnOk, OnErr, replicate};
+ghost use Rattle.std.specs.Prelude.{◌≡◌, ℕ, ℤ, ◌+◌, ◌-◌, ◌%◌, ◌^◌, ◌<◌, ◌≤◌, ◌⊎◌, List, [], ◌∷◌, ◌++◌, length, slice_get, slice_set, slice_index, slice_index_or, take, drop, Some, IfOk, OnOk, OnErr, replicate};
 ghost use Rattle.std.specs.Bool.{OnTrue, OnFalse};
+ghost use Rattle.bit_pack.specs.Width.{IsLeastWidth};
+ghost use Rattle.bit_pack.specs.Packed.{Packed};
 ghost use Rattle.int_col.specs.Cuts.{AreCuts, full_cuts, ends_from};
-ghost use Rattle.int_col.specs.Spine.{joined, cuts_of, start_of, IsPlace};
+ghost use Rattle.int_col.specs.Spine.{joined, cuts_of, start_of, IsPlace, LastTakes};
 ghost use Rattle.int_col.specs.Edit.{Applies, Covers, size_after, values_after, replaced, LeftApart, RightApart};
 
 use crate::edit::{Edit, Touched};
 use crate::ends::{first_end_above, first_ends, push_moved};
+use crate::held::Held;
 use crate::segment::SEGMENT_MOST;
 use crate::shared::SharedSegment;
+use bit_pack::Width;
 use mk_value::Memory;
 use std::alloc::{AllocError, Global};
 use std::marker::Model;
@@ -38,7 +42,56 @@ pub(crate) struct Place {
     offset: usize,
 }
 
+impl Clone for Spine {
+    ghost is_clone = { λ a b. b ≡ a };
+
+    fn clone(&self) -> Result<Spine, AllocError> {
+        let ends = Vec::from_slice(*self.ends.allocator(), &self.ends)?;
+        Ok(Spine {
+            segments: clones(*self.segments.allocator(), &self.segments)?,
+            ends,
+        })
+    }
+}
+
 impl Spine {
+    /// The spine of these values, cut into full segments and a last one of what is left.
+    pub(crate) fn of(alloc: Global, values: &[i64]) -> Result<Spine, Memory>
+        requires { length values.now ≤ 16777216 }
+        ensures values { IfOk result (λ spine. joined spine ≡ values.now) }
+        ensures cuts { IfOk result (λ spine. cuts_of spine ≡ full_cuts (length values.now)) }
+    {
+        let segments = cut(alloc, values)?;
+        let mut ends = Vec::new(alloc);
+        push_ends(&mut ends, 0, &segments)?;
+        Ok(Spine { segments, ends })
+    }
+
+    /// How many segments there are.
+    pub(crate) fn segments(&self) -> usize
+        ensures count { result ≡ length self.now }
+        ensures few { length (joined self.now) ≤ 16777216 }
+        ensures cut { AreCuts (cuts_of self.now) }
+    {
+        self.segments.len()
+    }
+
+    /// The segment of this number, lent.
+    pub(crate) fn segment(&self, k: usize) -> Held<'_>
+        requires { k < length self.now }
+        ensures count { result.count ≡ length (slice_index_or self.now k []) }
+        ensures packed { Packed result.width (slice_index_or self.now k []) result.bytes.now }
+    {
+        self.segments[k].segment().lend()
+    }
+
+    /// The least width that holds all values.
+    pub(crate) fn width(&self) -> Width
+        ensures { IsLeastWidth result (joined self.now) }
+    {
+        widest(&self.segments)
+    }
+
     /// How many values there are.
     pub(crate) fn len(&self) -> usize
         ensures len { result ≡ length (joined self.now) }
@@ -237,6 +290,63 @@ impl Spine {
         self.copy_values(edit.end, &mut into[before + edit.count..]);
     }
 
+    /// Inserts copies of a value before a place, or at the end.
+    pub(crate) fn insert(&mut self, at: usize, value: i64, count: usize) -> Result<(), Memory>
+        requires at { at ≤ length (joined self.old) }
+        requires few { length (joined self.old) + count ≤ 16777216 }
+        ensures ok { OnOk result (joined self.new ≡ take at (joined self.old) ++ (replicate count value ++ drop at (joined self.old))) }
+        ensures err { OnErr result (self.new ≡ self.old) }
+    {
+        if count == 1 && at == self.len() && self.takes(value) {
+            return self.push(value);
+        }
+        let end = at;
+        self.replace(&Edit {
+            at,
+            end,
+            value,
+            count,
+        })
+    }
+
+    /// Removes values from a place on.
+    pub(crate) fn remove(&mut self, at: usize, count: usize) -> Result<(), Memory>
+        requires { at + count ≤ length (joined self.old) }
+        ensures ok { OnOk result (joined self.new ≡ take at (joined self.old) ++ drop (at + count) (joined self.old)) }
+        ensures err { OnErr result (self.new ≡ self.old) }
+    {
+        self.replace(&Edit {
+            at,
+            end: at + count,
+            value: 0,
+            count: 0,
+        })
+    }
+
+    /// Whether the last segment takes one more value.
+    fn takes(&self, value: i64) -> bool
+        ensures { OnTrue result (LastTakes self.now value) }
+    {
+        match self.segments.last() {
+            None => false,
+            Some(last) => last.segment().takes(value),
+        }
+    }
+
+    /// Adds a value that the last segment takes.
+    fn push(&mut self, value: i64) -> Result<(), Memory>
+        requires takes { LastTakes self.old value }
+        requires few { length (joined self.old) < 16777216 }
+        ensures ok { OnOk result (joined self.new ≡ joined self.old ++ value ∷ []) }
+        ensures err { OnErr result (self.new ≡ self.old) }
+    {
+        let last = self.segments.len() - 1;
+        let segment = &mut self.segments[last];
+        segment.push(value)?;
+        self.ends[last] += 1;
+        Ok(())
+    }
+
     /// Makes an edit: the touched segments are replaced, and all others stay.
     pub(crate) fn replace(&mut self, edit: &Edit) -> Result<(), Memory>
         requires { Applies (joined self.old) edit.now }
@@ -277,6 +387,28 @@ impl Spine {
         push_moved(&mut ends, &self.ends, after, self.start(after), stop)?;
         Ok(ends)
     }
+}
+
+/// Owners of the same segments.
+fn clones(alloc: Global, segments: &[SharedSegment]) -> Result<Vec<SharedSegment>, AllocError>
+    ensures { IfOk result (λ copies. copies.items ≡ segments.now) }
+{
+    let mut copies = Vec::with_capacity(alloc, segments.len())?;
+    for shared in segments {
+        copies.push(shared.clone()?)?;
+    }
+    Ok(copies)
+}
+
+/// The least width that holds the values of all segments.
+fn widest(segments: &[SharedSegment]) -> Width
+    ensures { IsLeastWidth result (joined segments.now) }
+{
+    let mut width = Width::W0;
+    for shared in segments {
+        width = width.wider(shared.segment().width());
+    }
+    width
 }
 
 /// Whether so many values more fit into the last of the segments that `size` values are cut into.
