@@ -4,3 +4,4 @@ pub mod Places
 pub mod Lists
 pub mod Edits
 pub mod Segments
+pub mod Columns

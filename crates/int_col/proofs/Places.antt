@@ -113,7 +113,7 @@ set_place ss at k o s t v p here put =
     ∙ joined-set ss k o v p.segment p.within
     ∙ ap (λ i. set (joined ss) i v) p.sum
 
-drop-cons-at : (ss : List (List ℤ)) (k : ℕ) → k < length ss → drop k ss ≡ get_or ss k [] ∷ drop (suc k) ss
+pub drop-cons-at : (ss : List (List ℤ)) (k : ℕ) → k < length ss → drop k ss ≡ get_or ss k [] ∷ drop (suc k) ss
 drop-cons-at [] k l = absurd (omega arith)
 drop-cons-at (s ∷ ss) zero l = refl
 drop-cons-at (s ∷ ss) (suc k) l = drop-cons-at ss k (omega arith)

@@ -98,7 +98,6 @@ impl IntCol {
     pub fn set(&mut self, at: usize, value: i64) -> Result<(), Memory>
         requires { at < length self.old.values }
         ensures ok { OnOk result (self.new ≡ record self.old { values = slice_set self.old.values at value; home = None }) }
-        ensures column { IsColumn self.new }
         ensures err { OnErr result (self.new ≡ self.old) }
     {
         self.spine.set(at, value)?;
@@ -118,7 +117,6 @@ impl IntCol {
         requires few { length self.old.values + count ≤ 16777216 }
         ensures values { OnOk result (self.new.values ≡ take at self.old.values ++ (replicate count value ++ drop at self.old.values)) }
         ensures home { OnOk result (self.new.home ≡ home_after count self.old.home) }
-        ensures column { IsColumn self.new }
         ensures err { OnErr result (self.new ≡ self.old) }
     {
         if count == 0 {
@@ -140,7 +138,6 @@ impl IntCol {
         requires { at + count ≤ length self.old.values }
         ensures values { OnOk result (self.new.values ≡ take at self.old.values ++ drop (at + count) self.old.values) }
         ensures home { OnOk result (self.new.home ≡ home_after count self.old.home) }
-        ensures column { IsColumn self.new }
         ensures err { OnErr result (self.new ≡ self.old) }
     {
         if count == 0 {

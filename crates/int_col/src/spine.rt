@@ -315,6 +315,7 @@ impl Spine {
         ensures ok { OnOk result (joined self.new ≡ take at (joined self.old) ++ drop (at + count) (joined self.old)) }
         ensures err { OnErr result (self.new ≡ self.old) }
     {
+        let _ = &self.segments;
         self.replace(&Edit {
             at,
             end: at + count,
