@@ -1,9 +1,9 @@
 -- Widths in their order, and the least width of values.
-use Rattle.std.proofs.Common.{◌≡◌, ◌+◌, ◌≤◌, max, ℤ, pos, negsuc, ◌≤ℤ◌, List, ◌++◌, length, get_or, fold, ◌⊎◌, inl, inr, FitsSigned, sym, subst, Bool, true, false, not, IsTrue, ◌↔◌, arith, rules}
+use Rattle.std.proofs.Common.{◌≡◌, ℕ, ◌+◌, ◌<◌, ◌≤◌, max, ℤ, pos, negsuc, ◌≤ℤ◌, List, ◌++◌, length, get_or, set, fold, ◌⊎◌, inl, inr, FitsSigned, sym, ap, subst, ◌∙◌, Bool, true, false, not, IsTrue, ◌↔◌, arith, rules}
 use Rattle.std.proofs.lemmas.Int.{ints, fold-int_min_bounds, fold-int_min_reached, fold-int_max_bounds, fold-int_max_reached}
-use Rattle.std.proofs.lemmas.Bool.{cases_lt}
-use Rattle.std.proofs.lemmas.List.{length-append, get_or_append_left, get_or-append-add}
-use Rattle.std.proofs.lemmas.List.Elements.{All-append, All-contains}
+use Rattle.std.proofs.lemmas.Bool.{cases_lt, cases_eq}
+use Rattle.std.proofs.lemmas.List.{length-append, length-set, get_or_append_left, get_or-append-add, get_or-set_same, get_or-set_other, get_or_default}
+use Rattle.std.proofs.lemmas.List.Elements.{All-append, All-contains, All-set}
 use Rattle.std.specs.Int.{int_min, int_max, w64}
 use Rattle.std.specs.List.{All, Contains}
 use Rattle.bit_pack.specs.declared.widths.Width.{Width}
@@ -139,3 +139,37 @@ test_negated false decides given refused = (λ _. given (λ p. absurd_test (deci
   where
     absurd_test : IsTrue false → ⊥
     absurd_test e = search rules
+
+-- ---- one value set
+
+-- A value that needs its width, where no other one needs more: it is then the least.
+pub least-set_wider : (w u : Width) (vs : List ℤ) (i : ℕ) (v : ℤ) → HoldsAll w vs → i < length vs → Holds u v → ((s : Width) → Holds s v → bit_count u ≤ bit_count s) → bit_count w ≤ bit_count u → IsLeastWidth u (set vs i v)
+least-set_wider w u vs i v h within held least le = record {
+  held = record { each = All-set (Holds u) vs i v held (HoldsAll-wider w u vs le h).each };
+  least = λ s all. least s (subst (Holds s) (get_or-set_same vs i v v within) (all.each i v (omega (arith, within, length-set vs i v))));
+}
+
+-- A value in place of one that did not need the width: the width stays the least.
+pub least-set_kept : (w : Width) (vs : List ℤ) (i : ℕ) (v d : ℤ) (s : Width) → IsLeastWidth w vs → i < length vs → Holds w v → Holds s (get_or vs i d) → bit_count s < bit_count w → IsLeastWidth w (set vs i v)
+least-set_kept w vs i v d s h within held old narrow = record {
+  held = record { each = All-set (Holds w) vs i v held h.held.each };
+  least = λ u all. elim (cases_lt (bit_count u) (bit_count w)) [
+    | inl lt ↦ absurd (too_narrow u all lt)
+    | inr le ↦ le
+  ];
+}
+  where
+    others : (u : Width) → HoldsAll u (set vs i v) → (k : ℕ) (e : ℤ) → k < length vs → (k ≡ i → ⊥) → Holds u (get_or vs k e)
+    others u all k e there apart = subst (Holds u) (get_or-set_other vs i k v e apart) (all.each k e (omega (arith, there, length-set vs i v)))
+
+    by_place : (u t : Width) → bit_count u ≤ bit_count t → bit_count s ≤ bit_count t → HoldsAll u (set vs i v) → (k : ℕ) (e : ℤ) → k < length vs → Holds t (get_or vs k e)
+    by_place u t wide wide_s all k e there = elim (cases_eq k i) [
+      | inl same ↦ Holds-wider s t (get_or vs k e) wide_s (subst (Holds s) (get_or_default vs i d e within ∙ ap (λ (j : ℕ). get_or vs j e) (sym same)) old)
+      | inr apart ↦ Holds-wider u t (get_or vs k e) wide (others u all k e there apart)
+    ]
+
+    too_narrow : (u : Width) → HoldsAll u (set vs i v) → bit_count u < bit_count w → ⊥
+    too_narrow u all lt = elim (cases_lt (bit_count u) (bit_count s)) [
+      | inl below ↦ omega (arith, narrow, h.least s (record { each = by_place u s (omega arith) (omega arith) all }))
+      | inr above ↦ omega (arith, lt, h.least u (record { each = by_place u u (omega arith) above all }))
+    ]

@@ -2,7 +2,7 @@
 -- (v modulo 2 ^ w) * 2 ^ (w * i) over the values v and their places i, at the least width w.
 use Rattle.std.specs.Prelude.{◌≡◌, ℕ, ◌+◌, ◌-◌, ◌*◌, ◌/◌, ◌%◌, ◌^◌, ◌<◌, ◌≤◌, ℤ, pos, negsuc, List, [], ◌∷◌, length, map, All}
 use Rattle.std.specs.List.{range_with_len}
-use Rattle.std.specs.Int.{div_ceil, cast_signed, w8, w16, w32, w64}
+use Rattle.std.specs.Int.{div_ceil, cast_signed, bytes_low_first, w8, w16, w32, w64}
 use Rattle.bit_pack.specs.declared.widths.Width.{Width}
 use Rattle.bit_pack.specs.declared.widths.Width.TheVariants.{W0, W1, W2, W4, W8, W16, W32, W64}
 use Rattle.bit_pack.specs.Width.{bit_count, HoldsAll, IsLeastWidth}
@@ -80,3 +80,7 @@ Reaches w bytes n = bit_count w * n ≤ 8 * length bytes
 -- a bit past the last of n values is set
 abbrev pub HasPadding : Width → List ℕ → ℕ → Type 0
 HasPadding w bytes n = 2 ^ (bit_count w * n) ≤ little_endian bytes
+
+-- The packing of values at a width: the bytes of their number, the lowest first. It is what PackedAt determines.
+abbrev pub packing : Width → List ℤ → List ℕ
+packing w values = bytes_low_first 0 (packed_len w (length values)) (packed_number w values)

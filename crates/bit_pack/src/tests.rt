@@ -1,0 +1,169 @@
+//! Worked rows: each expected value is computed by hand.
+use crate::{
+    Bytes, PackError, Values, Width, get, is_least, least_width, pack, pack_into, put, unpack,
+    unpack_into, width_for,
+};
+use std::process::Abort;
+
+#[test]
+fn least_widths(rt: HostRuntime) {
+    // both ends of each width, and the first value past each
+    let rows = [
+        (0, Width::W0),
+        (1, Width::W1),
+        (2, Width::W2),
+        (3, Width::W2),
+        (4, Width::W4),
+        (15, Width::W4),
+        (16, Width::W8),
+        (127, Width::W8),
+        (128, Width::W16),
+        (-1, Width::W8),
+        (-128, Width::W8),
+        (-129, Width::W16),
+        (32_767, Width::W16),
+        (32_768, Width::W32),
+        (-32_768, Width::W16),
+        (-32_769, Width::W32),
+        (2_147_483_647, Width::W32),
+        (2_147_483_648, Width::W64),
+        (-2_147_483_648, Width::W32),
+        (-2_147_483_649, Width::W64),
+        (i64::MAX, Width::W64),
+        (i64::MIN, Width::W64),
+    ];
+    for (value, want) in rows {
+        assert_eq!(rt; Width::of(value), want, "of {value}");
+        assert_eq!(rt; width_for(&[0, value]), want, "for 0 and {value}");
+    }
+    assert_eq!(rt; width_for(&[]), Width::W0);
+    assert_eq!(rt; width_for(&[0, 3]), Width::W2);
+    assert_eq!(rt; width_for(&[200, -1]), Width::W16);
+}
+
+#[test]
+fn bits_of_widths(rt: HostRuntime) {
+    for (bits, want) in [
+        (0, Some(Width::W0)),
+        (1, Some(Width::W1)),
+        (2, Some(Width::W2)),
+        (3, None),
+        (4, Some(Width::W4)),
+        (8, Some(Width::W8)),
+        (16, Some(Width::W16)),
+        (32, Some(Width::W32)),
+        (64, Some(Width::W64)),
+        (65, None),
+    ] {
+        assert_eq!(rt; Width::from_bits(bits), want, "{bits} bits");
+    }
+    assert_eq!(rt; Width::W32.bits(), 32);
+    assert_eq!(rt; Width::W2.packed_len(5), 2);
+    assert_eq!(rt; Width::W2.wider(Width::W16), Width::W16);
+    assert_eq!(rt; Width::W1.narrower(), Some(Width::W0));
+    assert!(rt; Width::W8.holds(-128) && !Width::W8.holds(128));
+}
+
+fn packs<R: Abort + AllocGlobal>(
+    rt: &R,
+    values: &[i64],
+    width: Width,
+    want: &[u8],
+) -> Result<(), PackError> {
+    let least = width_for(values);
+    assert_eq!(rt; least, width);
+    let bytes = pack(rt.alloc(), least, values)?;
+    assert_eq!(rt; bytes.as_slice(), want);
+    let count = values.len();
+    assert!(rt; count < 100);
+    let back = unpack(rt.alloc(), width, count, want)?;
+    assert_eq!(rt; back.as_slice(), values);
+    Ok(())
+}
+
+#[test]
+fn packs_and_unpacks(rt: HostRuntime) -> Result<(), PackError> {
+    packs(&rt, &[], Width::W0, &[])?;
+    packs(&rt, &[0, 0, 0], Width::W0, &[])?;
+    packs(&rt, &[1, 0, 0, 1, 0, 0, 0, 1, 1], Width::W1, &[0x89, 0x01])?;
+    packs(&rt, &[3, 0, 1, 2, 1], Width::W2, &[0x93, 0x01])?;
+    packs(&rt, &[15, 1, 2], Width::W4, &[0x1f, 0x02])?;
+    packs(&rt, &[-1, 127, -128], Width::W8, &[0xff, 0x7f, 0x80])?;
+    packs(&rt, &[-2, 258], Width::W16, &[0xfe, 0xff, 0x02, 0x01])?;
+    packs(
+        &rt,
+        &[-32_769, 1],
+        Width::W32,
+        &[0xff, 0x7f, 0xff, 0xff, 1, 0, 0, 0],
+    )?;
+    packs(
+        &rt,
+        &[0x0102_0304_0506_0708, -1],
+        Width::W64,
+        &[
+            8, 7, 6, 5, 4, 3, 2, 1, 255, 255, 255, 255, 255, 255, 255, 255,
+        ],
+    )
+}
+
+#[test]
+fn refuses(rt: HostRuntime) {
+    let alloc = rt.alloc();
+    for (width, count, byte, want) in [
+        (Width::W8, 1, 1, PackError::NotLeast(Width::W8, Width::W1)),
+        (Width::W8, 1, 15, PackError::NotLeast(Width::W8, Width::W4)),
+        (Width::W4, 2, 0, PackError::NotLeast(Width::W4, Width::W0)),
+        (Width::W2, 1, 7, PackError::Padding(0)),
+        (Width::W1, 7, 128, PackError::Padding(0)),
+        (Width::W8, 2, 1, PackError::Length(2, 1)),
+        (Width::W0, 5, 0, PackError::Length(0, 1)),
+        (Width::W2, 5, 255, PackError::Length(2, 1)),
+    ] {
+        let answer = unpack(alloc, width, count, &[byte]);
+        assert_eq!(rt;
+            answer.err(),
+            Some(want),
+            "{width:?}, {count} values, byte {byte}"
+        );
+    }
+}
+
+#[test]
+fn single_values(rt: HostRuntime) {
+    let mut bytes = [0x93, 0x01];
+    assert_eq!(rt; get(Width::W2, &bytes, 3), 2);
+    put(Width::W2, &mut bytes, 3, 0);
+    assert_eq!(rt; bytes.as_slice(), [0x13, 0x01].as_slice());
+    put(Width::W2, &mut bytes, 4, 3);
+    assert_eq!(rt; bytes.as_slice(), [0x13, 0x03].as_slice());
+
+    let mut wide = [0xfe, 0xff, 0x02, 0x01];
+    assert_eq!(rt; get(Width::W16, &wide, 0), -2);
+    put(Width::W16, &mut wide, 1, -3);
+    assert_eq!(rt; wide.as_slice(), [0xfe, 0xff, 0xfd, 0xff].as_slice());
+    assert!(rt; !is_least(Width::W16, &wide, 2));
+    assert_eq!(rt; least_width(Width::W16, &wide, 2), Width::W8);
+
+    let mut values = [0; 2];
+    unpack_into(Width::W2, &bytes, 3, &mut values);
+    assert_eq!(rt; values.as_slice(), [0, 3].as_slice());
+    let mut packed = [0xff; 1];
+    assert!(rt; Width::W4.holds(5) && Width::W4.holds(9));
+    pack_into(Width::W4, &[5, 9], &mut packed);
+    assert_eq!(rt; packed.as_slice(), [0x95].as_slice());
+}
+
+#[test]
+fn lists(rt: HostRuntime) -> Result<(), PackError> {
+    let mut bytes = Bytes::new(rt.alloc());
+    assert!(rt; bytes.is_empty());
+    bytes.push(7)?;
+    assert_eq!(rt; bytes.len(), 1);
+    assert_eq!(rt; bytes.into_vec().as_slice(), [7].as_slice());
+    let mut values = Values::new(rt.alloc());
+    assert!(rt; values.is_empty());
+    values.push(-7)?;
+    assert_eq!(rt; values.len(), 1);
+    assert_eq!(rt; values.into_vec().as_slice(), [-7].as_slice());
+    Ok(())
+}
