@@ -5,3 +5,4 @@ pub mod Lists
 pub mod Edits
 pub mod Segments
 pub mod Columns
+pub mod Fills

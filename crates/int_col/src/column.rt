@@ -4,7 +4,7 @@ ghost use Rattle.bit_pack.specs.declared.widths.Width.{Width};
 ghost use Rattle.bit_pack.specs.Width.{IsLeastWidth};
 ghost use Rattle.bit_pack.specs.Packed.{Packed, packed_len};
 ghost use Rattle.int_col.specs.Cuts.{full_cuts};
-ghost use Rattle.int_col.specs.Column.{Column, IsColumn, segment_values, home_after};
+ghost use Rattle.int_col.specs.Column.{Column, IsColumn, segment_values, home_after, HasPackedBytes, ArePackedBytes};
 
 use crate::edit::Edit;
 use crate::held::Held;
@@ -153,6 +153,14 @@ impl IntCol {
         ensures { IsLeastWidth result self.now.values }
     {
         self.spine.spine().width()
+    }
+
+    /// Writes the packed bytes of all values, at their least width, from byte `from` on.
+    pub fn fill(&self, from: usize, into: &mut [u8])
+        requires { HasPackedBytes self.now.values (from + length into.old) }
+        ensures { ArePackedBytes self.now.values from into.new }
+    {
+        self.spine.spine().fill(from, into);
     }
 
     /// Where the column stands in a file, if it stands there as it is.

@@ -11,6 +11,7 @@
 mod column;
 mod edit;
 mod ends;
+mod fill;
 mod held;
 mod segment;
 mod shared;
