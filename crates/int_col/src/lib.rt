@@ -16,6 +16,8 @@ mod held;
 mod segment;
 mod shared;
 mod spine;
+#[cfg(test)]
+mod tests;
 
 pub use column::IntCol;
 pub use held::Held;
