@@ -14,9 +14,9 @@ use Rattle.int_col.proofs.Places.{drop-cons-at}
 
 pub IsColumn-of : (ss : List (List ℤ)) (home : Option Span) → length (joined ss) ≤ 16777216 → AreCuts (cuts_of ss) → IsColumn (column_of ss home)
 IsColumn-of ss home few cut = record {
-    few = few;
-    cut = cut;
-    whole = sym (length-joined ss);
+  few = few;
+  cut = cut;
+  whole = sym (length-joined ss);
 }
 
 -- what segment k of a column is
@@ -24,7 +24,7 @@ pub segment_values-of : (ss : List (List ℤ)) (home : Option Span) (k : ℕ) �
 segment_values-of ss home k l =
     let s : List ℤ = get_or ss k [] in
     let rest : drop (sum (take k (cuts_of ss))) (joined ss) ≡ s ++ joined (drop (suc k) ss) =
-        ap (λ n. drop n (joined ss)) (sym (length-joined-take k ss)) ∙ drop-joined k ss ∙ ap joined (drop-cons-at ss k l) in
+    ap (λ n. drop n (joined ss)) (sym (length-joined-take k ss)) ∙ drop-joined k ss ∙ ap joined (drop-cons-at ss k l) in
     ap (λ n. take n (drop (sum (take k (cuts_of ss))) (joined ss))) (get_or-cuts ss k l)
     ∙ ap (take (length s)) rest
     ∙ take_at s (joined (drop (suc k) ss)) (length s) refl
@@ -34,9 +34,9 @@ pub least-more : (ss : List (List ℤ)) (k : ℕ) (s : List ℤ) (w u t : Width)
 least-more ss k s w u t l here before own wider =
     let P : List ℤ → Type 0 = IsLeastWidth t in
     let is : joined (take (k + 1) ss) ≡ joined (take k ss) ++ s =
-        ap joined (take_more ss k s l)
-        ∙ joined-append (take k ss) (get_or ss k s ∷ [])
-        ∙ ap (λ x. joined (take k ss) ++ x) (append-nil (get_or ss k s) ∙ sym here) in
+    ap joined (take_more ss k s l)
+    ∙ joined-append (take k ss) (get_or ss k s ∷ [])
+    ∙ ap (λ x. joined (take k ss) ++ x) (append-nil (get_or ss k s) ∙ sym here) in
     subst P (sym is) (least-append w u t (joined (take k ss)) s before own wider)
 
 -- a value more in the last segment
@@ -67,18 +67,18 @@ IsSpine-pushed ss es s v last end h len here room few is =
     let front : length (take last ss) ≡ last = length-take-le last ss (omega arith) in
     let old : cuts_of ss ≡ init ++ n ∷ [] = ap cuts_of (last_parts ss s last len here) ∙ map-append length (take last ss) (s ∷ []) in
     let new : cuts_of (set ss last (s ++ v ∷ [])) ≡ init ++ (n + 1) ∷ [] =
-        ap cuts_of (set_last ss s (s ++ v ∷ []) last len here) ∙ map-append length (take last ss) ((s ++ v ∷ []) ∷ []) ∙ ap (λ m. init ++ m ∷ []) (length_push s v) in
+    ap cuts_of (set_last ss s (s ++ v ∷ []) last len here) ∙ map-append length (take last ss) ((s ++ v ∷ []) ∷ []) ∙ ap (λ m. init ++ m ∷ []) (length_push s v) in
     let ends : es ≡ ends_from 0 init ++ (0 + sum init + n) ∷ [] = h.placed ∙ ap (ends_from 0) old ∙ ends_from-append 0 init (n ∷ []) in
     let first : length (ends_from 0 init) ≡ last = length-ends_from 0 init ∙ length-cuts (take last ss) ∙ front in
     let at_last : get_or es last 0 ≡ 0 + sum init + n = ap (λ z. get_or z last 0) ends ∙ get_or_at (ends_from 0 init) (0 + sum init + n) [] 0 last first in
     record {
-        few = omega (arith, ap length (joined-pushed ss s v last len here), length_push (joined ss) v);
-        cut = subst AreCuts (sym new) (AreCuts-last-more init n (subst AreCuts old h.cut) room);
-        placed =
-            ap (λ z. set z last end) ends
-            ∙ set_at (ends_from 0 init) (0 + sum init + n) [] end last first
-            ∙ ap (λ e. ends_from 0 init ++ e ∷ []) (let e : end ≡ 0 + sum init + (n + 1) = omega (arith, is, at_last) in e)
-            ∙ sym (ap (ends_from 0) new ∙ ends_from-append 0 init ((n + 1) ∷ []));
+      few = omega (arith, ap length (joined-pushed ss s v last len here), length_push (joined ss) v);
+      cut = subst AreCuts (sym new) (AreCuts-last-more init n (subst AreCuts old h.cut) room);
+      placed =
+          ap (λ z. set z last end) ends
+          ∙ set_at (ends_from 0 init) (0 + sum init + n) [] end last first
+          ∙ ap (λ e. ends_from 0 init ++ e ∷ []) (let e : end ≡ 0 + sum init + (n + 1) = omega (arith, is, at_last) in e)
+          ∙ sym (ap (ends_from 0) new ∙ ends_from-append 0 init ((n + 1) ∷ []));
     }
 
 -- the last segment has room where it takes one more value
@@ -86,5 +86,5 @@ pub last_room : (ss : List (List ℤ)) (s : List ℤ) (v : ℤ) (last : ℕ) →
 last_room ss s v last takes len here =
     let before : length ss - 1 ≡ last = omega arith in
     let segment : length s ≡ length (get_or ss (length ss - 1) []) =
-        ap length (here ∙ get_or_default ss last s [] (omega arith)) ∙ ap (λ k. length (get_or ss k [])) (sym before) in
+    ap length (here ∙ get_or_default ss last s [] (omega arith)) ∙ ap (λ k. length (get_or ss k [])) (sym before) in
     omega (arith, takes.takes.room)

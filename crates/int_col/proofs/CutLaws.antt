@@ -151,15 +151,15 @@ pub full_cuts-more : (n c : ℕ) → n % 2048 ≡ 0 → 0 < c → c ≤ 2048 →
 full_cuts-more n c whole some few =
     let before : full_cuts n ≡ replicate (n / 2048) 2048 = full_cuts-at n (n / 2048) 0 (omega arith) (omega arith) ∙ append-nil _ in
     let step : full_cuts (n + c) ≡ replicate (n / 2048) 2048 ++ c ∷ [] =
-        elim (cases_lt c 2048) [
-        inl less ↦ full_cuts-at (n + c) (n / 2048) c (omega arith) less ∙ ap (λ rest. replicate (n / 2048) 2048 ++ rest) (rest_cut-some c some)
-        | inr more ↦
-            let all : c ≡ 2048 = omega arith in
-            full_cuts-at (n + c) (n / 2048 + 1) 0 (omega arith) (omega arith)
-            ∙ append-nil _
-            ∙ sym (replicate_more (n / 2048) 2048)
-            ∙ ap (λ d. replicate (n / 2048) 2048 ++ d ∷ []) (sym all)
-        ] in
+    elim (cases_lt c 2048) [
+      | inl less ↦ full_cuts-at (n + c) (n / 2048) c (omega arith) less ∙ ap (λ rest. replicate (n / 2048) 2048 ++ rest) (rest_cut-some c some)
+      | inr more ↦
+          let all : c ≡ 2048 = omega arith in
+          full_cuts-at (n + c) (n / 2048 + 1) 0 (omega arith) (omega arith)
+          ∙ append-nil _
+          ∙ sym (replicate_more (n / 2048) 2048)
+          ∙ ap (λ d. replicate (n / 2048) 2048 ++ d ∷ []) (sym all)
+    ] in
     step ∙ ap (λ cs. cs ++ c ∷ []) (sym before)
 
 Meet-push : (xs : List ℕ) (y : ℕ) (ys : List ℕ) → Precedes y ys → Meet (xs ++ y ∷ []) ys
@@ -201,12 +201,12 @@ first_apart : (c n : ℕ) (ys : List ℕ) → 0 < c → c ≤ 2048 → 2048 < c 
 first_apart c n ys some few apart =
     let P : List ℕ → Type 0 = λ xs. Precedes c (xs ++ ys) in
     elim (cases_lt n 2048) [
-    inl less ↦
-        let alone : full_cuts n ≡ n ∷ [] = full_cuts-at n 0 n (omega arith) less ∙ rest_cut-some n (omega arith) in
-        subst P (sym alone) apart
-    | inr more ↦
-        let whole : full_cuts n ≡ replicate (suc (n / 2048 - 1)) 2048 ++ rest_cut (n % 2048) = full_cuts-at n (suc (n / 2048 - 1)) (n % 2048) (omega arith) (omega arith) in
-        subst P (sym whole) (omega arith)
+      | inl less ↦
+          let alone : full_cuts n ≡ n ∷ [] = full_cuts-at n 0 n (omega arith) less ∙ rest_cut-some n (omega arith) in
+          subst P (sym alone) apart
+      | inr more ↦
+          let whole : full_cuts n ≡ replicate (suc (n / 2048 - 1)) 2048 ++ rest_cut (n % 2048) = full_cuts-at n (suc (n / 2048 - 1)) (n % 2048) (omega arith) (omega arith) in
+          subst P (sym whole) (omega arith)
     ]
 
 Meet-nil : (xs : List ℕ) → Meet xs []
@@ -220,13 +220,13 @@ last_apart n (d ∷ ds) h apart =
     let some : 0 < d = h.0 in
     let P : List ℕ → Type 0 = λ xs. Meet xs (d ∷ ds) in
     elim (cases_lt 0 (n % 2048)) [
-    inl rest ↦
-        let ends : full_cuts n ≡ replicate (n / 2048) 2048 ++ (n % 2048) ∷ [] = ap (λ cs. replicate (n / 2048) 2048 ++ cs) (rest_cut-some (n % 2048) rest) in
-        let over : 2048 < n % 2048 + d = elim apart.1 [ inl none ↦ absurd (omega arith) | inr over ↦ over ] in
-        subst P (sym ends) (Meet-push (replicate (n / 2048) 2048) (n % 2048) (d ∷ ds) over)
-    | inr none ↦
-        let ends : full_cuts n ≡ replicate (n / 2048) 2048 = full_cuts-at n (n / 2048) 0 (omega arith) (omega arith) ∙ append-nil (replicate (n / 2048) 2048) in
-        subst P (sym ends) (Meet-replicate (n / 2048) 2048 (d ∷ ds) (omega arith))
+      | inl rest ↦
+          let ends : full_cuts n ≡ replicate (n / 2048) 2048 ++ (n % 2048) ∷ [] = ap (λ cs. replicate (n / 2048) 2048 ++ cs) (rest_cut-some (n % 2048) rest) in
+          let over : 2048 < n % 2048 + d = elim apart.1 [ inl none ↦ absurd (omega arith) | inr over ↦ over ] in
+          subst P (sym ends) (Meet-push (replicate (n / 2048) 2048) (n % 2048) (d ∷ ds) over)
+      | inr none ↦
+          let ends : full_cuts n ≡ replicate (n / 2048) 2048 = full_cuts-at n (n / 2048) 0 (omega arith) (omega arith) ∙ append-nil (replicate (n / 2048) 2048) in
+          subst P (sym ends) (Meet-replicate (n / 2048) 2048 (d ∷ ds) (omega arith))
     ]
 
 -- n values in place of the segments from a up to b

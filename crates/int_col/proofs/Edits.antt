@@ -24,7 +24,7 @@ replaced_is xs e t before behind =
     let far : List ℤ = take (t.stop - e.end) (drop e.end xs) in
     let copies : List ℤ = replicate e.count e.value in
     let inner : values_after xs e t ++ drop t.stop xs ≡ near ++ (copies ++ (far ++ drop t.stop xs)) =
-        append_assoc near (copies ++ far) (drop t.stop xs) ∙ ap (λ ys. near ++ ys) (append_assoc copies far (drop t.stop xs)) in
+    append_assoc near (copies ++ far) (drop t.stop xs) ∙ ap (λ ys. near ++ ys) (append_assoc copies far (drop t.stop xs)) in
     ap (λ ys. take t.start xs ++ ys) inner
     ∙ sym (append_assoc (take t.start xs) near (copies ++ (far ++ drop t.stop xs)))
     ∙ ap (λ ys. ys ++ (copies ++ (far ++ drop t.stop xs))) (sym front)
@@ -59,19 +59,19 @@ pub left_widened : (ss : List (List ℤ)) (e : Edit) (t u : Touched) → AreCuts
 left_widened ss e t u h c some first start after stop =
     let back : start_of ss u.first ≤ start_of ss t.first = start_mono ss u.first t.first (omega arith) in
     let covers : Covers ss e.at e.end u = record {
-        order = omega (arith, c.order);
-        in_range = omega (arith, c.in_range);
-        start = start;
-        stop = stop ∙ c.stop ∙ ap (start_of ss) (sym after);
-        before = omega (arith, c.before, c.start);
-        behind = omega (arith, c.behind);
+      order = omega (arith, c.order);
+      in_range = omega (arith, c.in_range);
+      start = start;
+      stop = stop ∙ c.stop ∙ ap (start_of ss) (sym after);
+      before = omega (arith, c.before, c.start);
+      behind = omega (arith, c.behind);
     } in
     let apart : LeftApart (cuts_of ss) u.first (size_after e u) = λ k is.
-        let l : suc k < length ss = omega (arith, c.order, c.in_range) in
-        let next : t.first ≡ suc (suc k) = omega arith in
-        let from : t.start ≡ start_of ss (suc (suc k)) = c.start ∙ ap (start_of ss) next in
-        let to : u.start ≡ start_of ss (suc k) = start ∙ ap (start_of ss) is in
-        omega (arith, cut_is ss (suc k) l, cut_neighbours (cuts_of ss) k h (omega (arith, length-cuts ss)), c.before)
+    let l : suc k < length ss = omega (arith, c.order, c.in_range) in
+    let next : t.first ≡ suc (suc k) = omega arith in
+    let from : t.start ≡ start_of ss (suc (suc k)) = c.start ∙ ap (start_of ss) next in
+    let to : u.start ≡ start_of ss (suc k) = start ∙ ap (start_of ss) is in
+    omega (arith, cut_is ss (suc k) l, cut_neighbours (cuts_of ss) k h (omega (arith, length-cuts ss)), c.before)
     in (covers, apart)
 
 drop_at_cut : (cs : List ℕ) (k : ℕ) → k < length cs → drop k cs ≡ get_or cs k 0 ∷ drop (suc k) cs
@@ -106,17 +106,17 @@ right_widened ss n more after h l is fits =
     let some : 0 < more = omega (arith, cut_some (cuts_of ss) after h in_cuts) in
     let few : more ≤ 2048 = omega (arith, cut_few (cuts_of ss) after h in_cuts) in
     elim (cases_lt (suc after) (length ss)) [
-    inl next ↦
-        let P : List ℕ → Type 0 = RightApart (n + more) in
-        let d : ℕ = get_or (cuts_of ss) (suc after) 0 in
-        let pair : 2048 < more + d = omega (arith, cut_neighbours (cuts_of ss) after h (omega (arith, length-cuts ss))) in
-        let apart : ((n + more) % 2048 ≡ 0) ⊎ (2048 < (n + more) % 2048 + d) =
-            elim (cases_lt (n % 2048 + more) 2048) [
-            inl less ↦ elim fits [ inl none ↦ inr (omega arith) | inr fit ↦ inr (omega arith) ]
+      | inl next ↦
+          let P : List ℕ → Type 0 = RightApart (n + more) in
+          let d : ℕ = get_or (cuts_of ss) (suc after) 0 in
+          let pair : 2048 < more + d = omega (arith, cut_neighbours (cuts_of ss) after h (omega (arith, length-cuts ss))) in
+          let apart : ((n + more) % 2048 ≡ 0) ⊎ (2048 < (n + more) % 2048 + d) =
+          elim (cases_lt (n % 2048 + more) 2048) [
+            | inl less ↦ elim fits [ inl none ↦ inr (omega arith) | inr fit ↦ inr (omega arith) ]
             | inr full ↦ elim fits [ inl none ↦ inl (omega arith) | inr fit ↦ inl (omega (arith, fit.0, fit.1)) ]
-            ] in
-        subst P (sym (drop_at_cut (cuts_of ss) (suc after) (omega (arith, length-cuts ss)))) (omega arith, apart)
-    | inr last ↦ right_none ss (n + more) (suc after) last
+          ] in
+          subst P (sym (drop_at_cut (cuts_of ss) (suc after) (omega (arith, length-cuts ss)))) (omega arith, apart)
+      | inr last ↦ right_none ss (n + more) (suc after) last
     ]
 
 -- what the edited segments are together
@@ -136,18 +136,18 @@ length-replaced xs e a =
 pub cuts_after : (ss fresh : List (List ℤ)) (a b n : ℕ) → AreCuts (cuts_of ss) → a ≤ length ss → cuts_of fresh ≡ full_cuts n → LeftApart (cuts_of ss) a n → RightApart n (drop b (cuts_of ss)) → AreCuts (cuts_of (take a ss ++ (fresh ++ drop b ss)))
 cuts_after ss fresh a b n h in_range made left right =
     subst AreCuts
-        (sym (cuts-replaced ss fresh a b ∙ ap (λ cs. take a (cuts_of ss) ++ (cs ++ drop b (cuts_of ss))) made))
-        (AreCuts-replaced (cuts_of ss) a b n h (omega (arith, length-cuts ss)) left right)
+    (sym (cuts-replaced ss fresh a b ∙ ap (λ cs. take a (cuts_of ss) ++ (cs ++ drop b (cuts_of ss))) made))
+    (AreCuts-replaced (cuts_of ss) a b n h (omega (arith, length-cuts ss)) left right)
 
 -- with the segment behind
 pub covers_more : (ss : List (List ℤ)) (at end : ℕ) (t u : Touched) → Covers ss at end t → t.after < length ss → u.first ≡ t.first → u.start ≡ t.start → u.after ≡ t.after + 1 → u.stop ≡ start_of ss (t.after + 1) → Covers ss at end u
 covers_more ss at end t u c l first start after stop = record {
-    order = omega (arith, c.order);
-    in_range = omega arith;
-    start = start ∙ c.start ∙ ap (start_of ss) (sym first);
-    stop = stop ∙ ap (start_of ss) (sym after);
-    before = omega (arith, c.before);
-    behind = omega (arith, c.behind, c.stop, start_mono ss t.after (t.after + 1) (omega arith));
+  order = omega (arith, c.order);
+  in_range = omega arith;
+  start = start ∙ c.start ∙ ap (start_of ss) (sym first);
+  stop = stop ∙ ap (start_of ss) (sym after);
+  before = omega (arith, c.before);
+  behind = omega (arith, c.behind, c.stop, start_mono ss t.after (t.after + 1) (omega arith));
 }
 
 pub left_more : (cuts : List ℕ) (first n m : ℕ) → n ≤ m → LeftApart cuts first n → LeftApart cuts first m
@@ -165,9 +165,10 @@ ends_more ss from k s l here =
 pub cut_more : (ss new : List (List ℤ)) (xs s : List ℤ) (from to : ℕ) → joined ss ≡ take from xs → cuts_of ss ≡ full_cuts from → from % 2048 ≡ 0 → from < to → to ≤ from + 2048 → to ≤ length xs → s ≡ take (to - from) (drop from xs) → new ≡ ss ++ s ∷ [] → (joined new ≡ take to xs) × (cuts_of new ≡ full_cuts to)
 cut_more ss new xs s from to values cuts whole some few within is made =
     let len : length s ≡ to - from = ap length is ∙ length-take-le (to - from) (drop from xs) (omega (arith, length-drop from xs)) in
-    let sum : from + (to - from) ≡ to = omega arith in
-    (ap joined made ∙ joined-append ss (s ∷ []) ∙ ap (λ ys. joined ss ++ ys) (append-nil s) ∙ ap (λ ys. ys ++ s) values ∙ ap (λ ys. take from xs ++ ys) is ∙ sym (take-split xs from to (omega arith)),
-    ap cuts_of made ∙ map-append length ss (s ∷ []) ∙ ap (λ ns. cuts_of ss ++ ns) (ap (λ n. n ∷ []) len) ∙ ap (λ ns. ns ++ (to - from) ∷ []) cuts ∙ sym (full_cuts-more from (to - from) whole (omega arith) (omega arith)) ∙ ap full_cuts sum)
+    let sum : from + (to - from) ≡ to = omega arith in (
+      ap joined made ∙ joined-append ss (s ∷ []) ∙ ap (λ ys. joined ss ++ ys) (append-nil s) ∙ ap (λ ys. ys ++ s) values ∙ ap (λ ys. take from xs ++ ys) is ∙ sym (take-split xs from to (omega arith)),
+      ap cuts_of made ∙ map-append length ss (s ∷ []) ∙ ap (λ ns. cuts_of ss ++ ns) (ap (λ n. n ∷ []) len) ∙ ap (λ ns. ns ++ (to - from) ∷ []) cuts ∙ sym (full_cuts-more from (to - from) whole (omega arith) (omega arith)) ∙ ap full_cuts sum,
+    )
 
 -- where the segments end with others in place of those from a up to b
 pub ends_replaced : (ss fresh : List (List ℤ)) (es : List ℕ) (a b start from to : ℕ) → IsSpine ss es → start ≡ start_of ss a → from ≡ start_of ss b → to ≡ start + length (joined fresh) → take a es ++ ends_from start (cuts_of fresh) ++ map (λ e. e - from + to) (drop b es) ≡ ends_from 0 (cuts_of (take a ss ++ (fresh ++ drop b ss)))
@@ -176,14 +177,14 @@ ends_replaced ss fresh es a b start from to h at_start at_from at_to =
     let fs : List ℕ = cuts_of fresh in
     let first : take a es ≡ ends_from 0 (take a cs) = ap (take a) h.placed ∙ take-ends_from 0 a cs in
     let old : drop b es ≡ ends_from from (drop b cs) =
-        ap (drop b) h.placed ∙ drop-ends_from 0 b cs ∙ ap (λ n. ends_from n (drop b cs)) (let e : 0 + sum (take b cs) ≡ from = omega (arith, length-joined-take b ss) in e) in
+    ap (drop b) h.placed ∙ drop-ends_from 0 b cs ∙ ap (λ n. ends_from n (drop b cs)) (let e : 0 + sum (take b cs) ≡ from = omega (arith, length-joined-take b ss) in e) in
     let moved : map (λ e. e - from + to) (drop b es) ≡ ends_from to (drop b cs) = ap (map (λ e. e - from + to)) old ∙ ends_from-shift from to (drop b cs) in
     let begin : 0 + sum (take a cs) ≡ start = omega (arith, length-joined-take a ss) in
     let reach : start + sum fs ≡ to = omega (arith, length-joined fresh) in
     let all : ends_from 0 (take a cs ++ (fs ++ drop b cs)) ≡ ends_from 0 (take a cs) ++ (ends_from start fs ++ ends_from to (drop b cs)) =
-        ends_from-append 0 (take a cs) (fs ++ drop b cs)
-        ∙ ap (λ n. ends_from 0 (take a cs) ++ ends_from n (fs ++ drop b cs)) begin
-        ∙ ap (λ es. ends_from 0 (take a cs) ++ es) (ends_from-append start fs (drop b cs) ∙ ap (λ n. ends_from start fs ++ ends_from n (drop b cs)) reach) in
+    ends_from-append 0 (take a cs) (fs ++ drop b cs)
+    ∙ ap (λ n. ends_from 0 (take a cs) ++ ends_from n (fs ++ drop b cs)) begin
+    ∙ ap (λ es. ends_from 0 (take a cs) ++ es) (ends_from-append start fs (drop b cs) ∙ ap (λ n. ends_from start fs ++ ends_from n (drop b cs)) reach) in
     ap (λ xs. xs ++ ends_from start fs ++ map (λ e. e - from + to) (drop b es)) first
     ∙ ap (λ xs. ends_from 0 (take a cs) ++ ends_from start fs ++ xs) moved
     ∙ append_assoc (ends_from 0 (take a cs)) (ends_from start fs) (ends_from to (drop b cs))
@@ -200,7 +201,7 @@ pub arranged : (xs : List ℤ) (e : Edit) (t : Touched) (copies front back post 
 arranged xs e t copies front back post m are len before behind is none =
     let b : ℕ = e.at - t.start in
     let first : take (b + e.count) (front ++ drop b copies) ≡ front ++ replicate e.count e.value =
-        around front copies b e.count (size_after e t) e.value are (omega arith) len in
+    around front copies b e.count (size_after e t) e.value are (omega arith) len in
     ap (λ ys. ys ++ (back ++ post)) first
     ∙ append_assoc front (replicate e.count e.value) (back ++ post)
     ∙ ap (λ ys. ys ++ (replicate e.count e.value ++ (back ++ post))) before

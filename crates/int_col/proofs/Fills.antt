@@ -97,11 +97,11 @@ block_bytes : (w : Width) (xs : List ℤ) (f b c : ℕ) → HoldsAll w xs → f 
 block_bytes w xs f b c h is within count =
     ap (take (packed_len w c)) (packing-back w xs f b h is within)
     ∙ elim (cases_lt 512 (length xs - f)) [
-      inl more ↦ packing-front w (drop f xs) c 1 (held_back w f xs h) (omega arith) (omega (arith, length-drop f xs))
+      | inl more ↦ packing-front w (drop f xs) c 1 (held_back w f xs h) (omega arith) (omega (arith, length-drop f xs))
       | inr last ↦
           let all : length (drop f xs) ≡ c = omega (arith, length-drop f xs) in
           take_all (packed_len w c) (packing w (drop f xs)) (omega (arith, length-packing w (drop f xs), ap (packed_len w) all)) ∙ ap (packing w) (sym (take_all c (drop f xs) (omega arith)))
-      ]
+    ]
 
 -- some bytes of a block
 pub part_bytes : (w : Width) (xs : List ℤ) (from f b c skip n : ℕ) → HoldsAll w xs → f ≡ 512 * b → f ≤ length xs → c ≡ min 512 (length xs - f) → from ≡ packed_len w f + skip → skip + n ≤ packed_len w c → take n (drop from (packing w xs)) ≡ take n (drop skip (packing w (take c (drop f xs))))
@@ -111,7 +111,7 @@ part_bytes w xs from f b c skip n h is within count place enough =
     let there : drop from bytes ≡ drop skip rest = ap (λ k. drop k bytes) place ∙ sym (drop-drop skip (packed_len w f) bytes) in
     let parts : packed_len w c ≡ skip + (packed_len w c - skip) = omega arith in
     let cut : take n (drop skip (take (packed_len w c) rest)) ≡ take n (drop skip rest) =
-        ap (λ k. take n (drop skip (take k rest))) parts ∙ ap (take n) (drop-take skip (packed_len w c - skip) rest) ∙ take-take n (packed_len w c - skip) (drop skip rest) (omega arith) in
+    ap (λ k. take n (drop skip (take k rest))) parts ∙ ap (take n) (drop-take skip (packed_len w c - skip) rest) ∙ take-take n (packed_len w c - skip) (drop skip rest) (omega arith) in
     ap (take n) there ∙ sym cut ∙ ap (λ ys. take n (drop skip ys)) (block_bytes w xs f b c h is within count)
 
 -- the block that has a byte, and where the byte is in it
@@ -124,18 +124,18 @@ block_place w size from n len block some within =
     let small : r < size = omega arith in
     let start : packed_len w (512 * q) ≡ size * q = packed_len-blocks w q ∙ ap (λ k. k * q) (sym block) in
     let inside : 512 * q < len =
-        elim (cases_lt (512 * q) len) [
-        inl less ↦ less
-        | inr past ↦ absurd (omega (arith, packed_len-rises w len (512 * q) past, parts, start, some, within))
-        ] in
+    elim (cases_lt (512 * q) len) [
+      | inl less ↦ less
+      | inr past ↦ absurd (omega (arith, packed_len-rises w len (512 * q) past, parts, start, some, within))
+    ] in
     let short : r < packed_len w (min 512 (len - 512 * q)) =
-        elim (cases_lt 512 (len - 512 * q)) [
-        inl more ↦ omega (arith, small, block, ap (packed_len w) (let e : min 512 (len - 512 * q) ≡ 512 = omega arith in e))
-        | inr last ↦
-            let count : min 512 (len - 512 * q) ≡ len - 512 * q = omega arith in
-            let whole : 512 * q + (len - 512 * q) ≡ len = omega arith in
-            omega (arith, ap (packed_len w) count, ap (packed_len w) whole, packed_len-behind w q (len - 512 * q), parts, start, some, within)
-        ] in
+    elim (cases_lt 512 (len - 512 * q)) [
+      | inl more ↦ omega (arith, small, block, ap (packed_len w) (let e : min 512 (len - 512 * q) ≡ 512 = omega arith in e))
+      | inr last ↦
+          let count : min 512 (len - 512 * q) ≡ len - 512 * q = omega arith in
+          let whole : 512 * q + (len - 512 * q) ≡ len = omega arith in
+          omega (arith, ap (packed_len w) count, ap (packed_len w) whole, packed_len-behind w q (len - 512 * q), parts, start, some, within)
+    ] in
     (positive, inside, omega (arith, parts, start), short)
 
 -- the bytes are within the packing at the least width

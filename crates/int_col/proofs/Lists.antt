@@ -29,7 +29,7 @@ copied_more {X} whole xs ys zs rest from done r in_range within new before =
     let part : List X = take r (drop (from + done) whole) in
     let enough : length part ≡ r = length-take-le r (drop (from + done) whole) (omega (arith, length-drop (from + done) whole)) in
     let there : take r (ys ++ zs) ≡ part =
-        ap (λ l. take r (l ++ zs)) new ∙ ap (take r) (append_assoc part rest zs) ∙ take_at part (rest ++ zs) r enough in
+    ap (λ l. take r (l ++ zs)) new ∙ ap (take r) (append_assoc part rest zs) ∙ take_at part (rest ++ zs) r enough in
     let step : done + r - done ≡ r = omega arith in
     ap (λ n. take (n + r) (take done xs ++ (ys ++ zs))) (sym front)
     ∙ take-append-more (take done xs) (ys ++ zs) r

@@ -76,9 +76,9 @@ place_found ss es at r h l above first =
     let in_range : r < length ss = omega (arith, length-ends ss es h) in
     let below = start_found ss es at r h l first in
     record {
-        segment = in_range;
-        within = omega (arith, end_at ss es r h in_range, start_next ss r in_range);
-        sum = omega arith;
+      segment = in_range;
+      within = omega (arith, end_at ss es r h in_range, start_next ss r in_range);
+      sum = omega arith;
     }
 
 -- the value at a place
@@ -100,9 +100,9 @@ IsSpine-set ss es k s t h l here same =
     let cuts = same_cuts ss k s t l here same in
     let whole : length (joined (set ss k t)) ≡ length (joined ss) = length-joined (set ss k t) ∙ ap sum cuts ∙ sym (length-joined ss) in
     record {
-        few = omega (arith, h.few);
-        cut = subst AreCuts (sym cuts) h.cut;
-        placed = h.placed ∙ ap (ends_from 0) (sym cuts);
+      few = omega (arith, h.few);
+      cut = subst AreCuts (sym cuts) h.cut;
+      placed = h.placed ∙ ap (ends_from 0) (sym cuts);
     }
 
 -- a value set in its segment is set in the whole
@@ -123,17 +123,17 @@ pub values_at_place : (ss : List (List ℤ)) (at k o n : ℕ) (s : List ℤ) →
 values_at_place ss at k o n s p here enough =
     let segment : s ≡ get_or ss k [] = here ∙ get_or_default ss k s [] p.segment in
     let rest : drop (start_of ss k) (joined ss) ≡ s ++ joined (drop (suc k) ss) =
-        drop-joined k ss ∙ ap joined (drop-cons-at ss k p.segment) ∙ ap (λ x. x ++ joined (drop (suc k) ss)) (sym segment) in
+    drop-joined k ss ∙ ap joined (drop-cons-at ss k p.segment) ∙ ap (λ x. x ++ joined (drop (suc k) ss)) (sym segment) in
     let whole : drop at (joined ss) ≡ drop o s ++ joined (drop (suc k) ss) =
-        ap (λ i. drop i (joined ss)) (sym p.sum) ∙ sym (drop-drop o (start_of ss k) (joined ss)) ∙ ap (drop o) rest ∙ drop-append-le o s (joined (drop (suc k) ss)) (omega arith) in
+    ap (λ i. drop i (joined ss)) (sym p.sum) ∙ sym (drop-drop o (start_of ss k) (joined ss)) ∙ ap (drop o) rest ∙ drop-append-le o s (joined (drop (suc k) ss)) (omega arith) in
     ap (take n) whole ∙ take-append-le n (drop o s) (joined (drop (suc k) ss)) (omega (arith, length-drop o s))
 
 -- a place from a segment's start on is not in a segment before it
 pub segment_order : (ss : List (List ℤ)) (first at k o : ℕ) → IsPlace ss at k o → start_of ss first ≤ at → first ≤ suc k
 segment_order ss first at k o p from =
     elim (cases_lt (suc k) first) [
-    inl later ↦ absurd (omega (arith, start_mono ss (suc k) first (omega arith), start_next ss k p.segment, p.sum, p.within))
-    | inr sooner ↦ sooner
+      | inl later ↦ absurd (omega (arith, start_mono ss (suc k) first (omega arith), start_next ss k p.segment, p.sum, p.within))
+      | inr sooner ↦ sooner
     ]
 
 -- the same at k + 1, as the code counts
@@ -168,5 +168,5 @@ moved_ends P ss es b h each =
     let is : drop b es ≡ ends_from (start_of ss b) (drop b (cuts_of ss)) = ap (drop b) h.placed ∙ drop-ends_from 0 b (cuts_of ss) ∙ ap (λ n. ends_from n (drop b (cuts_of ss))) from in
     let Q : List ℕ → Type 0 = All P in
     subst Q (sym is)
-        (All-from_recursion P (ends_from (start_of ss b) (drop b (cuts_of ss)))
-            (ends_between P (start_of ss b) (drop b (cuts_of ss)) (λ e low high. each e low (omega (arith, from, parts, length-joined ss)))))
+    (All-from_recursion P (ends_from (start_of ss b) (drop b (cuts_of ss)))
+    (ends_between P (start_of ss b) (drop b (cuts_of ss)) (λ e low high. each e low (omega (arith, from, parts, length-joined ss)))))

@@ -40,8 +40,8 @@ values_part w bytes from n count within =
     let vs : List ℤ = values_from w bytes 0 count in
     let len = length-values_from w bytes 0 count in
     sym (values_from-made w bytes from n (take n (drop from vs))
-        (length-take-le n (drop from vs) (omega (arith, length-drop from vs)))
-        (λ k l. get_or-take n (drop from vs) k (pos 0) l ∙ get_or-drop from vs k (pos 0) ∙ get_or-values_from w bytes 0 count (from + k) (from + k) (pos 0) (omega arith) (omega arith)))
+    (length-take-le n (drop from vs) (omega (arith, length-drop from vs)))
+    (λ k l. get_or-take n (drop from vs) k (pos 0) l ∙ get_or-drop from vs k (pos 0) ∙ get_or-values_from w bytes 0 count (from + k) (from + k) (pos 0) (omega arith) (omega arith)))
 
 residue-zero : (w : ℕ) → residue w (pos 0) ≡ 0
 residue-zero w = zero-mod (2 ^ w)
@@ -49,18 +49,18 @@ residue-zero w = zero-mod (2 ^ w)
 -- one more value, 0, in more bytes, all 0
 pub packed-zero_more : (w : Width) (vs : List ℤ) (bytes : List ℕ) (m : ℕ) → PackedAt w vs bytes → length bytes + m ≡ packed_len w (length vs + 1) → PackedAt w (vs ++ pos 0 ∷ []) (bytes ++ replicate m 0)
 packed-zero_more w vs bytes m p len = record {
-    held = record { each = All-append (Holds w) vs (pos 0 ∷ []) p.held.each (All-replicate (Holds w) 1 (pos 0) (zero_held w)) };
-    octets = All-append (λ b. b < 256) bytes (replicate m 0) p.octets (All-replicate (λ b. b < 256) m 0 (omega arith));
-    len = length-append bytes (replicate m 0) ∙ ap (λ k. length bytes + k) (length-replicate m 0) ∙ len ∙ ap (packed_len w) (sym (length_push vs (pos 0)));
-    number =
-        number_of-append 256 bytes (replicate m 0)
-        ∙ ap (λ x. little_endian bytes + 256 ^ length bytes * x) (number_of-replicate_zero 256 m)
-        ∙ ap (λ x. little_endian bytes + x) (mul-zero (256 ^ length bytes))
-        ∙ ap (λ x. x + 0) (p.number ∙ packed_number_is w vs)
-        ∙ ap (λ x. number_of (2 ^ bit_count w) (residues (bit_count w) vs) + x) (sym (last_zero w vs))
-        ∙ sym (number_of-append (2 ^ bit_count w) (residues (bit_count w) vs) (residue (bit_count w) (pos 0) ∷ []))
-        ∙ ap (number_of (2 ^ bit_count w)) (sym (map-append (residue (bit_count w)) vs (pos 0 ∷ [])))
-        ∙ sym (packed_number_is w (vs ++ pos 0 ∷ []));
+  held = record { each = All-append (Holds w) vs (pos 0 ∷ []) p.held.each (All-replicate (Holds w) 1 (pos 0) (zero_held w)) };
+  octets = All-append (λ b. b < 256) bytes (replicate m 0) p.octets (All-replicate (λ b. b < 256) m 0 (omega arith));
+  len = length-append bytes (replicate m 0) ∙ ap (λ k. length bytes + k) (length-replicate m 0) ∙ len ∙ ap (packed_len w) (sym (length_push vs (pos 0)));
+  number =
+      number_of-append 256 bytes (replicate m 0)
+      ∙ ap (λ x. little_endian bytes + 256 ^ length bytes * x) (number_of-replicate_zero 256 m)
+      ∙ ap (λ x. little_endian bytes + x) (mul-zero (256 ^ length bytes))
+      ∙ ap (λ x. x + 0) (p.number ∙ packed_number_is w vs)
+      ∙ ap (λ x. number_of (2 ^ bit_count w) (residues (bit_count w) vs) + x) (sym (last_zero w vs))
+      ∙ sym (number_of-append (2 ^ bit_count w) (residues (bit_count w) vs) (residue (bit_count w) (pos 0) ∷ []))
+      ∙ ap (number_of (2 ^ bit_count w)) (sym (map-append (residue (bit_count w)) vs (pos 0 ∷ [])))
+      ∙ sym (packed_number_is w (vs ++ pos 0 ∷ []));
 } where
   last_zero : (w : Width) (vs : List ℤ) → (2 ^ bit_count w) ^ length (residues (bit_count w) vs) * number_of (2 ^ bit_count w) (residue (bit_count w) (pos 0) ∷ []) ≡ 0
   last_zero w vs =
@@ -75,8 +75,8 @@ pushed_value vs v n len = set_at vs (pos 0) [] v n (sym len)
 -- a width that holds one more value stays the least
 pub least-push : (w : Width) (vs : List ℤ) (v : ℤ) → IsLeastWidth w vs → Holds w v → IsLeastWidth w (vs ++ v ∷ [])
 least-push w vs v h holds = record {
-    held = record { each = All-append (Holds w) vs (v ∷ []) h.held.each (All-replicate (Holds w) 1 v holds) };
-    least = λ u all. h.least u (record { each = front u all });
+  held = record { each = All-append (Holds w) vs (v ∷ []) h.held.each (All-replicate (Holds w) 1 v holds) };
+  least = λ u all. h.least u (record { each = front u all });
 } where
   front : (u : Width) → HoldsAll u (vs ++ v ∷ []) → All (Holds u) vs
   front u all = All-same (Holds u) vs (take (length vs) (vs ++ v ∷ [])) (sym (take_at vs (v ∷ []) (length vs) refl)) (All-take (Holds u) (length vs) (vs ++ v ∷ []) all.each)
@@ -98,8 +98,8 @@ pushed_segment count len was w bytes longer new vs v h view room holds is_len be
     let fits : length bytes ≤ len = omega (arith, before.len, reach, packed_len-more w (length vs)) in
     let R : List ℕ → Type 0 = λ bs. PackedAt w (vs ++ pos 0 ∷ []) bs in
     let zeros : PackedAt w (vs ++ pos 0 ∷ []) longer =
-        subst R (sym (grown ∙ ap (λ n. take len bytes ++ replicate (len - n) 0) before_len ∙ ap (λ bs. bs ++ replicate (len - length bytes) 0) (take_all len bytes fits)))
-            (packed-zero_more w vs bytes (len - length bytes) before (omega (arith, fits, reach))) in
+    subst R (sym (grown ∙ ap (λ n. take len bytes ++ replicate (len - n) 0) before_len ∙ ap (λ bs. bs ++ replicate (len - length bytes) 0) (take_all len bytes fits)))
+    (packed-zero_more w vs bytes (len - length bytes) before (omega (arith, fits, reach))) in
     let S : List ℤ → Type 0 = λ xs. PackedAt w xs new in
     let after : PackedAt w (vs ++ v ∷ []) new = subst S (pushed_value vs v count n) (put (vs ++ pos 0 ∷ []) zeros (omega (arith, n, length_push vs (pos 0)))) in
     segment_made (count + 1) w (vs ++ v ∷ []) new after (least-push w vs v least holds) (length_push vs v ∙ ap (λ k. k + 1) (sym n)) (omega arith)
@@ -107,8 +107,8 @@ pushed_segment count len was w bytes longer new vs v h view room holds is_len be
 pub takes_when : (r : Bool) (w : Width) (count : ℕ) (vs : List ℤ) (v : ℤ) → IsTrue r ↔ Holds w v → IsLeastWidth w vs → count ≡ length vs → count < 2048 → OnTrue r (Takes vs v)
 takes_when false w count vs v is least len room = tt
 takes_when true w count vs v is least len room = record {
-    room = omega arith;
-    holds = λ u other. let P : Width → Type 0 = λ x. Holds x v in subst P (same_least w u vs least other) (is.0 refl);
+  room = omega arith;
+  holds = λ u other. let P : Width → Type 0 = λ x. Holds x v in subst P (same_least w u vs least other) (is.0 refl);
 }
 
 -- which widths hold a list with one value set
@@ -121,7 +121,7 @@ exceeds_by_new u vs at v l exceeds all =
 pub exceeds_by_old : (u : Width) (vs : List ℤ) (at : ℕ) (v old : ℤ) → at < length vs → slice_get vs at ≡ Some old → Holds u old → (HoldsAll u vs → ⊥) → HoldsAll u (set vs at v) → ⊥
 exceeds_by_old u vs at v old l got holds exceeds all =
     let back : set (set vs at v) at old ≡ vs =
-        set-set vs at v old ∙ ap (set vs at) (sym (get_or_from_slice_get vs at old old got)) ∙ set-get_or vs at old in
+    set-set vs at v old ∙ ap (set vs at) (sym (get_or_from_slice_get vs at old old got)) ∙ set-get_or vs at old in
     exceeds (record { each = All-same (Holds u) vs (set (set vs at v) at old) (sym back) (All-set (Holds u) (set vs at v) at old holds all.each) })
 
 pub exceeds_by_other : (u : Width) (vs : List ℤ) (at : ℕ) (v : ℤ) → (k : ℕ) × (k < length vs) × (k ≢ at) × (Holds u (get_or vs k (pos 0)) → ⊥) → HoldsAll u (set vs at v) → ⊥
@@ -153,4 +153,4 @@ pub set_segment : (count : ℕ) (w : Width) (bytes new : List ℕ) (vs : List �
 set_segment count w bytes new vs at v h view within put least =
     let P : List ℤ → Type 0 = λ xs. PackedAt w xs bytes in
     segment_made count w (set vs at v) new (put vs (subst P view h.packed.packed) within) least
-        (length-set vs at v ∙ sym (count_is count w bytes vs view)) h.few
+    (length-set vs at v ∙ sym (count_is count w bytes vs view)) h.few

@@ -34,7 +34,6 @@ pub record IsPlace (segments : List (List ℤ)) (at k offset : ℕ) : Type 0 whe
   pub within : offset < length (slice_index_or segments k [])
   pub sum : start_of segments k + offset ≡ at
 
-
 -- the last segment takes one more value
 pub record LastTakes (segments : List (List ℤ)) (v : ℤ) : Type 0 where
   pub some : 0 < length segments

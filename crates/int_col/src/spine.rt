@@ -149,6 +149,7 @@ impl Spine {
         requires { from + length into.old ≤ length (joined self.now) }
         ensures { into.new ≡ take (length into.old) (drop from (joined self.now)) }
     {
+        // The fields bound the places.
         let _ = &self.segments;
         let mut done = 0;
         while done < into.len() {
@@ -315,6 +316,7 @@ impl Spine {
         ensures ok { OnOk result (joined self.new ≡ take at (joined self.old) ++ drop (at + count) (joined self.old)) }
         ensures err { OnErr result (self.new ≡ self.old) }
     {
+        // The fields bound the places.
         let _ = &self.segments;
         self.replace(&Edit {
             at,
@@ -377,7 +379,12 @@ impl Spine {
     }
 
     /// Where the segments end, with others in place of those from `first` up to `after`.
-    fn ends_with(&self, first: usize, after: usize, fresh: &[SharedSegment]) -> Result<Vec<usize>, Memory>
+    fn ends_with(
+        &self,
+        first: usize,
+        after: usize,
+        fresh: &[SharedSegment],
+    ) -> Result<Vec<usize>, Memory>
         requires order { first ≤ after }
         requires in_range { after ≤ length self.now }
         requires few { length (joined (take first self.now ++ (fresh.now ++ drop after self.now))) ≤ 16777216 }

@@ -20,10 +20,10 @@ loop-shared-preserved c =
     let end : c.loop-shared.end + c.len-end.result ≡ c.args.from + start_of c.args.segments.now k + length c.segment.result.now = omega (arith, c.len-end.ensures.count, c.loop-shared.invariant.end) in
     let one : List ℕ = (c.loop-shared.end + c.len-end.result) ∷ [] in
     record {
-        end = omega (arith, end, start_more c.args.segments.now k c.segment.result.now c.loop-shared-test.true here);
-        items =
-            pushed one c.loop-shared.invariant.items c.in_ok-push.was c.push.ensures.items
-            ∙ append_assoc c.args.out.now.items (ends_from c.args.from (cuts_of (take k c.args.segments.now))) one
-            ∙ ap (λ xs. c.args.out.now.items ++ xs)
-                (ap (λ n. ends_from c.args.from (cuts_of (take k c.args.segments.now)) ++ n ∷ []) end ∙ sym (ends_more c.args.segments.now c.args.from k c.segment.result.now c.loop-shared-test.true here));
+      end = omega (arith, end, start_more c.args.segments.now k c.segment.result.now c.loop-shared-test.true here);
+      items =
+          pushed one c.loop-shared.invariant.items c.in_ok-push.was c.push.ensures.items
+          ∙ append_assoc c.args.out.now.items (ends_from c.args.from (cuts_of (take k c.args.segments.now))) one
+          ∙ ap (λ xs. c.args.out.now.items ++ xs)
+          (ap (λ n. ends_from c.args.from (cuts_of (take k c.args.segments.now)) ++ n ∷ []) end ∙ sym (ends_more c.args.segments.now c.args.from k c.segment.result.now c.loop-shared-test.true here));
     }

@@ -7,4 +7,4 @@ pub returns-clause-column : goal.returns-clause-column
 returns-clause-column c =
     rw (← c.self.view_is)
     (IsColumn-of c.self.inside.spine c.self.inside.home
-        (omega (arith, c.len.ensures.len, c.len.ensures.few, ap (λ s. length (joined s)) c.spine.ensures)) (rw c.spine.ensures at c.len.ensures.cut))
+    (omega (arith, c.len.ensures.len, c.len.ensures.few, ap (λ s. length (joined s)) c.spine.ensures)) (rw c.spine.ensures at c.len.ensures.cut))

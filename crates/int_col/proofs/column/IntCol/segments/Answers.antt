@@ -7,4 +7,4 @@ pub returns-clause-column : goal.returns-clause-column
 returns-clause-column c =
     rw (← c.self.view_is)
     (IsColumn-of c.self.inside.spine c.self.inside.home
-        (rw c.spine.ensures at c.segments.ensures.few) (rw c.spine.ensures at c.segments.ensures.cut))
+    (rw c.spine.ensures at c.segments.ensures.few) (rw c.spine.ensures at c.segments.ensures.cut))

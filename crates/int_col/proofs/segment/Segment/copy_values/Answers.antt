@@ -11,4 +11,4 @@ returns c =
     rw (← c.self.view_is)
     (rw c.deref.ensures.value at c.unpack_into.ensures
     ∙ values_part c.self.inside.width c.self.inside.bytes.items c.args.from (length c.args.into.now) c.self.inside.count
-        (omega (arith, c.requires, count_is c.self.inside.count c.self.inside.width c.self.inside.bytes.items c.args.self.now c.self.view_is)))
+    (omega (arith, c.requires, count_is c.self.inside.count c.self.inside.width c.self.inside.bytes.items c.args.self.now c.self.view_is)))

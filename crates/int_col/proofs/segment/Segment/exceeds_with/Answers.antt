@@ -7,7 +7,7 @@ pub returns-then-not-holds : goal.returns-then-not-holds
 returns-then-not-holds c =
     let fits : FitsSigned w64 c.args.value = search rules in
     exceeds_by_new c.args.narrower c.args.self.now c.args.at c.args.value c.requires.at
-        (false_refutes c.holds.result (rw (to_z-of_z w64 c.args.value fits) at c.holds.ensures) c.if-not-holds.true)
+    (false_refutes c.holds.result (rw (to_z-of_z w64 c.args.value fits) at c.holds.ensures) c.if-not-holds.true)
 
 pub returns-then-holds : goal.returns-then-holds
 returns-then-holds c =

@@ -9,5 +9,5 @@ returns-in-Some c =
     let held = rw (to_z-of_z w64 c.args.value fits) at c.holds.ensures in
     let exceeds = rw (to_z-of_z w64 c.args.value fits) at c.exceeds_with.ensures in
     on_true_then c.exceeds_with.result
-        (keeps_least c.in-Some.narrower c.self.inside.width c.args.self.now c.args.at c.args.value (rw c.self.view_is at c.self.invariant.packed.least) c.in-Some.ensures.found (held.0 c.if-not-holds.false))
-        exceeds
+    (keeps_least c.in-Some.narrower c.self.inside.width c.args.self.now c.args.at c.args.value (rw c.self.view_is at c.self.invariant.packed.least) c.in-Some.ensures.found (held.0 c.if-not-holds.false))
+    exceeds

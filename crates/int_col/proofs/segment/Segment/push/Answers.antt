@@ -17,7 +17,7 @@ invariant_of-self-2 c =
     let held = c.requires.holds c.self.inside.width (rw c.self.view_is at c.self.invariant.packed.least) in
     rw take_at
     (pushed_segment c.self.inside.count c.packed_len-len.result (vec_len c.self.inside.bytes) c.self.inside.width c.self.inside.bytes.items c.resize.new.self.items c.put.new.bytes c.args.self.now c.args.value
-        c.self.invariant c.self.view_is room held c.packed_len-len.ensures was c.in_ok-resize.ensures.items put).0
+    c.self.invariant c.self.view_is room held c.packed_len-len.ensures was c.in_ok-resize.ensures.items put).0
 
 pub returns-clause-ok : goal.returns-clause-ok
 returns-clause-ok c =
@@ -30,4 +30,4 @@ returns-clause-ok c =
     let held = c.requires.holds c.self.inside.width (rw c.self.view_is at c.self.invariant.packed.least) in
     ap (λ bytes. values_from c.self.inside.width bytes 0 (c.self.inside.count + 1)) (take_at c.put.new.bytes _ c.resize.new.self.len len)
     ∙ (pushed_segment c.self.inside.count c.packed_len-len.result (vec_len c.self.inside.bytes) c.self.inside.width c.self.inside.bytes.items c.resize.new.self.items c.put.new.bytes c.args.self.now c.args.value
-        c.self.invariant c.self.view_is room held c.packed_len-len.ensures was c.in_ok-resize.ensures.items put).1
+    c.self.invariant c.self.view_is room held c.packed_len-len.ensures was c.in_ok-resize.ensures.items put).1

@@ -14,7 +14,7 @@ copy_values-requires-2 c =
     let front : length (take (e.at - t.start) c.args.into.now) ≡ e.at - t.start = length-take-le (e.at - t.start) c.args.into.now (omega arith) in
     let copied : length c.copy_values.new.into ≡ e.at - t.start = c.copy_values.auto.into ∙ front in
     let all : length (c.copy_values.new.into ++ drop (e.at - t.start) c.args.into.now) ≡ size_after e t =
-        length-append c.copy_values.new.into (drop (e.at - t.start) c.args.into.now) ∙ (omega (arith, length-drop (e.at - t.start) c.args.into.now)) in
+    length-append c.copy_values.new.into (drop (e.at - t.start) c.args.into.now) ∙ (omega (arith, length-drop (e.at - t.start) c.args.into.now)) in
     let stop = start_within c.args.self.now t.after c.requires.covers.in_range in
     omega (arith, c.requires.covers.stop, c.requires.covers.behind, length-take (length (c.copy_values.new.into ++ drop (e.at - t.start) c.args.into.now) - (e.at - t.start + e.count)) (drop (e.at - t.start + e.count) (c.copy_values.new.into ++ drop (e.at - t.start) c.args.into.now)))
 
@@ -28,9 +28,9 @@ returns c =
     let copied : length c.copy_values.new.into ≡ e.at - t.start = c.copy_values.auto.into ∙ front in
     let middle : List ℤ = c.copy_values.new.into ++ drop (e.at - t.start) c.args.into.now in
     let all : length middle ≡ size_after e t =
-        length-append c.copy_values.new.into (drop (e.at - t.start) c.args.into.now) ∙ (omega (arith, length-drop (e.at - t.start) c.args.into.now)) in
+    length-append c.copy_values.new.into (drop (e.at - t.start) c.args.into.now) ∙ (omega (arith, length-drop (e.at - t.start) c.args.into.now)) in
     let rest : length (drop k middle) ≡ t.stop - e.end = length-drop k middle ∙ (omega arith) in
     let part : length (take (length middle - k) (drop k middle)) ≡ t.stop - e.end = length-take-le (length middle - k) (drop k middle) (omega (arith, length-drop k middle)) ∙ (omega arith) in
     arranged (joined c.args.self.now) e t c.args.into.now c.copy_values.new.into c.copy_values-2.new.into (drop (length middle - k) (drop k middle)) (length (take (length middle - k) (drop k middle)))
-        c.requires.copies copied (c.copy_values.ensures ∙ ap (λ n. take n (drop t.start (joined c.args.self.now))) front) c.copy_values-2.ensures part
-        (drop_all (length middle - k) (drop k middle) (omega (arith, length-drop k middle)))
+    c.requires.copies copied (c.copy_values.ensures ∙ ap (λ n. take n (drop t.start (joined c.args.self.now))) front) c.copy_values-2.ensures part
+    (drop_all (length middle - k) (drop k middle) (omega (arith, length-drop k middle)))

@@ -10,9 +10,9 @@ returns-clause-values c =
     let here = rw (← c.segment-segment.ensures) at c.index.ensures in
     let within : n ≤ length c.args.into.now = omega (arith, c.min-count.ensures) in
     let enough : c.find-place.result.offset + n ≤ length c.segment-segment.result.now =
-        omega (arith, c.min-count.ensures, c.len.ensures.count, within_segment c.self.inside.segments.items c.args.from c.find-place.result.segment c.find-place.result.offset c.segment-segment.result.now place here) in
+    omega (arith, c.min-count.ensures, c.len.ensures.count, within_segment c.self.inside.segments.items c.args.from c.find-place.result.segment c.find-place.result.offset c.segment-segment.result.now place here) in
     let count : length (take n c.args.into.now) ≡ n = length-take-le n c.args.into.now within in
     rw (← c.self.view_is)
     (ap (λ xs. xs ++ drop n c.args.into.now)
-        (rw count at c.copy_values.ensures
-        ∙ sym (values_at_place c.self.inside.segments.items c.args.from c.find-place.result.segment c.find-place.result.offset n c.segment-segment.result.now place here enough)))
+    (rw count at c.copy_values.ensures
+    ∙ sym (values_at_place c.self.inside.segments.items c.args.from c.find-place.result.segment c.find-place.result.offset n c.segment-segment.result.now place here enough)))

@@ -10,9 +10,10 @@ overflow_add-from c =
     omega (arith, c.self.invariant.few)
 
 pub loop-done-preserved : goal.loop-done-preserved
-loop-done-preserved c =
-    (search (rules, places),
-     copied_more (joined c.args.self.now) c.loop-done.into c.copy_some-done.new.into _ _ c.args.from c.loop-done.done c.copy_some-done.result
-        c.loop-done.invariant.0
-        (omega (arith, c.requires, c.copy_some-done.ensures.in_range, c.loop-done.invariant.0, c.loop-done.auto.into, length-take (length c.loop-done.into - c.loop-done.done) (drop c.loop-done.done c.loop-done.into), length-drop c.loop-done.done c.loop-done.into))
-        c.copy_some-done.ensures.values c.loop-done.invariant.1)
+loop-done-preserved c = (
+  search (rules, places),
+  copied_more (joined c.args.self.now) c.loop-done.into c.copy_some-done.new.into _ _ c.args.from c.loop-done.done c.copy_some-done.result
+      c.loop-done.invariant.0
+      (omega (arith, c.requires, c.copy_some-done.ensures.in_range, c.loop-done.invariant.0, c.loop-done.auto.into, length-take (length c.loop-done.into - c.loop-done.done) (drop c.loop-done.done c.loop-done.into), length-drop c.loop-done.done c.loop-done.into))
+      c.copy_some-done.ensures.values c.loop-done.invariant.1,
+)

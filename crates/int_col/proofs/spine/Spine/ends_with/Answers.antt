@@ -27,10 +27,10 @@ push_moved-requires-clause-fits c =
     let P : ℕ → Type 0 = λ e. e - c.start-2.result + c.in_ok-stop.stop < 2 ^ 64 in
     rw c.deref-2.ensures.value
     (moved_ends P c.self.inside.segments.items c.self.inside.ends.items c.args.after c.self.invariant
-        (λ e low high. omega (arith, c.self.invariant.few, c.in_ok-stop.ensures.last, fresh_few c.self.inside.segments.items c.args.fresh.now c.args.first c.args.after)))
+    (λ e low high. omega (arith, c.self.invariant.few, c.in_ok-stop.ensures.last, fresh_few c.self.inside.segments.items c.args.fresh.now c.args.first c.args.after)))
 
 pub returns : goal.returns
 returns c =
     rw (c.in_ok-push_moved.ensures, c.in_ok-stop.ensures.items, c.in_ok-ends.ensures, c.deref.ensures.value, c.deref-2.ensures.value, ← c.self.view_is)
     (ends_replaced c.self.inside.segments.items c.args.fresh.now c.self.inside.ends.items c.args.first c.args.after c.start.result c.start-2.result c.in_ok-stop.stop
-        c.self.invariant (rw (← c.self.view_is) at c.start.ensures.start) (rw (← c.self.view_is) at c.start-2.ensures.start) c.in_ok-stop.ensures.last)
+    c.self.invariant (rw (← c.self.view_is) at c.start.ensures.start) (rw (← c.self.view_is) at c.start-2.ensures.start) c.in_ok-stop.ensures.last)

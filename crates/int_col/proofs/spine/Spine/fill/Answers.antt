@@ -9,9 +9,10 @@ use Rattle.int_col.proofs.spine.Spine.fill.Goals as goal
 
 pub loop-done-preserved : goal.loop-done-preserved
 loop-done-preserved c =
-    let within = within_least (joined c.args.self.now) (c.args.from + length c.args.into.now) c.width-width.result c.requires c.width-width.ensures in
-    (search (rules, places),
-     copied_more (packing c.width-width.result (joined c.args.self.now)) c.loop-done.into c.fill_some-done.new.into _ _ c.args.from c.loop-done.done c.fill_some-done.result
-        c.loop-done.invariant.0
-        (omega (arith, c.fill_some-done.ensures.in_range, c.loop-done.invariant.0, c.loop-done.auto.into, within, length-packing c.width-width.result (joined c.args.self.now), length-take (length c.loop-done.into - c.loop-done.done) (drop c.loop-done.done c.loop-done.into), length-drop c.loop-done.done c.loop-done.into))
-        c.fill_some-done.ensures.bytes c.loop-done.invariant.1)
+    let within = within_least (joined c.args.self.now) (c.args.from + length c.args.into.now) c.width-width.result c.requires c.width-width.ensures in (
+      search (rules, places),
+      copied_more (packing c.width-width.result (joined c.args.self.now)) c.loop-done.into c.fill_some-done.new.into _ _ c.args.from c.loop-done.done c.fill_some-done.result
+          c.loop-done.invariant.0
+          (omega (arith, c.fill_some-done.ensures.in_range, c.loop-done.invariant.0, c.loop-done.auto.into, within, length-packing c.width-width.result (joined c.args.self.now), length-take (length c.loop-done.into - c.loop-done.done) (drop c.loop-done.done c.loop-done.into), length-drop c.loop-done.done c.loop-done.into))
+          c.fill_some-done.ensures.bytes c.loop-done.invariant.1,
+    )

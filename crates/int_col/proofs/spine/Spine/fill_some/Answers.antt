@@ -30,6 +30,6 @@ returns-clause-bytes c =
     let slice = take_at c.pack_block.new.into _ c.packed_len-len.result packed ∙ c.pack_block.ensures ∙ ap (λ k. packing w (take k (drop f xs))) values in
     c.copy_from.ensures.bytes
     ∙ ap (λ ys. ys ++ drop n c.args.into.now)
-        (ap (λ ys. take n (drop skip ys)) slice
-        ∙ sym (part_bytes w xs c.args.from f b c.min-count.result skip n c.requires.least.held refl (omega (arith, place.1)) count (sym place.2)
-            (omega (arith, reach, len, packed))))
+    (ap (λ ys. take n (drop skip ys)) slice
+    ∙ sym (part_bytes w xs c.args.from f b c.min-count.result skip n c.requires.least.held refl (omega (arith, place.1)) count (sym place.2)
+    (omega (arith, reach, len, packed))))

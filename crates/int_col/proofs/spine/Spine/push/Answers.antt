@@ -36,7 +36,7 @@ invariant_of-self-2 c =
     let room = last_room c.self.inside.segments.items c.index_mut-segment.result.now c.args.value last takes len c.index_mut-segment.ensures.value in
     rw (c.in_ok-push.ensures.ok, to_z-of_z w64 c.args.value fits)
     (IsSpine-pushed c.self.inside.segments.items c.self.inside.ends.items c.index_mut-segment.result.now c.args.value last (c.index_mut.result.now + 1)
-        c.self.invariant len c.index_mut-segment.ensures.value room few (ap (λ e. e + 1) read))
+    c.self.invariant len c.index_mut-segment.ensures.value room few (ap (λ e. e + 1) read))
 
 pub returns-clause-ok : goal.returns-clause-ok
 returns-clause-ok c =

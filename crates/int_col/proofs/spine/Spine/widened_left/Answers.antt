@@ -20,7 +20,7 @@ overflow_add-touched c =
 pub returns-then-touched-start-gt-SEGMENT_MOST-clause-left : goal.returns-then-touched-start-gt-SEGMENT_MOST-clause-left
 returns-then-touched-start-gt-SEGMENT_MOST-clause-left c =
     left_stays c.args.self.now c.args.edit.now c.args.touched c.requires.covers (omega arith)
-        (omega (arith, c.start-start.ensures.start, c.size_after.ensures, c.if-touched-start-gt-SEGMENT_MOST.true))
+    (omega (arith, c.start-start.ensures.start, c.size_after.ensures, c.if-touched-start-gt-SEGMENT_MOST.true))
 
 pub returns-clause-covers : goal.returns-clause-covers
 returns-clause-covers c =

@@ -25,7 +25,7 @@ returns-then-not-fits_behind-clause-right c =
     let apart = rw c.if-not-fits_behind.true at c.fits_behind.ensures.no in
     let next : c.args.touched.after + 1 ≡ suc c.args.touched.after = omega arith in
     let more : c.start-stop.result - c.args.touched.stop + start_of c.args.self.now c.args.touched.after ≡ start_of c.args.self.now (suc c.args.touched.after) =
-        omega (arith, c.start-stop.ensures.start, c.requires.covers.stop, start_mono c.args.self.now c.args.touched.after (c.args.touched.after + 1) (omega arith), ap (start_of c.args.self.now) next) in
+    omega (arith, c.start-stop.ensures.start, c.requires.covers.stop, start_mono c.args.self.now c.args.touched.after (c.args.touched.after + 1) (omega arith), ap (start_of c.args.self.now) next) in
     right_stays c.args.self.now (size_after c.args.edit.now c.args.touched) c.args.touched.after (c.start-stop.result - c.args.touched.stop) l more (rw c.size_after.ensures at apart)
 
 pub returns-clause-covers : goal.returns-clause-covers
@@ -38,8 +38,8 @@ pub returns-clause-left : goal.returns-clause-left
 returns-clause-left c =
     let wider : Touched = record { first = c.args.touched.first; after = c.args.touched.after + 1; start = c.args.touched.start; stop = c.start-stop.result } in
     left_more (cuts_of c.args.self.now) c.args.touched.first (size_after c.args.edit.now c.args.touched) (size_after c.args.edit.now wider)
-        (omega (arith, c.start-stop.ensures.start, c.requires.covers.stop, start_mono c.args.self.now c.args.touched.after (c.args.touched.after + 1) (omega arith)))
-        c.requires.left
+    (omega (arith, c.start-stop.ensures.start, c.requires.covers.stop, start_mono c.args.self.now c.args.touched.after (c.args.touched.after + 1) (omega arith)))
+    c.requires.left
 
 pub returns-clause-right : goal.returns-clause-right
 returns-clause-right c =
@@ -48,9 +48,9 @@ returns-clause-right c =
     let next : c.args.touched.after + 1 ≡ suc c.args.touched.after = omega arith in
     let wider : Touched = record { first = c.args.touched.first; after = c.args.touched.after + 1; start = c.args.touched.start; stop = c.start-stop.result } in
     let more : c.start-stop.result - c.args.touched.stop + start_of c.args.self.now c.args.touched.after ≡ start_of c.args.self.now (suc c.args.touched.after) =
-        omega (arith, c.start-stop.ensures.start, c.requires.covers.stop, start_mono c.args.self.now c.args.touched.after (c.args.touched.after + 1) (omega arith), ap (start_of c.args.self.now) next) in
+    omega (arith, c.start-stop.ensures.start, c.requires.covers.stop, start_mono c.args.self.now c.args.touched.after (c.args.touched.after + 1) (omega arith), ap (start_of c.args.self.now) next) in
     let size : size_after c.args.edit.now c.args.touched + (c.start-stop.result - c.args.touched.stop) ≡ size_after c.args.edit.now wider =
-        omega (arith, c.start-stop.ensures.start, c.requires.covers.stop, c.requires.covers.behind, start_mono c.args.self.now c.args.touched.after (c.args.touched.after + 1) (omega arith)) in
+    omega (arith, c.start-stop.ensures.start, c.requires.covers.stop, c.requires.covers.behind, start_mono c.args.self.now c.args.touched.after (c.args.touched.after + 1) (omega arith)) in
     let P : ℕ → Type 0 = λ n. RightApart n (drop (c.args.touched.after + 1) (cuts_of c.args.self.now)) in
     let Q : ℕ → Type 0 = λ k. RightApart (size_after c.args.edit.now c.args.touched + (c.start-stop.result - c.args.touched.stop)) (drop k (cuts_of c.args.self.now)) in
     subst P size (subst Q (sym next) (right_widened c.args.self.now (size_after c.args.edit.now c.args.touched) (c.start-stop.result - c.args.touched.stop) c.args.touched.after c.start-stop.ensures.cut l more (rw c.size_after.ensures at fits)))
