@@ -1,0 +1,246 @@
+-- Laws of cuts and of where they end.
+use Rattle.std.proofs.Common.{◌≡◌, ℕ, zero, suc, ◌+◌, ◌-◌, ◌*◌, ◌/◌, ◌%◌, ◌<◌, ◌≤◌, ◌⊎◌, inl, inr, min, List, [], ◌∷◌, ◌++◌, length, map, get_or, set, take, drop, replicate, refl, sym, ap, subst, ◌∙◌, arith, sum}
+use Rattle.std.proofs.lemmas.List.{length-append, length-replicate, append_assoc, append-nil, replicate_more, take-append-drop}
+use Rattle.std.proofs.lemmas.List.Sums.{sum_by-cons, sum_by-append}
+use Rattle.std.proofs.lemmas.Bool.{cases_lt}
+use Rattle.int_col.specs.Edit.{LeftApart, RightApart}
+use Rattle.int_col.specs.Cuts.{Precedes, AreCuts, rest_cut, full_cuts, ends_from}
+
+pub sum-cons : (c : ℕ) (cs : List ℕ) → sum (c ∷ cs) ≡ c + sum cs
+sum-cons c cs = sum_by-cons (λ n. n) c cs
+
+pub sum-append : (xs ys : List ℕ) → sum (xs ++ ys) ≡ sum xs + sum ys
+sum-append xs ys = sum_by-append (λ n. n) xs ys
+
+-- a last cut c may stand right before these cuts
+pub Precedes-more : (c d : ℕ) (cs : List ℕ) → c ≤ d → Precedes c cs → Precedes d cs
+Precedes-more c d [] le h = tt
+Precedes-more c d (e ∷ cs) le h = omega (arith, h)
+
+-- the last of the cuts, or of c and the cuts
+abbrev pub last_cut : ℕ → List ℕ → ℕ
+last_cut c [] = c
+last_cut c (d ∷ ds) = last_cut d ds
+
+-- a cut may stand before the first of xs ++ ys where it may before the first of xs, and, if xs is empty, of ys
+pub Precedes-append : (c : ℕ) (xs ys : List ℕ) → Precedes c xs → (xs ≡ [] → Precedes c ys) → Precedes c (xs ++ ys)
+Precedes-append c [] ys h k = k refl
+Precedes-append c (x ∷ xs) ys h k = h
+
+-- two lists of cuts make one where the last of the first may stand before the second
+abbrev pub Meet : List ℕ → List ℕ → Type 0
+Meet [] ys = Unit {0}
+Meet (x ∷ []) ys = Precedes x ys
+Meet (x ∷ y ∷ xs) ys = Meet (y ∷ xs) ys
+
+pub AreCuts-append : (xs ys : List ℕ) → AreCuts xs → AreCuts ys → Meet xs ys → AreCuts (xs ++ ys)
+AreCuts-append [] ys h k m = k
+AreCuts-append (x ∷ []) ys h k m = (h.0, h.1, m, k)
+AreCuts-append (x ∷ y ∷ xs) ys h k m = (h.0, h.1, h.2, AreCuts-append (y ∷ xs) ys h.3 k m)
+
+pub AreCuts-take : (k : ℕ) (cs : List ℕ) → AreCuts cs → AreCuts (take k cs)
+AreCuts-take zero cs h = tt
+AreCuts-take (suc k) [] h = tt
+AreCuts-take (suc zero) (c ∷ cs) h = (h.0, h.1, tt, tt)
+AreCuts-take (suc (suc k)) (c ∷ []) h = (h.0, h.1, tt, tt)
+AreCuts-take (suc (suc k)) (c ∷ d ∷ cs) h = (h.0, h.1, h.2, AreCuts-take (suc k) (d ∷ cs) h.3)
+
+pub AreCuts-drop : (k : ℕ) (cs : List ℕ) → AreCuts cs → AreCuts (drop k cs)
+AreCuts-drop zero cs h = h
+AreCuts-drop (suc k) [] h = tt
+AreCuts-drop (suc k) (c ∷ cs) h = AreCuts-drop k cs h.3
+
+-- each cut is 1 to 2,048
+pub cut_some : (cs : List ℕ) (k : ℕ) → AreCuts cs → k < length cs → 0 < get_or cs k 0
+cut_some [] k h l = absurd (omega arith)
+cut_some (c ∷ cs) zero h l = h.0
+cut_some (c ∷ cs) (suc k) h l = cut_some cs k h.3 (omega arith)
+
+pub cut_few : (cs : List ℕ) (k : ℕ) → AreCuts cs → k < length cs → get_or cs k 0 ≤ 2048
+cut_few [] k h l = absurd (omega arith)
+cut_few (c ∷ cs) zero h l = h.1
+cut_few (c ∷ cs) (suc k) h l = cut_few cs k h.3 (omega arith)
+
+-- two neighbours are above 2,048 together
+pub cut_neighbours : (cs : List ℕ) (k : ℕ) → AreCuts cs → suc k < length cs → 2048 < get_or cs k 0 + get_or cs (suc k) 0
+cut_neighbours [] k h l = absurd (omega arith)
+cut_neighbours (c ∷ []) k h l = absurd (omega arith)
+cut_neighbours (c ∷ d ∷ cs) zero h l = h.2
+cut_neighbours (c ∷ d ∷ cs) (suc k) h l = cut_neighbours (d ∷ cs) k h.3 (omega arith)
+
+-- k cuts are at most 2,048 times k together
+pub sum-take-few : (k : ℕ) (cs : List ℕ) → AreCuts cs → sum (take k cs) ≤ 2048 * k
+sum-take-few zero cs h = omega arith
+sum-take-few (suc k) [] h = omega arith
+sum-take-few (suc k) (c ∷ cs) h = let few : c ≤ 2048 = h.1 in omega (arith, sum-cons c (take k cs), sum-take-few k cs h.3)
+
+-- the first k + 1 are those before and one more
+pub sum-take-suc : (k : ℕ) (cs : List ℕ) → k < length cs → sum (take (suc k) cs) ≡ sum (take k cs) + get_or cs k 0
+sum-take-suc k [] l = absurd (omega arith)
+sum-take-suc zero (c ∷ cs) l = omega (arith, sum-cons c [])
+sum-take-suc (suc k) (c ∷ cs) l = omega (arith, sum-cons c (take (suc k) cs), sum-cons c (take k cs), sum-take-suc k cs (omega arith))
+
+-- where each cut ends
+
+pub length-ends_from : (n : ℕ) (cs : List ℕ) → length (ends_from n cs) ≡ length cs
+length-ends_from n [] = refl
+length-ends_from n (c ∷ cs) = ap suc (length-ends_from (n + c) cs)
+
+pub get_or-ends_from : (n : ℕ) (cs : List ℕ) (k : ℕ) → k < length cs → get_or (ends_from n cs) k 0 ≡ n + sum (take (suc k) cs)
+get_or-ends_from n [] k l = absurd (omega arith)
+get_or-ends_from n (c ∷ cs) zero l = omega (arith, sum-cons c [])
+get_or-ends_from n (c ∷ cs) (suc k) l = omega (arith, get_or-ends_from (n + c) cs k (omega arith), sum-cons c (take (suc k) cs))
+
+pub ends_from-append : (n : ℕ) (xs ys : List ℕ) → ends_from n (xs ++ ys) ≡ ends_from n xs ++ ends_from (n + sum xs) ys
+ends_from-append n [] ys = ap (λ m. ends_from m ys) (let e : n ≡ n + 0 = omega arith in e)
+ends_from-append n (x ∷ xs) ys =
+    ap (λ es. (n + x) ∷ es) (ends_from-append (n + x) xs ys ∙ ap (λ m. ends_from (n + x) xs ++ ends_from m ys) (let e : n + x + sum xs ≡ n + sum (x ∷ xs) = omega (arith, sum-cons x xs) in e))
+
+pub take-ends_from : (n k : ℕ) (cs : List ℕ) → take k (ends_from n cs) ≡ ends_from n (take k cs)
+take-ends_from n zero cs = refl
+take-ends_from n (suc k) [] = refl
+take-ends_from n (suc k) (c ∷ cs) = ap (λ es. (n + c) ∷ es) (take-ends_from (n + c) k cs)
+
+pub drop-ends_from : (n k : ℕ) (cs : List ℕ) → drop k (ends_from n cs) ≡ ends_from (n + sum (take k cs)) (drop k cs)
+drop-ends_from n zero cs = ap (λ m. ends_from m cs) (let e : n ≡ n + 0 = omega arith in e)
+drop-ends_from n (suc k) [] = refl
+drop-ends_from n (suc k) (c ∷ cs) =
+    drop-ends_from (n + c) k cs ∙ ap (λ m. ends_from m (drop k cs)) (let e : n + c + sum (take k cs) ≡ n + sum (c ∷ take k cs) = omega (arith, sum-cons c (take k cs)) in e)
+
+-- ends that begin at p, moved so that those at m are at n
+shifted : (m n p : ℕ) (cs : List ℕ) → m ≤ p → ends_from (p - m + n) cs ≡ map (λ e. e - m + n) (ends_from p cs)
+shifted m n p [] le = refl
+shifted m n p (c ∷ cs) le =
+    let first : p - m + n + c ≡ p + c - m + n = omega arith in
+    ap (λ e. e ∷ ends_from (p - m + n + c) cs) first
+    ∙ ap (λ es. (p + c - m + n) ∷ es) (ap (λ e. ends_from e cs) first ∙ shifted m n (p + c) cs (omega arith))
+
+pub ends_from-shift : (m n : ℕ) (cs : List ℕ) → map (λ e. e - m + n) (ends_from m cs) ≡ ends_from n cs
+ends_from-shift m n cs =
+    sym (ap (λ e. ends_from e cs) (let e : n ≡ m - m + n = omega arith in e) ∙ shifted m n m cs (omega arith))
+
+-- whole segments and what is left
+
+pub full_cuts-zero : full_cuts 0 ≡ []
+full_cuts-zero = refl
+
+pub sum-replicate : (n c : ℕ) → sum (replicate n c) ≡ n * c
+sum-replicate zero c = omega arith
+sum-replicate (suc n) c = omega (arith, sum-cons c (replicate n c), sum-replicate n c)
+
+sum-rest_cut : (n : ℕ) → sum (rest_cut n) ≡ n
+sum-rest_cut zero = refl
+sum-rest_cut (suc n) = omega (arith, sum-cons (suc n) [])
+
+pub sum-full_cuts : (n : ℕ) → sum (full_cuts n) ≡ n
+sum-full_cuts n = omega (arith, sum-append (replicate (n / 2048) 2048) (rest_cut (n % 2048)), sum-replicate (n / 2048) 2048, sum-rest_cut (n % 2048))
+
+-- by quotient and rest
+full_cuts-at : (n q r : ℕ) → n ≡ q * 2048 + r → r < 2048 → full_cuts n ≡ replicate q 2048 ++ rest_cut r
+full_cuts-at n q r e small =
+    let quotient : n / 2048 ≡ q = omega arith in
+    let rest : n % 2048 ≡ r = omega arith in
+    ap (λ a. replicate a 2048 ++ rest_cut (n % 2048)) quotient ∙ ap (λ b. replicate q 2048 ++ rest_cut b) rest
+
+rest_cut-some : (n : ℕ) → 0 < n → rest_cut n ≡ n ∷ []
+rest_cut-some zero some = absurd (omega arith)
+rest_cut-some (suc n) some = refl
+
+-- one more segment after whole ones
+pub full_cuts-more : (n c : ℕ) → n % 2048 ≡ 0 → 0 < c → c ≤ 2048 → full_cuts (n + c) ≡ full_cuts n ++ c ∷ []
+full_cuts-more n c whole some few =
+    let before : full_cuts n ≡ replicate (n / 2048) 2048 = full_cuts-at n (n / 2048) 0 (omega arith) (omega arith) ∙ append-nil _ in
+    let step : full_cuts (n + c) ≡ replicate (n / 2048) 2048 ++ c ∷ [] =
+    elim (cases_lt c 2048) [
+      | inl less ↦ full_cuts-at (n + c) (n / 2048) c (omega arith) less ∙ ap (λ rest. replicate (n / 2048) 2048 ++ rest) (rest_cut-some c some)
+      | inr more ↦
+          let all : c ≡ 2048 = omega arith in
+          full_cuts-at (n + c) (n / 2048 + 1) 0 (omega arith) (omega arith)
+          ∙ append-nil _
+          ∙ sym (replicate_more (n / 2048) 2048)
+          ∙ ap (λ d. replicate (n / 2048) 2048 ++ d ∷ []) (sym all)
+    ] in
+    step ∙ ap (λ cs. cs ++ c ∷ []) (sym before)
+
+Meet-push : (xs : List ℕ) (y : ℕ) (ys : List ℕ) → Precedes y ys → Meet (xs ++ y ∷ []) ys
+Meet-push [] y ys h = h
+Meet-push (x ∷ []) y ys h = h
+Meet-push (x ∷ z ∷ xs) y ys h = Meet-push (z ∷ xs) y ys h
+
+Meet-replicate : (n c : ℕ) (ys : List ℕ) → Precedes c ys → Meet (replicate n c) ys
+Meet-replicate zero c ys h = tt
+Meet-replicate (suc zero) c ys h = h
+Meet-replicate (suc (suc n)) c ys h = Meet-replicate (suc n) c ys h
+
+-- the cuts before k + 1 end with cut k
+pub Meet-take : (k : ℕ) (cs ys : List ℕ) → k < length cs → Precedes (get_or cs k 0) ys → Meet (take (suc k) cs) ys
+Meet-take k [] ys l h = absurd (omega arith)
+Meet-take zero (c ∷ cs) ys l h = h
+Meet-take (suc k) (c ∷ []) ys l h = absurd (omega arith)
+Meet-take (suc k) (c ∷ d ∷ cs) ys l h = Meet-take k (d ∷ cs) ys (omega arith) h
+
+AreCuts-replicate : (n : ℕ) → AreCuts (replicate n 2048)
+AreCuts-replicate zero = tt
+AreCuts-replicate (suc zero) = (omega arith, omega arith, tt, tt)
+AreCuts-replicate (suc (suc n)) = (omega arith, omega arith, omega arith, AreCuts-replicate (suc n))
+
+AreCuts-rest_cut : (r : ℕ) → r < 2048 → AreCuts (rest_cut r)
+AreCuts-rest_cut zero l = tt
+AreCuts-rest_cut (suc r) l = (omega arith, omega arith, tt, tt)
+
+Precedes-rest_cut : (r : ℕ) → Precedes 2048 (rest_cut r)
+Precedes-rest_cut zero = tt
+Precedes-rest_cut (suc r) = omega arith
+
+pub AreCuts-full_cuts : (n : ℕ) → AreCuts (full_cuts n)
+AreCuts-full_cuts n =
+    let rest : n % 2048 < 2048 = omega arith in
+    AreCuts-append (replicate (n / 2048) 2048) (rest_cut (n % 2048)) (AreCuts-replicate (n / 2048)) (AreCuts-rest_cut (n % 2048) rest) (Meet-replicate (n / 2048) 2048 (rest_cut (n % 2048)) (Precedes-rest_cut (n % 2048)))
+
+first_apart : (c n : ℕ) (ys : List ℕ) → 0 < c → c ≤ 2048 → 2048 < c + n → Precedes c (full_cuts n ++ ys)
+first_apart c n ys some few apart =
+    let P : List ℕ → Type 0 = λ xs. Precedes c (xs ++ ys) in
+    elim (cases_lt n 2048) [
+      | inl less ↦
+          let alone : full_cuts n ≡ n ∷ [] = full_cuts-at n 0 n (omega arith) less ∙ rest_cut-some n (omega arith) in
+          subst P (sym alone) apart
+      | inr more ↦
+          let whole : full_cuts n ≡ replicate (suc (n / 2048 - 1)) 2048 ++ rest_cut (n % 2048) = full_cuts-at n (suc (n / 2048 - 1)) (n % 2048) (omega arith) (omega arith) in
+          subst P (sym whole) (omega arith)
+    ]
+
+Meet-nil : (xs : List ℕ) → Meet xs []
+Meet-nil [] = tt
+Meet-nil (x ∷ []) = tt
+Meet-nil (x ∷ y ∷ xs) = Meet-nil (y ∷ xs)
+
+last_apart : (n : ℕ) (ys : List ℕ) → AreCuts ys → RightApart n ys → Meet (full_cuts n) ys
+last_apart n [] h apart = Meet-nil (full_cuts n)
+last_apart n (d ∷ ds) h apart =
+    let some : 0 < d = h.0 in
+    let P : List ℕ → Type 0 = λ xs. Meet xs (d ∷ ds) in
+    elim (cases_lt 0 (n % 2048)) [
+      | inl rest ↦
+          let ends : full_cuts n ≡ replicate (n / 2048) 2048 ++ (n % 2048) ∷ [] = ap (λ cs. replicate (n / 2048) 2048 ++ cs) (rest_cut-some (n % 2048) rest) in
+          let over : 2048 < n % 2048 + d = elim apart.1 [ inl none ↦ absurd (omega arith) | inr over ↦ over ] in
+          subst P (sym ends) (Meet-push (replicate (n / 2048) 2048) (n % 2048) (d ∷ ds) over)
+      | inr none ↦
+          let ends : full_cuts n ≡ replicate (n / 2048) 2048 = full_cuts-at n (n / 2048) 0 (omega arith) (omega arith) ∙ append-nil (replicate (n / 2048) 2048) in
+          subst P (sym ends) (Meet-replicate (n / 2048) 2048 (d ∷ ds) (omega arith))
+    ]
+
+-- n values in place of the segments from a up to b
+pub AreCuts-replaced : (cs : List ℕ) (a b n : ℕ) → AreCuts cs → a ≤ length cs → LeftApart cs a n → RightApart n (drop b cs) → AreCuts (take a cs ++ (full_cuts n ++ drop b cs))
+AreCuts-replaced cs zero b n h in_range left right =
+    AreCuts-append (full_cuts n) (drop b cs) (AreCuts-full_cuts n) (AreCuts-drop b cs h) (last_apart n (drop b cs) (AreCuts-drop b cs h) right)
+AreCuts-replaced cs (suc k) b n h in_range left right =
+    let in_cuts : k < length cs = omega arith in
+    let behind : AreCuts (full_cuts n ++ drop b cs) = AreCuts-append (full_cuts n) (drop b cs) (AreCuts-full_cuts n) (AreCuts-drop b cs h) (last_apart n (drop b cs) (AreCuts-drop b cs h) right) in
+    let before : Precedes (get_or cs k 0) (full_cuts n ++ drop b cs) = first_apart (get_or cs k 0) n (drop b cs) (cut_some cs k h in_cuts) (cut_few cs k h in_cuts) (left k refl) in
+    AreCuts-append (take (suc k) cs) (full_cuts n ++ drop b cs) (AreCuts-take (suc k) cs h) behind (Meet-take k cs (full_cuts n ++ drop b cs) in_cuts before)
+
+-- one value more in the last segment
+pub AreCuts-last-more : (cs : List ℕ) (c : ℕ) → AreCuts (cs ++ c ∷ []) → c < 2048 → AreCuts (cs ++ (c + 1) ∷ [])
+AreCuts-last-more [] c h room = (omega arith, omega arith, tt, tt)
+AreCuts-last-more (x ∷ []) c h room = (h.0, h.1, omega (arith, h.2), AreCuts-last-more [] c h.3 room)
+AreCuts-last-more (x ∷ y ∷ cs) c h room = (h.0, h.1, h.2, AreCuts-last-more (y ∷ cs) c h.3 room)

@@ -1,0 +1,49 @@
+-- Laws of lists in parts.
+use Rattle.std.proofs.Common.{◌≡◌, ℕ, zero, suc, ◌+◌, ◌-◌, ◌<◌, ◌≤◌, ℤ, List, [], ◌∷◌, ◌++◌, length, take, drop, replicate, refl, sym, ap, subst, ◌∙◌, arith}
+use Rattle.std.proofs.lemmas.List.{append_assoc, append-nil, take-append-drop, drop-drop, drop-take, take-take, take_at, take-append-le, length-append, length-take, length-take-le, length-drop, length-replicate, take-replicate, drop-replicate, drop_all}
+
+-- the front of a list and some more
+pub take-append-more : {X : Type 0} (xs ys : List X) (r : ℕ) → take (length xs + r) (xs ++ ys) ≡ xs ++ take r ys
+take-append-more [] ys r = ap (λ n. take n ys) (let e : 0 + r ≡ r = omega arith in e)
+take-append-more (x ∷ xs) ys r =
+    ap (λ n. take n (x ∷ (xs ++ ys))) (let e : suc (length xs) + r ≡ suc (length xs + r) = omega arith in e) ∙ ap (λ zs. x ∷ zs) (take-append-more xs ys r)
+
+-- a list in two parts at a later place
+pub take-split : {X : Type 0} (xs : List X) (m n : ℕ) → m ≤ n → take n xs ≡ take m xs ++ take (n - m) (drop m xs)
+take-split xs m n le =
+    let sum : n ≡ m + (n - m) = omega arith in
+    sym (take-append-drop m (take n xs))
+    ∙ ap (λ ys. ys ++ drop m (take n xs)) (take-take m n xs le)
+    ∙ ap (λ k. take m xs ++ drop m (take k xs)) sum
+    ∙ ap (λ ys. take m xs ++ ys) (drop-take m (n - m) xs)
+
+pub drop-split : {X : Type 0} (xs : List X) (m n : ℕ) → m ≤ n → drop m xs ≡ take (n - m) (drop m xs) ++ drop n xs
+drop-split xs m n le =
+    let sum : m + (n - m) ≡ n = omega arith in
+    sym (take-append-drop (n - m) (drop m xs)) ∙ ap (λ ys. take (n - m) (drop m xs) ++ ys) (drop-drop (n - m) m xs ∙ ap (λ k. drop k xs) sum)
+
+-- what a copy has reached: `done` values of `from` on, and r more
+pub copied_more : {X : Type 0} (whole xs ys zs rest : List X) (from done r : ℕ) → done ≤ length xs → from + done + r ≤ length whole → ys ≡ take r (drop (from + done) whole) ++ rest → take done xs ≡ take done (drop from whole) → take (done + r) (take done xs ++ (ys ++ zs)) ≡ take (done + r) (drop from whole)
+copied_more {X} whole xs ys zs rest from done r in_range within new before =
+    let front : length (take done xs) ≡ done = length-take-le done xs in_range in
+    let part : List X = take r (drop (from + done) whole) in
+    let enough : length part ≡ r = length-take-le r (drop (from + done) whole) (omega (arith, length-drop (from + done) whole)) in
+    let there : take r (ys ++ zs) ≡ part =
+    ap (λ l. take r (l ++ zs)) new ∙ ap (take r) (append_assoc part rest zs) ∙ take_at part (rest ++ zs) r enough in
+    let step : done + r - done ≡ r = omega arith in
+    ap (λ n. take (n + r) (take done xs ++ (ys ++ zs))) (sym front)
+    ∙ take-append-more (take done xs) (ys ++ zs) r
+    ∙ ap (λ l. take done xs ++ l) there
+    ∙ ap (λ l. l ++ part) before
+    ∙ ap (λ l. take done (drop from whole) ++ take r l) (sym (drop-drop done from whole))
+    ∙ ap (λ n. take done (drop from whole) ++ take n (drop done (drop from whole))) (sym step)
+    ∙ sym (take-split (drop from whole) done (done + r) (omega arith))
+
+-- copies of v with other values written over their front
+pub around : {X : Type 0} (front copies : List X) (b n size : ℕ) (v : X) → copies ≡ replicate size v → b + n ≤ size → length front ≡ b → take (b + n) (front ++ drop b copies) ≡ front ++ replicate n v
+around front copies b n size v are within len =
+    let rest : drop b copies ≡ replicate (size - b) v = ap (drop b) are ∙ drop-replicate b size v in
+    ap (λ k. take (k + n) (front ++ drop b copies)) (sym len)
+    ∙ take-append-more front (drop b copies) n
+    ∙ ap (λ l. front ++ take n l) rest
+    ∙ ap (λ l. front ++ l) (take-replicate n (size - b) v (omega arith))

@@ -1,0 +1,10 @@
+use Rattle.std.proofs.Common.{◌≡◌, ◌-◌, ◌≤◌, length, take, drop}
+use Rattle.int_col.specs.Spine.{joined}
+use Rattle.int_col.proofs.spine.Spine.copy_values.Given as goal
+
+abbrev pub invariant-loop-done : goal.invariant-loop-done
+invariant-loop-done l =
+    (l.done ≤ length l.into) × (take l.done l.into ≡ take l.done (drop l.from (joined l.self)))
+
+abbrev pub decreases-loop-done : goal.decreases-loop-done
+decreases-loop-done l = length l.initial.into - l.done

@@ -1,0 +1,5 @@
+pub mod Cuts
+pub mod Column
+pub mod Segment
+pub mod Spine
+pub mod Edit

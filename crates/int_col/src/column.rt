@@ -1,0 +1,193 @@
+//! A column of integers.
+ghost use Rattle.std.specs.Prelude.{◌≡◌, ℕ, ℤ, ◌+◌, ◌-◌, ◌<◌, ◌≤◌, ◌==◌, [], ◌++◌, length, take, drop, replicate, slice_get, slice_set, sum, if◌then◌else◌, Some, None, IfOk, OnOk, OnErr};
+ghost use Rattle.bit_pack.specs.declared.widths.Width.{Width};
+ghost use Rattle.bit_pack.specs.Width.{IsLeastWidth};
+ghost use Rattle.bit_pack.specs.Packed.{Packed, packed_len};
+ghost use Rattle.int_col.specs.Cuts.{full_cuts};
+ghost use Rattle.int_col.specs.Column.{Column, IsColumn, segment_values, home_after, HasPackedBytes, ArePackedBytes};
+
+use crate::edit::Edit;
+use crate::held::Held;
+use crate::shared::SharedSpine;
+use bit_pack::Width;
+use mk_value::{Memory, Span};
+use std::alloc::Global;
+use std::marker::Model;
+
+/// A column of at most 16,777,216 integers, and where it stands in a file.
+#[derive(Drop)]
+pub struct IntCol {
+    spine: SharedSpine,
+    home: Option<Span>,
+}
+
+impl Model for IntCol {
+    ghost use Rattle.int_col.specs.Column.{Column};
+    ghost use Rattle.int_col.specs.Spine.{column_of};
+
+    ghost Value = { Column };
+
+    ghost view = { λ c. column_of c.spine c.home };
+}
+
+impl IntCol {
+    /// The column of these values, cut into full segments and a last one of what is left.
+    ///
+    /// # Errors
+    ///
+    /// `Memory`.
+    pub fn from_values(alloc: Global, values: &[i64], home: Option<Span>) -> Result<IntCol, Memory>
+        requires { length values.now ≤ 16777216 }
+        ensures values { IfOk result (λ column. column.values ≡ values.now) }
+        ensures cuts { IfOk result (λ column. column.cuts ≡ full_cuts (length values.now)) }
+        ensures home { IfOk result (λ column. column.home ≡ home) }
+        ensures column { IfOk result IsColumn }
+    {
+        let spine = SharedSpine::of(alloc, values)?;
+        Ok(IntCol { spine, home })
+    }
+
+    /// How many values there are.
+    pub fn len(&self) -> usize
+        ensures len { result ≡ length self.now.values }
+        ensures column { IsColumn self.now }
+    {
+        self.spine.spine().len()
+    }
+
+    /// Whether there are no values.
+    pub fn is_empty(&self) -> bool
+        ensures { result ≡ (length self.now.values == 0) }
+    {
+        self.len() == 0
+    }
+
+    /// How many segments there are.
+    pub fn segments(&self) -> usize
+        ensures count { result ≡ length self.now.cuts }
+        ensures column { IsColumn self.now }
+    {
+        self.spine.spine().segments()
+    }
+
+    /// The segment of this number, counted from 0: how many values it holds, and their bytes, packed at their
+    /// least width.
+    pub fn segment(&self, k: usize) -> Held<'_>
+        requires { k < length self.now.cuts }
+        ensures count { slice_get self.now.cuts k ≡ Some result.count }
+        ensures packed { Packed result.width (segment_values self.now k) result.bytes.now }
+    {
+        self.spine.spine().segment(k)
+    }
+
+    /// The value at a place.
+    pub fn get(&self, at: usize) -> i64
+        requires { at < length self.now.values }
+        ensures { slice_get self.now.values at ≡ Some result }
+    {
+        self.spine.spine().get(at)
+    }
+
+    /// Sets the value at a place. The home is then none, also where the value was there before.
+    ///
+    /// It is done in place where the segment is not shared and the width stays the least that holds its values.
+    ///
+    /// # Errors
+    ///
+    /// `Memory`, and the column is as it was.
+    pub fn set(&mut self, at: usize, value: i64) -> Result<(), Memory>
+        requires { at < length self.old.values }
+        ensures ok { OnOk result (self.new ≡ record self.old { values = slice_set self.old.values at value; home = None }) }
+        ensures err { OnErr result (self.new ≡ self.old) }
+    {
+        self.spine.set(at, value)?;
+        self.home = None;
+        Ok(())
+    }
+
+    /// Inserts copies of a value before a place, or at the end. The home is then none, unless there are no copies.
+    ///
+    /// It costs the segments that the copies stand in and a walk over the list of segments.
+    ///
+    /// # Errors
+    ///
+    /// `Memory`, and the column is as it was.
+    pub fn insert(&mut self, at: usize, value: i64, count: usize) -> Result<(), Memory>
+        requires at { at ≤ length self.old.values }
+        requires few { length self.old.values + count ≤ 16777216 }
+        ensures values { OnOk result (self.new.values ≡ take at self.old.values ++ (replicate count value ++ drop at self.old.values)) }
+        ensures home { OnOk result (self.new.home ≡ home_after count self.old.home) }
+        ensures err { OnErr result (self.new ≡ self.old) }
+    {
+        if count == 0 {
+            return Ok(());
+        }
+        self.spine.insert(at, value, count)?;
+        self.home = None;
+        Ok(())
+    }
+
+    /// Removes as many values from a place on. The home is then none, unless none are removed.
+    ///
+    /// It costs the segments at both ends of what is removed and a walk over the list of segments.
+    ///
+    /// # Errors
+    ///
+    /// `Memory`, and the column is as it was.
+    pub fn remove(&mut self, at: usize, count: usize) -> Result<(), Memory>
+        requires { at + count ≤ length self.old.values }
+        ensures values { OnOk result (self.new.values ≡ take at self.old.values ++ drop (at + count) self.old.values) }
+        ensures home { OnOk result (self.new.home ≡ home_after count self.old.home) }
+        ensures err { OnErr result (self.new ≡ self.old) }
+    {
+        if count == 0 {
+            return Ok(());
+        }
+        self.spine.remove(at, count)?;
+        self.home = None;
+        Ok(())
+    }
+
+    /// The least width that holds all values.
+    pub fn width(&self) -> Width
+        ensures { IsLeastWidth result self.now.values }
+    {
+        self.spine.spine().width()
+    }
+
+    /// Writes the packed bytes of all values, at their least width, from byte `from` on.
+    pub fn fill(&self, from: usize, into: &mut [u8])
+        requires { HasPackedBytes self.now.values (from + length into.old) }
+        ensures { ArePackedBytes self.now.values from into.new }
+    {
+        self.spine.spine().fill(from, into);
+    }
+
+    /// Where the column stands in a file, if it stands there as it is.
+    pub fn home(&self) -> Option<Span>
+        ensures { result ≡ self.now.home }
+    {
+        self.home
+    }
+
+    /// Sets the home, and nothing else.
+    pub fn settle(&mut self, home: Span)
+        ensures { self.new ≡ record self.old { home = Some home } }
+    {
+        self.home = Some(home);
+    }
+
+    /// A copy, which shares all segments.
+    ///
+    /// # Errors
+    ///
+    /// `Memory`, where there are as many copies as can be counted.
+    pub fn same(&self) -> Result<IntCol, Memory>
+        ensures { IfOk result (λ copy. copy ≡ self.now) }
+    {
+        Ok(IntCol {
+            spine: self.spine.clone()?,
+            home: self.home,
+        })
+    }
+}

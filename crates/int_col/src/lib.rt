@@ -1,0 +1,23 @@
+//! Columns of integers: packed segments, shared between copies and copied on write.
+//!
+//! An [`IntCol`] is a list of up to 16,777,216 integers and a home, the place of its block in a file. The list
+//! is cut into segments of at most 2,048 values, each packed at the least width that holds its own. Copies share
+//! the segments and the spine that lists them; an edit copies the segments it touches and the spine, and only
+//! where they are shared.
+//!
+//! It stands on `bit_pack`, which says what packed bytes are, and knows nothing of files: a home is only kept.
+#![tactic(auto)]
+
+mod column;
+mod edit;
+mod ends;
+mod fill;
+mod held;
+mod segment;
+mod shared;
+mod spine;
+#[cfg(test)]
+mod tests;
+
+pub use column::IntCol;
+pub use held::Held;
