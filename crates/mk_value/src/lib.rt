@@ -22,6 +22,8 @@ mod sequence;
 mod span;
 mod steps;
 mod table;
+#[cfg(test)]
+mod tests;
 mod text;
 mod value;
 

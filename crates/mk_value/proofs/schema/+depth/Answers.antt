@@ -1,5 +1,5 @@
 use Rattle.std.proofs.Common.{ap, arith}
-use Rattle.mk_value.specs.Heading.{Attribute, domain_weight, attributes_weight}
+use Rattle.mk_value.specs.Heading.{Attribute, domain_weight}
 use Rattle.mk_value.specs.Kinds.{domain_of}
 use Rattle.mk_value.proofs.Headings.{heading_weight-heading_of, weight_read}
 use Rattle.mk_value.proofs.schema.+depth.Goals as goal

@@ -1,4 +1,4 @@
-use Rattle.std.proofs.Common.{◌≡◌, ap, sym, ◌∙◌}
+use Rattle.std.proofs.Common.{ap}
 use Rattle.mk_value.specs.Heading.{Attribute}
 use Rattle.mk_value.proofs.Headings.{distinct_more, distinct_no}
 use Rattle.mk_value.proofs.schema.are_distinct.Goals as goal
