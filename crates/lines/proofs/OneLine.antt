@@ -1,5 +1,5 @@
 -- One line: it is answered, and its answer is said.
-use Rattle.std.proofs.Common.{◌≡◌, ℕ, ◌+◌, ◌<◌, ◌≤◌, ◌↔◌, true, List, [], ◌∷◌, ◌++◌, length, take, Result, IfOk, OnOk, OnErr, refl, sym, ap, ◌∙◌, subst, ◌⊎◌, inl, inr, length-append, length-take, arith}
+use Rattle.std.proofs.Common.{◌≡◌, ℕ, ◌+◌, ◌<◌, ◌≤◌, ◌↔◌, true, List, [], ◌∷◌, ◌++◌, length, take, Result, IfOk, OnOk, OnErr, refl, sym, ap, ◌∙◌, subst, inl, inr, length-append, length-take, arith}
 use Rattle.std.proofs.lemmas.List.{take_all, length-take-le}
 use Rattle.std.proofs.lemmas.Bool.{cases_lt}
 use Rattle.std.proofs.lemmas.Result.{IfOk-weaker}
@@ -9,7 +9,7 @@ use Rattle.lines.specs.declared.session.Flow.{Flow}
 use Rattle.lines.specs.declared.session.Flow.TheVariants.{Goes as GoesOn, Ends}
 use Rattle.lines.specs.Lines.{max_line, IsTooLong}
 use Rattle.lines.specs.Machine.{Machine, State, Turn, Answers, IsLast, limit_reply}
-use Rattle.lines.specs.Crash.{MayStand, IsReady, IsWithin, KeepsImages}
+use Rattle.lines.specs.Crash.{MayStand, MayStandWithin, IsReady, IsWithin, KeepsImages}
 use Rattle.lines.specs.Served.{state_of}
 use Rattle.lines.specs.Spoken.{IsSaying, SaysAll}
 use Rattle.lines.specs.Steps.{IsTurning, AnswersLine}
@@ -37,25 +37,30 @@ by_added P (at ∷ added) old new follows each before = subst P (sym (heads new.
 Goes-now : (P : Moment → Type 0) (old new : Outside) → Goes P old new → P old.now → P new.now
 Goes-now P old new goes before = by_added P goes.added old new goes.follows goes.each before
 
+-- a moment while a line is being answered
+pub record IsHolding {W : Type 0} (machine : Machine W) (world : W) (line said : List ℕ) (at : Moment) : Type 0 where
+  pub silent : at.said ≡ said
+  pub images : (image : List ℕ) → IsImage at.disk image → MayStandWithin machine world line image
+
 -- a line was answered, and nothing was said yet
 pub record Answered {W : Type 0} (machine : Machine W) (line reply : List ℕ) (world after : W) (old mid : Outside) : Type 0 where
   pub answers : Answers machine (state_of world old) line reply (state_of after mid)
   pub ready : IsReady machine after mid.now.disk
-  pub moments : Goes (IsWithin machine world line old.now.said) old mid
-  pub quiet : reply ≡ [] → KeepsImages machine world line after
+  pub moments : Goes (IsHolding machine world line old.now.said) old mid
+  pub quiet : reply ≡ [] → (image : List ℕ) → MayStandWithin machine world line image → machine.allowed after image
   pub said : mid.now.said ≡ old.now.said
   pub input : mid.input ≡ old.input
 
 -- what may stand where nothing of the reply has been said
 stands_first : {W : Type 0} (machine : Machine W) (line reply : List ℕ) (world : W) (after : State W) (image : List ℕ)
-    → (reply ≡ [] → KeepsImages machine world line after.world) → machine.allowed world image ⊎ machine.under_way world line image
+    → (reply ≡ [] → MayStandWithin machine world line image → machine.allowed after.world image) → MayStandWithin machine world line image
     → MayStand machine world ((record { line = line; reply = reply; after = after }) ∷ []) 0 image
-stands_first machine line [] world after image quiet stands = inl (omega arith, quiet refl image stands)
+stands_first machine line [] world after image quiet stands = inl (omega arith, quiet refl stands)
 stands_first machine line (byte ∷ reply) world after image quiet stands = inr (omega arith, stands)
 
 -- what may stand where a front of the reply has been said
 stands_later : {W : Type 0} (machine : Machine W) (line reply : List ℕ) (world : W) (after : State W) (part : ℕ) (image : List ℕ)
-    → machine.allowed after.world image → machine.allowed world image ⊎ machine.under_way world line image
+    → machine.allowed after.world image → MayStandWithin machine world line image
     → MayStand machine world ((record { line = line; reply = reply; after = after }) ∷ []) part image
 stands_later machine line reply world after part image next stands = elim (cases_lt part (length reply)) [
   | inl short ↦ inr (short, stands)
@@ -63,9 +68,9 @@ stands_later machine line reply world after part image next stands = elim (cases
 ]
 
 within_now : {W : Type 0} (machine : Machine W) (line reply : List ℕ) (world after : W) (old mid : Outside)
-    → IsReady machine world old.now.disk → Answered machine line reply world after old mid → IsWithin machine world line old.now.said mid.now
+    → IsReady machine world old.now.disk → Answered machine line reply world after old mid → IsHolding machine world line old.now.said mid.now
 within_now machine line reply world after old mid ready answered =
-    Goes-now (IsWithin machine world line old.now.said) old mid answered.moments
+    Goes-now (IsHolding machine world line old.now.said) old mid answered.moments
     (record { silent = refl; images = λ image is. inl (ready.allowed image is) })
 
 -- the moments while it is answered, and while the answer is said
@@ -76,12 +81,12 @@ turning : {W T E : Type 0} (machine : Machine W) (line reply : List ℕ) (world 
 turning {W} machine line reply world after old mid new result turn is ready answered says =
     let this : Turn W = record { line = line; reply = reply; after = state_of after new } in
     let now = within_now machine line reply world after old mid ready answered in
-    let by_answer : (at : Moment) → IsWithin machine world line old.now.said at → IsTurning machine world this old.now at =
+    let by_answer : (at : Moment) → IsHolding machine world line old.now.said at → IsTurning machine world this old.now at =
     λ at within. record {
       part = 0;
       within = omega arith;
       said = let sizes = ap length within.silent in omega arith;
-      images = λ image here. stands_first machine line reply world (state_of after new) image answered.quiet (within.images image here);
+      images = λ image here. stands_first machine line reply world (state_of after new) image (λ none. answered.quiet none image) (within.images image here);
     } in
     let by_saying : (at : Moment) → IsSaying reply mid.now at → IsTurning machine world this old.now at =
     λ at saying. record {
@@ -119,7 +124,7 @@ answers_line {W} machine line reply world after old mid new result outcome ready
       err = err;
       input = says.input ∙ answered.input;
       moments = turning machine line reply world after old mid new result _ refl ready answered says;
-      before = λ image allowed. stands_first machine line reply world (state_of after new) image answered.quiet (inl allowed);
+      before = λ image allowed. stands_first machine line reply world (state_of after new) image (λ none. answered.quiet none image) (inl allowed);
     }
 
 -- a line that is too long
@@ -156,8 +161,17 @@ answers_short {W} {T} {E} machine held line reply bytes world after old mid new 
     let answered : Answered machine held reply world after old mid = record {
       answers = inr (fits, answers);
       ready = ready';
-      moments = moments;
-      quiet = quiet;
+      moments = weaker (λ at within. record {
+        silent = within.silent;
+        images = λ image here. elim (within.images image here) [
+          | inl before ↦ inl before
+          | inr going ↦ inr (fits, going)
+        ];
+      }) moments;
+      quiet = λ none image stands. quiet none image (elim stands [
+        | inl before ↦ inl before
+        | inr going ↦ inr going.1
+      ]);
       said = said;
       input = input;
     } in

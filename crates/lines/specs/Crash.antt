@@ -2,7 +2,13 @@
 use Rattle.std.specs.Prelude.{◌≡◌, ℕ, ◌-◌, ◌<◌, ◌≤◌, List, [], ◌∷◌, length, ◌⊎◌}
 use Rattle.host_io.specs.Disk.{DiskState, IsImage}
 use Rattle.host_io.specs.Outside.{Moment, Outside, Left}
+use Rattle.lines.specs.Lines.{IsTooLong}
 use Rattle.lines.specs.Machine.{Machine, Turn}
+
+-- While a line is being answered, an image may stand that the world before it allows, or one that the line may leave.
+-- A line that is too long leaves none.
+abbrev pub MayStandWithin : {W : Type 0} → Machine W → W → List ℕ → List ℕ → Type 0
+MayStandWithin machine world line image = machine.allowed world image ⊎ ((¬ IsTooLong line) × machine.under_way world line image)
 
 -- When n bytes of the replies had been said, let k be the greatest number of turns whose replies stand whole in them.
 -- The image is one that the world after those k turns allows, or one that the line under way then may leave.
@@ -10,7 +16,7 @@ abbrev pub MayStand : {W : Type 0} → Machine W → W → List (Turn W) → ℕ
 MayStand machine world [] n image = machine.allowed world image
 MayStand machine world (turn ∷ turns) n image =
     ((length turn.reply ≤ n) × MayStand machine turn.after.world turns (n - length turn.reply) image)
-    ⊎ ((n < length turn.reply) × (machine.allowed world image ⊎ machine.under_way world turn.line image))
+    ⊎ ((n < length turn.reply) × MayStandWithin machine world turn.line image)
 
 -- A crash at any moment since the number `since`, when `said` bytes had been said, leaves what may stand then.
 abbrev pub IsCrashSafe : {W : Type 0} → Machine W → W → List (Turn W) → ℕ → ℕ → Outside → Type 0
