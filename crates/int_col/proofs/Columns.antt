@@ -1,13 +1,13 @@
 -- Laws of a column as its segments.
-use Rattle.std.proofs.Common.{◌≡◌, ℕ, zero, suc, ◌+◌, ◌-◌, ◌<◌, ◌≤◌, ℤ, Option, List, [], ◌∷◌, ◌++◌, length, map, get_or, set, take, drop, max, refl, sym, ap, subst, ◌∙◌, arith, sum}
-use Rattle.std.proofs.lemmas.List.{append_assoc, append-nil, take-append-drop, take_at, take_all, drop_at, drop-append-le, drop_all, map-append, set_at, get_or_at, length-take-le, length_push, get_or_default, take_more}
+use Rattle.std.proofs.Common.{◌≡◌, ℕ, zero, suc, ◌+◌, ◌-◌, ◌<◌, ◌≤◌, ℤ, Option, List, [], ◌∷◌, ◌++◌, length, get_or, set, take, drop, max, refl, sym, ap, subst, ◌∙◌, arith, sum}
+use Rattle.std.proofs.lemmas.List.{append_assoc, append-nil, take_at, map-append, set_at, get_or_at, length-take-le, length_push, get_or_default, take_more}
 use Rattle.mk_value.specs.declared.span.Span.{Span}
 use Rattle.bit_pack.specs.declared.widths.Width.{Width}
 use Rattle.bit_pack.specs.Width.{bit_count, IsLeastWidth}
 use Rattle.bit_pack.proofs.LeastWidth.{least-append}
-use Rattle.int_col.specs.Cuts.{AreCuts, full_cuts, ends_from}
-use Rattle.int_col.specs.Column.{Column, IsColumn, segment_values}
-use Rattle.int_col.specs.Spine.{joined, cuts_of, start_of, column_of, IsSpine, LastTakes}
+use Rattle.int_col.specs.Cuts.{AreCuts, ends_from}
+use Rattle.int_col.specs.Column.{IsColumn, segment_values}
+use Rattle.int_col.specs.Spine.{joined, cuts_of, column_of, IsSpine, LastTakes}
 use Rattle.int_col.proofs.CutLaws.{ends_from-append, length-ends_from, AreCuts-last-more}
 use Rattle.int_col.proofs.Joined.{joined-append, length-joined, length-joined-take, drop-joined, get_or-cuts, length-cuts}
 use Rattle.int_col.proofs.Places.{drop-cons-at}

@@ -1,7 +1,7 @@
 -- Laws of an edit and of the segments that it replaces.
-use Rattle.std.proofs.Common.{◌≡◌, ℕ, zero, suc, ◌+◌, ◌-◌, ◌*◌, ◌%◌, ◌<◌, ◌≤◌, ◌⊎◌, inl, inr, ℤ, List, [], ◌∷◌, ◌++◌, length, map, get_or, set, take, drop, replicate, refl, sym, ap, subst, ◌∙◌, arith, sum}
+use Rattle.std.proofs.Common.{◌≡◌, ℕ, zero, suc, ◌+◌, ◌-◌, ◌%◌, ◌<◌, ◌≤◌, ◌⊎◌, inl, inr, ℤ, List, [], ◌∷◌, ◌++◌, length, map, get_or, take, drop, replicate, refl, sym, ap, subst, ◌∙◌, arith, sum}
 use Rattle.std.proofs.lemmas.Bool.{cases_lt}
-use Rattle.std.proofs.lemmas.List.{append_assoc, take-append-drop, drop-drop, drop-take, take-take, length-append, length-take, length-drop, length-replicate, length-take-le, append-nil, map-append, map_more}
+use Rattle.std.proofs.lemmas.List.{append_assoc, length-append, length-take, length-drop, length-replicate, length-take-le, append-nil, map-append, map_more}
 use Rattle.int_col.specs.declared.edit.Edit.{Edit}
 use Rattle.int_col.specs.declared.edit.Touched.{Touched}
 use Rattle.int_col.specs.Cuts.{AreCuts, full_cuts, ends_from}

@@ -1,18 +1,15 @@
 -- Laws of the packed bytes of a column, a block of values at a time.
-use Rattle.std.proofs.Common.{◌≡◌, ℕ, zero, suc, ◌+◌, ◌-◌, ◌*◌, ◌/◌, ◌%◌, ◌<◌, ◌≤◌, ◌⊎◌, inl, inr, min, ℤ, List, [], ◌∷◌, ◌++◌, length, take, drop, refl, sym, ap, subst, ◌∙◌, arith}
-use Rattle.std.specs.Int.{div_ceil}
-use Rattle.std.specs.List.{All}
+use Rattle.std.proofs.Common.{◌≡◌, ℕ, ◌+◌, ◌-◌, ◌*◌, ◌/◌, ◌%◌, ◌<◌, ◌≤◌, inl, inr, min, ℤ, List, ◌++◌, length, take, drop, sym, ap, subst, ◌∙◌, arith}
 use Rattle.std.proofs.lemmas.Bool.{cases_lt}
-use Rattle.std.proofs.lemmas.List.{take-append-drop, take_at, take_all, take-take, drop_at, drop_all, drop-drop, drop-take, append-nil, length-take, length-take-le, length-drop, length-append}
-use Rattle.std.proofs.lemmas.List.Elements.{All-same, All-take, All-drop}
+use Rattle.std.proofs.lemmas.List.{take-append-drop, take_at, take_all, take-take, drop_at, drop-drop, drop-take, length-take-le, length-drop}
+use Rattle.std.proofs.lemmas.List.Elements.{All-take, All-drop}
 use Rattle.bit_pack.specs.declared.widths.Width.{Width}
 use Rattle.bit_pack.specs.declared.widths.Width.TheVariants.{W0, W1, W2, W4, W8, W16, W32, W64}
 use Rattle.bit_pack.specs.Width.{bit_count, Holds, HoldsAll, IsLeastWidth}
-use Rattle.bit_pack.specs.Packed.{PackedAt, packed_len, packing}
-use Rattle.bit_pack.proofs.Parts.{packed-packing, packing_is, packing-append, length-packing, ends_at_edge}
+use Rattle.bit_pack.specs.Packed.{packed_len, packing}
+use Rattle.bit_pack.proofs.Parts.{packing-append, length-packing, ends_at_edge}
 use Rattle.bit_pack.proofs.LeastWidth.{same_least}
 use Rattle.int_col.specs.Column.{HasPackedBytes}
-use Rattle.int_col.proofs.Lists.{take-split, drop-split}
 
 -- n blocks are n times as many bytes
 pub packed_len-blocks : (w : Width) (n : ℕ) → packed_len w (512 * n) ≡ packed_len w 512 * n

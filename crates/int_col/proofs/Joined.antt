@@ -1,12 +1,11 @@
 -- Laws of segments as lists of values, and of the places of values in them.
-use Rattle.std.proofs.Common.{◌≡◌, ℕ, zero, suc, ◌+◌, ◌-◌, ◌*◌, ◌<◌, ◌≤◌, ℤ, pos, List, [], ◌∷◌, ◌++◌, length, map, get_or, set, take, drop, refl, sym, ap, subst, ◌∙◌, arith, sum}
-use Rattle.std.proofs.lemmas.List.{length-append, length-map, get_or-map, map-set, set-get_or, append_assoc, take-append-drop, take-map, drop-map, map-append, take_at, drop_at, get_or_past}
+use Rattle.std.proofs.Common.{◌≡◌, ℕ, zero, suc, ◌+◌, ◌<◌, ℤ, List, [], ◌∷◌, ◌++◌, length, get_or, set, take, drop, refl, sym, ap, ◌∙◌, arith, sum}
+use Rattle.std.proofs.lemmas.List.{length-append, length-map, get_or-map, map-set, set-get_or, take-append-drop, take-map, drop-map, map-append, take_at, drop_at}
 use Rattle.std.proofs.lemmas.List.Concat.{flat_map-append, length-flat_map, get_or-flat_map}
 use Rattle.std.proofs.lemmas.List.Sums.{sum-map}
-use Rattle.std.specs.List.{flat_map}
 use Rattle.int_col.specs.Cuts.{ends_from}
 use Rattle.int_col.specs.Spine.{joined, cuts_of}
-use Rattle.int_col.proofs.CutLaws.{sum-cons, sum-take-suc, get_or-ends_from}
+use Rattle.int_col.proofs.CutLaws.{sum-take-suc, get_or-ends_from}
 
 pub joined-append : (xs ys : List (List ℤ)) → joined (xs ++ ys) ≡ joined xs ++ joined ys
 joined-append xs ys = flat_map-append (λ s. s) xs ys

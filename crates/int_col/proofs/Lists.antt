@@ -1,6 +1,6 @@
 -- Laws of lists in parts.
-use Rattle.std.proofs.Common.{◌≡◌, ℕ, zero, suc, ◌+◌, ◌-◌, ◌<◌, ◌≤◌, ℤ, List, [], ◌∷◌, ◌++◌, length, take, drop, replicate, refl, sym, ap, subst, ◌∙◌, arith}
-use Rattle.std.proofs.lemmas.List.{append_assoc, append-nil, take-append-drop, drop-drop, drop-take, take-take, take_at, take-append-le, length-append, length-take, length-take-le, length-drop, length-replicate, take-replicate, drop-replicate, drop_all}
+use Rattle.std.proofs.Common.{◌≡◌, ℕ, suc, ◌+◌, ◌-◌, ◌≤◌, List, [], ◌∷◌, ◌++◌, length, take, drop, replicate, sym, ap, ◌∙◌, arith}
+use Rattle.std.proofs.lemmas.List.{append_assoc, take-append-drop, drop-drop, drop-take, take-take, take_at, length-take-le, length-drop, take-replicate, drop-replicate}
 
 -- the front of a list and some more
 pub take-append-more : {X : Type 0} (xs ys : List X) (r : ℕ) → take (length xs + r) (xs ++ ys) ≡ xs ++ take r ys

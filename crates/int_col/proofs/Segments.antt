@@ -1,16 +1,16 @@
 -- Laws of a segment's fields and of its values.
-use Rattle.std.proofs.Common.{◌≡◌, ◌≢◌, slice_get, Some, ℕ, zero, suc, ◌+◌, ◌-◌, ◌*◌, ◌<◌, ◌≤◌, ◌^◌, ◌↔◌, IsTrue, Bool, true, false, ℤ, pos, List, [], ◌∷◌, ◌++◌, length, map, get_or, set, take, drop, replicate, refl, sym, ap, subst, ◌∙◌, arith}
+use Rattle.std.proofs.Common.{◌≡◌, ◌≢◌, slice_get, Some, ℕ, ◌+◌, ◌-◌, ◌*◌, ◌<◌, ◌≤◌, ◌^◌, ◌↔◌, IsTrue, Bool, true, false, ℤ, pos, List, [], ◌∷◌, ◌++◌, length, get_or, set, take, drop, replicate, refl, sym, ap, subst, ◌∙◌, arith}
 use Rattle.std.specs.Bool.{OnTrue}
 use Rattle.std.specs.List.{All}
 use Rattle.std.specs.Int.{div_ceil}
-use Rattle.std.proofs.Math.Nat.{mul-zero, zero-mod, add-zero}
-use Rattle.std.proofs.lemmas.List.{get_or-take, get_or-drop, length-take-le, length-drop, length-append, length-replicate, length_push, length-set, map-append, set_at, set-set, set-get_or, get_or-set_same, get_or-set_other, take_at, take_all, append-nil}
+use Rattle.std.proofs.Math.Nat.{mul-zero, zero-mod}
+use Rattle.std.proofs.lemmas.List.{get_or-take, get_or-drop, length-take-le, length-drop, length-append, length-replicate, length_push, length-set, map-append, set_at, set-set, set-get_or, get_or-set_same, get_or-set_other, take_at, take_all}
 use Rattle.std.proofs.lemmas.Bool.{false≢true}
 use Rattle.std.proofs.lemmas.Option.{get_or_from_slice_get}
 use Rattle.std.proofs.lemmas.List.Elements.{All-append, All-replicate, All-take, All-same, All-set}
 use Rattle.bit_pack.specs.declared.widths.Width.{Width}
 use Rattle.bit_pack.specs.Width.{bit_count, Holds, HoldsAll, IsLeastWidth, IsNarrower}
-use Rattle.bit_pack.specs.Packed.{PackedAt, Packed, packed_len, packed_number, little_endian, number_of, residue, values_from, value_at, Reaches}
+use Rattle.bit_pack.specs.Packed.{PackedAt, Packed, packed_len, little_endian, number_of, residue, values_from, Reaches}
 use Rattle.bit_pack.proofs.Digits.{number_of-append, number_of-replicate_zero}
 use Rattle.bit_pack.proofs.Packing.{residues, packed_number_is, values_from_is, reaches_all, reaches_within}
 use Rattle.bit_pack.proofs.Changes.{length-values_from, get_or-values_from, values_from-made}

@@ -2,7 +2,7 @@
 use Rattle.std.specs.Prelude.{◌≡◌, ℕ, suc, ◌+◌, ◌-◌, ◌%◌, ◌<◌, ◌≤◌, ◌⊎◌, ℤ, List, [], ◌∷◌, ◌++◌, length, take, drop, replicate, slice_index}
 use Rattle.int_col.specs.declared.edit.Edit.{Edit}
 use Rattle.int_col.specs.declared.edit.Touched.{Touched}
-use Rattle.int_col.specs.Spine.{joined, cuts_of, start_of}
+use Rattle.int_col.specs.Spine.{start_of}
 
 -- the list with n copies of v in place of the values from `at` up to `end`
 abbrev pub replaced : List ℤ → ℕ → ℕ → ℕ → ℤ → List ℤ

@@ -1,5 +1,5 @@
 -- The list of a column's segments, each seen as the list of its values.
-use Rattle.std.specs.Prelude.{◌≡◌, ℕ, ◌+◌, ◌-◌, ◌<◌, ◌≤◌, ℤ, List, [], ◌++◌, length, map, take, drop, replicate, slice_index_or, Option}
+use Rattle.std.specs.Prelude.{◌≡◌, ℕ, ◌+◌, ◌-◌, ◌<◌, ◌≤◌, ℤ, List, [], length, map, take, slice_index_or, Option}
 use Rattle.std.specs.List.{flat_map}
 use Rattle.mk_value.specs.declared.span.Span.{Span}
 use Rattle.int_col.specs.Cuts.{AreCuts, ends_from}

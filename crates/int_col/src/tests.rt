@@ -18,7 +18,7 @@ fn holds<R: Abort>(rt: &R, column: &IntCol, k: usize, count: usize, width: Width
 /// Asserts the packed bytes from one on.
 fn fills<R: Abort>(rt: &R, column: &IntCol, from: usize, want: [u8; 2]) {
     let len = column.width().packed_len(column.len());
-    assert!(rt; from + 2 <= len);
+    assert!(rt; 2 <= len && from <= len - 2);
     let mut bytes = [0; 2];
     column.fill(from, &mut bytes);
     assert!(rt; bytes == want);

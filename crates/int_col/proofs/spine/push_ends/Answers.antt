@@ -1,8 +1,8 @@
-use Rattle.std.proofs.Common.{◌≡◌, ◌+◌, ◌<◌, ◌≤◌, ◌∷◌, ◌++◌, List, ℕ, [], length, get_or, take, refl, sym, ap, ◌∙◌, arith}
+use Rattle.std.proofs.Common.{◌≡◌, ◌+◌, ◌∷◌, ◌++◌, List, ℕ, [], length, take, sym, ap, ◌∙◌, arith}
 use Rattle.std.proofs.lemmas.List.{append_assoc}
 use Rattle.std.proofs.lemmas.Slice.{pushed}
 use Rattle.int_col.specs.Cuts.{ends_from}
-use Rattle.int_col.specs.Spine.{joined, cuts_of, start_of}
+use Rattle.int_col.specs.Spine.{cuts_of, start_of}
 use Rattle.int_col.proofs.Places.{start_more, start_within}
 use Rattle.int_col.proofs.Edits.{ends_more}
 use Rattle.int_col.proofs.spine.push_ends.Goals as goal

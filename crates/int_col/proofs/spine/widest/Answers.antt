@@ -1,4 +1,3 @@
-use Rattle.std.proofs.Common.{arith}
 use Rattle.int_col.proofs.Columns.{least-more}
 use Rattle.int_col.proofs.spine.widest.Goals as goal
 

@@ -1,4 +1,4 @@
-use Rattle.std.proofs.Common.{◌<◌, ap, sym, arith, length}
+use Rattle.std.proofs.Common.{◌<◌, arith, length}
 use Rattle.int_col.proofs.Joined.{length-cuts}
 use Rattle.int_col.proofs.Columns.{segment_values-of}
 use Rattle.int_col.proofs.column.IntCol.segment.Goals as goal

@@ -1,4 +1,4 @@
-use Rattle.std.proofs.Common.{◌≡◌, ◌∙◌, ap, arith, length}
+use Rattle.std.proofs.Common.{◌∙◌, arith, length}
 use Rattle.int_col.proofs.Segments.{count_is, values_part}
 use Rattle.int_col.proofs.segment.Segment.copy_values.Goals as goal
 

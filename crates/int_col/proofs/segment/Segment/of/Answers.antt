@@ -1,7 +1,6 @@
-use Rattle.std.proofs.Common.{◌≡◌, ◌∙◌, ◌++◌, refl, ap, arith, take, drop, length}
+use Rattle.std.proofs.Common.{◌≡◌, ◌∙◌, refl, ap, arith, length}
 use Rattle.std.proofs.lemmas.List.{take_at}
 use Rattle.bit_pack.specs.Packed.{values_from}
-use Rattle.int_col.specs.Segment.{IsSegment}
 use Rattle.int_col.proofs.Segments.{segment_made}
 use Rattle.int_col.proofs.segment.Segment.of.Goals as goal
 

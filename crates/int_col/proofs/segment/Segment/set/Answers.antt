@@ -1,6 +1,6 @@
-use Rattle.std.proofs.Common.{◌≡◌, ◌∙◌, ap, sym, set, FitsSigned, w64, rules, arith, length, take, drop}
+use Rattle.std.proofs.Common.{◌≡◌, ◌∙◌, ap, FitsSigned, w64, rules, arith, length}
 use Rattle.std.proofs.lemmas.Int.{to_z-of_z}
-use Rattle.std.proofs.lemmas.List.{take_at, length-set}
+use Rattle.std.proofs.lemmas.List.{take_at}
 use Rattle.bit_pack.specs.Packed.{values_from}
 use Rattle.int_col.proofs.Segments.{set_segment, held_when_set}
 use Rattle.int_col.proofs.segment.Segment.set.Goals as goal

@@ -1,4 +1,4 @@
-use Rattle.std.proofs.Common.{◌≡◌, ◌∙◌, ◌≤◌, ap, arith, length, take, drop}
+use Rattle.std.proofs.Common.{◌≡◌, ◌∙◌, ◌≤◌, arith, length}
 use Rattle.std.proofs.lemmas.List.{take_at, take_all}
 use Rattle.int_col.proofs.Segments.{count_is}
 use Rattle.int_col.proofs.segment.Segment.values.Goals as goal

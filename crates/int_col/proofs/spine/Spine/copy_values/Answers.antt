@@ -1,4 +1,4 @@
-use Rattle.std.proofs.Common.{◌≡◌, ◌+◌, ◌-◌, ◌≤◌, ◌++◌, length, take, drop, refl, sym, ap, ◌∙◌, arith, rules}
+use Rattle.std.proofs.Common.{◌-◌, length, drop, arith, rules}
 use Rattle.std.proofs.lemmas.List.{places, length-take, length-drop}
 use Rattle.int_col.specs.Spine.{joined}
 use Rattle.int_col.proofs.Lists.{copied_more}

@@ -1,4 +1,4 @@
-use Rattle.std.proofs.Common.{◌≡◌, ℕ, ◌+◌, ◌-◌, ◌^◌, ◌<◌, ◌≤◌, ◌∷◌, ◌++◌, [], length, refl, sym, ap, ◌∙◌, arith}
+use Rattle.std.proofs.Common.{ℕ, ◌+◌, ◌-◌, ◌^◌, ◌<◌, ◌≤◌, arith}
 use Rattle.int_col.proofs.Places.{length-ends, moved_ends}
 use Rattle.int_col.specs.Spine.{start_of}
 use Rattle.int_col.proofs.Edits.{ends_replaced, fresh_few}

@@ -1,4 +1,4 @@
-use Rattle.std.proofs.Common.{◌≡◌, ◌∙◌, ◌+◌, ◌-◌, ◌≤◌, ap, arith, length, take, drop, rules}
+use Rattle.std.proofs.Common.{◌+◌, ◌-◌, arith, length, drop, rules}
 use Rattle.std.proofs.lemmas.List.{places, length-take, length-drop}
 use Rattle.bit_pack.specs.Packed.{packing}
 use Rattle.bit_pack.proofs.Parts.{length-packing}

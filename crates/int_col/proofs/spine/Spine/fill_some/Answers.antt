@@ -1,4 +1,4 @@
-use Rattle.std.proofs.Common.{◌≡◌, ◌∙◌, ◌+◌, ◌-◌, ◌*◌, ◌/◌, ◌%◌, ◌<◌, ◌≤◌, ◌++◌, ℕ, ℤ, List, min, refl, ap, sym, arith, rules, length, take, drop}
+use Rattle.std.proofs.Common.{◌≡◌, ◌∙◌, ◌+◌, ◌-◌, ◌*◌, ◌/◌, ◌%◌, ◌≤◌, ◌++◌, ℕ, ℤ, List, min, refl, ap, sym, arith, length, take, drop}
 use Rattle.std.proofs.lemmas.List.{take_at, length-take-le}
 use Rattle.bit_pack.specs.Packed.{packing, packed_len}
 use Rattle.int_col.specs.Spine.{joined}

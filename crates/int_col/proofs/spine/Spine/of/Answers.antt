@@ -1,6 +1,5 @@
-use Rattle.std.proofs.Common.{◌≡◌, ◌∙◌, [], ◌++◌, ap, sym, subst, arith, length}
-use Rattle.int_col.specs.Cuts.{AreCuts, ends_from}
-use Rattle.int_col.specs.Spine.{cuts_of}
+use Rattle.std.proofs.Common.{ap, sym, subst, arith, length}
+use Rattle.int_col.specs.Cuts.{AreCuts}
 use Rattle.int_col.proofs.CutLaws.{AreCuts-full_cuts}
 use Rattle.int_col.proofs.spine.Spine.of.Goals as goal
 

@@ -1,4 +1,4 @@
-use Rattle.std.proofs.Common.{◌≡◌, ◌∙◌, ap}
+use Rattle.std.proofs.Common.{◌∙◌, ap}
 use Rattle.bit_pack.specs.Packed.{packing}
 use Rattle.bit_pack.proofs.Parts.{packing_is}
 use Rattle.int_col.proofs.spine.Spine.pack_block.Goals as goal

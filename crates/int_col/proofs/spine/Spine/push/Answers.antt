@@ -1,8 +1,7 @@
-use Rattle.std.proofs.Common.{◌≡◌, ◌∙◌, ◌+◌, ◌-◌, ◌<◌, ◌≤◌, suc, [], ap, sym, arith, rules, length, get_or, FitsSigned, w64}
+use Rattle.std.proofs.Common.{◌≡◌, ◌+◌, ◌-◌, ◌<◌, suc, ap, arith, rules, length, get_or, FitsSigned, w64}
 use Rattle.std.proofs.lemmas.Int.{to_z-of_z}
-use Rattle.std.proofs.lemmas.List.{get_or_default, get_or_read}
+use Rattle.std.proofs.lemmas.List.{get_or_read}
 use Rattle.std.specs.Vec.{vec_len}
-use Rattle.int_col.specs.Spine.{joined, start_of}
 use Rattle.int_col.proofs.Places.{length-ends, end_at, start_within}
 use Rattle.int_col.proofs.Columns.{IsSpine-pushed, joined-pushed, last_room}
 use Rattle.int_col.proofs.spine.Spine.push.Goals as goal

@@ -1,7 +1,7 @@
-use Rattle.std.proofs.Common.{◌≡◌, ◌∙◌, ℕ, ap, sym, arith, length}
+use Rattle.std.proofs.Common.{◌≡◌, ◌∙◌, ap, arith, length}
 use Rattle.std.proofs.lemmas.Result.{on_ok_weaker}
 use Rattle.int_col.specs.Cuts.{full_cuts}
-use Rattle.int_col.specs.Spine.{joined, cuts_of}
+use Rattle.int_col.specs.Spine.{joined}
 use Rattle.int_col.specs.Edit.{size_after}
 use Rattle.int_col.proofs.Edits.{cuts_after, joined_after, length-replaced, length-values_after}
 use Rattle.int_col.proofs.spine.Spine.replace.Goals as goal

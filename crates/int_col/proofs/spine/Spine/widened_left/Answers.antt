@@ -1,6 +1,5 @@
-use Rattle.std.proofs.Common.{◌≡◌, ◌-◌, ◌<◌, ◌≤◌, refl, arith}
+use Rattle.std.proofs.Common.{◌-◌, ◌<◌, refl, arith}
 use Rattle.int_col.specs.declared.edit.Touched.{Touched}
-use Rattle.int_col.specs.Edit.{size_after}
 use Rattle.int_col.proofs.Places.{start_mono}
 use Rattle.int_col.proofs.Edits.{size_few, left_stays, left_widened}
 use Rattle.int_col.proofs.spine.Spine.widened_left.Goals as goal

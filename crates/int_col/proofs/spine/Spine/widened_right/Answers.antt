@@ -1,4 +1,4 @@
-use Rattle.std.proofs.Common.{◌≡◌, ℕ, ◌+◌, ◌-◌, ◌<◌, ◌≤◌, List, length, drop, suc, refl, sym, ap, subst, ◌∙◌, arith}
+use Rattle.std.proofs.Common.{◌≡◌, ℕ, ◌+◌, ◌-◌, ◌<◌, length, drop, suc, refl, sym, ap, subst, arith}
 use Rattle.int_col.specs.declared.edit.Touched.{Touched}
 use Rattle.int_col.specs.Spine.{start_of, cuts_of}
 use Rattle.int_col.specs.Edit.{size_after, RightApart}
