@@ -42,9 +42,10 @@ rows_fit (row ∷ rest) schema h =
 
 -- a view of a schema is one whose rows are the schema's
 pub IsOf-relation : (rows : List (List Datum)) (schema : List Attribute) → AreRowsOf rows schema ↔ IsOf (Datum.relation (relation_of rows)) (Domain.relation (heading_of schema))
-IsOf-relation rows schema =
-    ( λ h. (let e = ap length (rows_of-relation_of rows) in let few = h.few in omega (arith, few), tuples_fit rows schema h.whole)
-    , λ h. record { few = let e = ap length (rows_of-relation_of rows) in let few = h.0 in omega (arith, few); whole = rows_fit rows schema h.1 })
+IsOf-relation rows schema = (
+  λ h. (let e = ap length (rows_of-relation_of rows) in let few = h.few in omega (arith, few), tuples_fit rows schema h.whole),
+  λ h. record { few = let e = ap length (rows_of-relation_of rows) in let few = h.0 in omega (arith, few); whole = rows_fit rows schema h.1 },
+)
 
 -- a value weighs less than its row, and a row less than its view
 pub row_weight_read : (row : List Datum) (i : ℕ) (x : Datum) → i < length row → x ≡ get_or row i x → datum_weight x + 1 ≤ row_weight row
@@ -72,9 +73,10 @@ row_fits_no row schema i x a e f h rest p =
 pub rows_fit_more : (schema : List Attribute) (rows : List (List Datum)) (i : ℕ) (row : List Datum) → drop i rows ≡ row ∷ drop (i + 1) rows → IsRowOf row schema
     → (All (λ r. IsRowOf r schema) rows ↔ All (λ r. IsRowOf r schema) (drop i rows)) → (All (λ r. IsRowOf r schema) rows ↔ All (λ r. IsRowOf r schema) (drop (i + 1) rows))
 rows_fit_more schema rows i row e h rest =
-    let more = rw e at rest in
-    ( λ p. All-tail (λ r. IsRowOf r schema) row (drop (i + 1) rows) (more.0 p)
-    , λ p. more.1 (All-cons (λ r. IsRowOf r schema) row (drop (i + 1) rows) h p))
+    let more = rw e at rest in (
+      λ p. All-tail (λ r. IsRowOf r schema) row (drop (i + 1) rows) (more.0 p),
+      λ p. more.1 (All-cons (λ r. IsRowOf r schema) row (drop (i + 1) rows) h p),
+    )
 
 pub row_fits_length : (row : List Datum) (schema : List Attribute) → IsRowOf row schema → length row ≡ length schema
 row_fits_length [] [] h = refl

@@ -1,4 +1,4 @@
-ghost use Rattle.std.specs.Prelude.{◌≡◌, ◌↔◌, IsTrue, IsOkAnd};
+ghost use Rattle.std.specs.Prelude.{◌≡◌, ◌↔◌, ◌∷◌, [], IsTrue, IsOkAnd};
 ghost use Rattle.mk_value.specs.Names.{IsName, is_name_byte as name_byte};
 
 use crate::Memory;
@@ -47,6 +47,16 @@ impl Name {
         let mut bytes = [0; MAX_NAME];
         bytes[..len].copy_from_slice(text.as_bytes());
         Ok(Name { bytes, len })
+    }
+
+    /// The name `_`, for places that hold no name yet.
+    pub(crate) fn placeholder() -> Name
+        ensures { result ≡ 95 ∷ [] }
+    {
+        Name {
+            bytes: [b'_'; MAX_NAME],
+            len: 1,
+        }
     }
 
     pub fn as_bytes(&self) -> &[u8]
