@@ -1,9 +1,10 @@
-ghost use Rattle.std.specs.Prelude.{◌≡◌, ◌↔◌, ◌++◌, ◌∷◌, [], length, map, IsTrue, IfOk, OnOk, OnErr};
-ghost use Rattle.mk_value.specs.Data.{IsOf, default_of};
+ghost use Rattle.std.specs.Prelude.{◌≡◌, ◌↔◌, ◌+◌, ◌<◌, ◌≤◌, ◌++◌, ◌∷◌, [], length, map, take, drop, replicate, slice_index_or, slice_set, IsTrue, IfOk, OnOk, OnErr};
+ghost use Rattle.mk_value.specs.Data.{IsOf, cell, default_of};
 
 use crate::{Bytes, Kind, Memory, Schema, Text};
 use std::alloc::Global;
 use std::marker::Model;
+use std::mem;
 
 /// A value of a property.
 #[cycle(value)]
@@ -146,6 +147,8 @@ impl Row {
 }
 
 impl Rows {
+    ghost use Rattle.mk_value.specs.Values.{datum_of};
+
     /// No rows.
     pub fn new(alloc: Global) -> Rows
         ensures { result ≡ [] }
@@ -183,6 +186,46 @@ impl Rows {
         self.items.is_empty()
     }
 
+    /// Puts copies of a row, so many times, before the row at a place. It costs these copies and the rows behind them.
+    pub fn insert(&mut self, at: usize, row: &Row, count: usize) -> Result<(), Memory>
+        requires { at ≤ length self.old }
+        ensures ok { OnOk result (self.new ≡ take at self.old ++ (replicate count row.now ++ drop at self.old)) }
+        ensures err { OnErr result (self.new ≡ self.old) }
+    {
+        let before = self.items.len();
+        match push_copies(&mut self.items, row, count) {
+            Ok(()) => {
+                self.items[at..].rotate_right(count);
+                Ok(())
+            }
+            Err(error) => {
+                self.items.truncate(before);
+                Err(error)
+            }
+        }
+    }
+
+    /// Removes so many rows from a place on. It costs these rows and those behind them, and takes no memory.
+    pub fn remove(&mut self, at: usize, count: usize)
+        requires { at + count ≤ length self.old }
+        ensures { self.new ≡ take at self.old ++ drop (at + count) self.old }
+    {
+        self.items[at..].rotate_left(count);
+        let left = self.items.len() - count;
+        self.items.truncate(left);
+    }
+
+    /// Gives the value at a row and a column another, and gives the old one back. It takes no memory.
+    pub fn replace(&mut self, row: usize, col: usize, value: Value) -> Value
+        requires row_in { row < length self.old }
+        requires col_in { col < length (slice_index_or self.old row []) }
+        ensures old { datum_of result ≡ cell self.old row col }
+        ensures new { self.new ≡ slice_set self.old row (slice_set (slice_index_or self.old row []) col (datum_of value)) }
+    {
+        let row = &mut self.items[row];
+        mem::replace(&mut row.cells[col], value)
+    }
+
     /// Equal rows, which have memory of their own.
     #[cycle(copy_value)]
     pub fn copy(&self) -> Result<Rows, Memory>
@@ -194,4 +237,15 @@ impl Rows {
         }
         Ok(copy)
     }
+}
+
+/// Appends copies of a row, so many times. An error leaves those before it at the end.
+fn push_copies(rows: &mut Vec<Row>, row: &Row, count: usize) -> Result<(), Memory>
+    ensures ok { OnOk result (rows.new.items ≡ rows.old.items ++ replicate count row.now) }
+    ensures err { OnErr result (take (length rows.old.items) rows.new.items ≡ rows.old.items) }
+{
+    for _ in 0..count {
+        rows.push(row.copy()?)?;
+    }
+    Ok(())
 }
