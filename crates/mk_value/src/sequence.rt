@@ -1,4 +1,4 @@
-ghost use Rattle.std.specs.Prelude.{◌≡◌, ◌↔◌, ◌++◌, ◌∷◌, [], length, IsTrue, OnOk, OnErr};
+ghost use Rattle.std.specs.Prelude.{◌≡◌, ◌↔◌, ◌<◌, ◌++◌, ◌∷◌, [], length, remove, slice_index_or, IsTrue, OnOk, OnErr};
 
 use crate::Memory;
 use std::alloc::Global;
@@ -48,6 +48,15 @@ impl<T> Sequence<T> {
         ensures { IsTrue result ↔ (self.now ≡ []) }
     {
         self.items.is_empty()
+    }
+
+    /// Takes the element at a place out.
+    pub fn remove(&mut self, at: usize) -> T
+        requires { at < length self.old }
+        ensures old { result ≡ slice_index_or self.old at result }
+        ensures rest { self.new ≡ remove self.old at }
+    {
+        self.items.remove(at)
     }
 
     /// Gives the vector back, without memory.

@@ -1,21 +1,20 @@
 -- Whether a value is of a domain, as a test.
 use Rattle.std.specs.Prelude.{ℕ, ◌^◌, ℤ, pos, negsuc, Bool, true, false, not, ◌&&◌, ◌==◌, nat_lt, nat_le, List, [], ◌∷◌, length}
-use Rattle.std.specs.Int.{Width, w32, w64, hbits}
 use Rattle.std.specs.List.{list_all}
 use Rattle.std.specs.Str.{is_utf8}
 use Rattle.mk_value.specs.Limits.{max_bytes, max_rows}
 use Rattle.mk_value.specs.Heading.{Domain, Heading, no_attributes, attribute, Attribute}
 use Rattle.mk_value.specs.Data.{Datum, integer, long, text, bytes, relation, Tuple, no_values, value, Relation, no_tuples, tuple, rows_of}
 
--- a number within a width: from -2^(n - 1) to 2^(n - 1) - 1 for n bits
-abbrev pub is_within : Width → ℤ → Bool
-is_within w (pos n) = nat_lt n (2 ^ hbits w)
-is_within w (negsuc n) = nat_lt n (2 ^ hbits w)
+-- a number from -limit to limit - 1
+abbrev pub is_within : ℕ → ℤ → Bool
+is_within limit (pos n) = nat_lt n limit
+is_within limit (negsuc n) = nat_lt n limit
 
 abbrev mutual
   pub is_of : Datum → Domain → Bool
-  is_of (integer z) Domain.integer = is_within w32 z
-  is_of (long z) Domain.long = is_within w64 z
+  is_of (integer z) Domain.integer = is_within (2 ^ 31) z
+  is_of (long z) Domain.long = is_within (2 ^ 63) z
   is_of (text content) Domain.text = is_utf8 content && list_all (λ b. not (b == 0)) content && nat_le (length content) max_bytes
   is_of (bytes content) Domain.bytes = nat_le (length content) max_bytes
   is_of (relation r) (Domain.relation h) = nat_le (length (rows_of r)) max_rows && are_tuples_of r h

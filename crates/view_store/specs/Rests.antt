@@ -1,5 +1,5 @@
 -- When a table or a root rests on another: each home in it is one that the same column had there.
-use Rattle.std.specs.Prelude.{◌≡◌, ℕ, ◌+◌, List, [], ◌∷◌, ◌++◌, drop, slice_index_or, All, Contains, pos}
+use Rattle.std.specs.Prelude.{◌≡◌, ℕ, ◌+◌, List, [], ◌∷◌, ◌++◌, drop, slice_index_or, All, Contains, pos, Option, None, Some, ◌⊎◌}
 use Rattle.std.specs.List.{flat_map}
 use Rattle.mk_value.specs.declared.span.Span.{Span}
 use Rattle.mk_value.specs.Heading.{Domain, Attribute}
@@ -60,3 +60,8 @@ RestsOn new old = Rest (placed_columns new) (placed_columns old)
 
 abbrev pub ViewsRestOn : List NamedTable → List NamedTable → Type 0
 ViewsRestOn new old = Rest (placed_views new) (placed_views old)
+
+-- a table may be put in the place of another, or where none is, without a home that was not there: it rests on that one, or has no homes
+abbrev pub MayReplace : Placed → Option Placed → Type 0
+MayReplace new None = placed_columns new ≡ []
+MayReplace new (Some old) = RestsOn new old ⊎ (placed_columns new ≡ [])

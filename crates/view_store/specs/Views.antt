@@ -5,8 +5,8 @@ use Rattle.std.specs.Option.{option_map}
 use Rattle.mk_value.specs.Names.{IsName, same_bytes}
 use Rattle.mk_value.specs.Heading.{Domain, Heading, no_attributes, attribute, Attribute, heading_of}
 use Rattle.mk_value.specs.Paths.{Route}
-use Rattle.view_store.specs.Tables.{Placed, IsTable, placed_code}
-use Rattle.view_store.specs.Edits.{Edit, edited}
+use Rattle.view_store.specs.Tables.{Placed, IsTable, placed_code, unplaced_table}
+use Rattle.view_store.specs.Edits.{Edit, edited, table_at}
 
 -- a view: its name and its table
 pub record NamedTable : Type 0 where
@@ -58,6 +58,10 @@ pub record AreViews (views : List NamedTable) : Type 0 where
 abbrev pub table_of : List NamedTable → List ℕ → Option Placed
 table_of views name = option_map (λ v. v.table) (find (λ v. same_bytes v.name name) views)
 
+-- the table to which a route leads
+abbrev pub view_at : List NamedTable → Route → Option Placed
+view_at views route = option_map (λ t. table_at route.steps t) (table_of views route.name)
+
 -- the views after the one of a name was given another table, or was added last where there is none
 abbrev pub with_view : List NamedTable → List ℕ → Placed → List NamedTable
 with_view [] name t = record { name = name; table = t } ∷ []
@@ -75,3 +79,18 @@ edited_views [] route edit = []
 edited_views (v ∷ rest) route edit =
     if same_bytes v.name route.name then record { name = v.name; table = edited route.steps edit v.table } ∷ rest
     else v ∷ edited_views rest route edit
+
+-- names beside their tables
+abbrev pub named : List (List ℕ) → List Placed → List NamedTable
+named (name ∷ names) (t ∷ rest) = record { name = name; table = t } ∷ named names rest
+named _ _ = []
+
+-- a table no column of which has a home
+abbrev pub IsUnplaced : Placed → Type 0
+IsUnplaced t = t ≡ unplaced_table t.schema t.rows
+
+-- what a root of plain rows keeps: a table for each name, a whole root, and no homes
+pub record IsPlainRoot (names : List (List ℕ)) (tables : List Placed) : Type 0 where
+  pub paired : length names ≡ length tables
+  pub views : AreViews (named names tables)
+  pub plain : All IsUnplaced tables

@@ -1,13 +1,25 @@
-// A library with one function.
+//! Nested tables in memory: views by name, and their edits.
+//!
+//! A `Root` holds views by name. A view is a `Table`: a schema, rows, and for each column the place where it was read from or
+//! written to, its home. A `Path` leads from a name over rows and view properties to a view inside another, and an edit puts in,
+//! changes or removes rows there. Each call is refused exactly as the definitions say, and leaves the root as it was then.
+//!
+//! Tables are kept here as plain rows, so no column has a home yet. The contracts are stated with homes all the same.
+//! This crate knows nothing of files, commands or the texts of structures.
 #![tactic(auto)]
 
-ghost use Rattle.std.specs.Prelude.{◌≡◌};
-ghost use Rattle.view_store.specs.Echo.{echo_of};
+mod change;
+mod check;
+mod edit;
+mod error;
+mod limits;
+mod root;
+mod shared;
+mod table;
+mod walk;
 
-// The `ensures` clause is the contract: what `echo` returns is `echo_of` of its argument, a definition
-// in `specs/Echo.antt`, which a caller's clause can cite too.
-pub fn echo(x: usize) -> usize
-    ensures { result ≡ echo_of x }
-{
-    x
-}
+pub use error::EditError;
+pub use limits::{MAX_STRUCTURE, MAX_VIEWS};
+pub use root::{Names, Root};
+pub use shared::{Shared, share};
+pub use table::{Table, empty_table, from_rows};
