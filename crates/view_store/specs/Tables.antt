@@ -28,6 +28,9 @@ pub record IsTable (t : Placed) : Type 0 where
 abbrev pub unplaced_table : List Attribute → List (List Datum) → Placed
 unplaced_table schema rows = record { schema = schema; rows = rows; homes = unplaced_homes schema rows }
 
+abbrev pub IsUnplaced : Placed → Type 0
+IsUnplaced t = t ≡ unplaced_table t.schema t.rows
+
 -- the place of a property in a schema, and the schema of a view property
 abbrev pub place_of : List Attribute → List ℕ → ℕ
 place_of schema name = unwrap_or (find schema name) 0

@@ -5,7 +5,7 @@ use Rattle.std.specs.Option.{option_map}
 use Rattle.mk_value.specs.Names.{IsName, same_bytes}
 use Rattle.mk_value.specs.Heading.{Domain, Heading, no_attributes, attribute, Attribute, heading_of}
 use Rattle.mk_value.specs.Paths.{Route}
-use Rattle.view_store.specs.Tables.{Placed, IsTable, placed_code, unplaced_table}
+use Rattle.view_store.specs.Tables.{Placed, IsTable, IsUnplaced, placed_code}
 use Rattle.view_store.specs.Edits.{Edit, edited, table_at}
 
 -- a view: its name and its table
@@ -51,7 +51,7 @@ pub record IsView (v : NamedTable) : Type 0 where
 -- a whole root: at most 1,024 views with distinct names, each whole
 pub record AreViews (views : List NamedTable) : Type 0 where
   pub few : length views ≤ max_views
-  pub distinct : AllPairs (λ a b. a.name ≢ b.name) views
+  pub distinct : AllPairs (λ a b. a ≢ b) (view_names views)
   pub whole : All IsView views
 
 -- the table of a name
@@ -84,10 +84,6 @@ edited_views (v ∷ rest) route edit =
 abbrev pub named : List (List ℕ) → List Placed → List NamedTable
 named (name ∷ names) (t ∷ rest) = record { name = name; table = t } ∷ named names rest
 named _ _ = []
-
--- a table no column of which has a home
-abbrev pub IsUnplaced : Placed → Type 0
-IsUnplaced t = t ≡ unplaced_table t.schema t.rows
 
 -- what a root of plain rows keeps: a table for each name, a whole root, and no homes
 pub record IsPlainRoot (names : List (List ℕ)) (tables : List Placed) : Type 0 where

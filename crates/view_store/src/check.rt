@@ -3,6 +3,7 @@ ghost use Rattle.std.specs.Prelude.{◌≡◌, ◌≤◌, length};
 ghost use Rattle.std.specs.Result.{result_err};
 ghost use Rattle.mk_value.specs.Limits.{max_rows};
 ghost use Rattle.mk_value.specs.Data.{AreRowsOf};
+ghost use Rattle.mk_value.specs.Heading.{find};
 ghost use Rattle.mk_value.specs.Values.{datum_of};
 ghost use Rattle.view_store.specs.Changes.{FitsSizes, edit_of};
 ghost use Rattle.view_store.specs.Fitting.{are_of};
@@ -23,7 +24,7 @@ pub(crate) fn check(
 ) -> Result<(), EditError>
     requires whole { AreRowsOf rows.now schema.now }
     requires sizes { FitsSizes change }
-    ensures { result_err result ≡ due_in (unplaced_table schema.now rows.now) steps.now (edit_of change) }
+    ensures { result_err result ≡ due_in (unplaced_table schema.now rows.now) steps.now (edit_of change.entry) }
 {
     let target = find_schema(schema, steps)?;
     check_kinds(target, change)?;
@@ -33,7 +34,7 @@ pub(crate) fn check(
 
 /// Answers the refusal that the schema of the rows gives alone.
 fn check_kinds(schema: &Schema, change: Change<'_>) -> Result<(), EditError>
-    ensures { result_err result ≡ kind_refusal schema.now (edit_of change) }
+    ensures { result_err result ≡ kind_refusal schema.now (edit_of change.entry) }
 {
     match change {
         Change::Insert(_, row, _) => {
@@ -84,7 +85,7 @@ fn check_value(schema: &Schema, prop: &Name, value: &Value) -> Result<(), EditEr
 fn check_places(size: usize, change: Change<'_>) -> Result<(), EditError>
     requires few { size ≤ max_rows }
     requires sizes { FitsSizes change }
-    ensures { result_err result ≡ range_refusal size (edit_of change) }
+    ensures { result_err result ≡ range_refusal size (edit_of change.entry) }
 {
     let in_range = match change {
         Change::Insert(at, _, _) => at <= size,

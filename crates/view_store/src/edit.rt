@@ -1,5 +1,5 @@
 //! Edits of plain rows that nothing refuses.
-ghost use Rattle.std.specs.Prelude.{◌≡◌, None, OnOk, OnErr};
+ghost use Rattle.std.specs.Prelude.{◌≡◌, [], None, IfOk, OnOk, OnErr};
 ghost use Rattle.mk_value.specs.Data.{AreRowsOf};
 ghost use Rattle.view_store.specs.Changes.{edit_of};
 ghost use Rattle.view_store.specs.Tables.{unplaced_table};
@@ -21,7 +21,7 @@ pub(crate) fn edit(
     requires whole { AreRowsOf rows.old schema.now }
     requires free { due_in (unplaced_table schema.now rows.old) steps.now (edit_of change) ≡ None }
     ensures whole { AreRowsOf rows.new schema.now }
-    ensures ok { OnOk result (unplaced_table schema.now rows.new ≡ edited steps.now (edit_of change) (unplaced_table schema.now rows.old)) }
+    ensures ok { OnOk result (unplaced_table schema.now rows.new ≡ edited steps.now (edit_of change.entry) (unplaced_table schema.now rows.old)) }
     ensures err { OnErr result (rows.new ≡ rows.old) }
 {
     let Some((step, rest)) = steps.split_first() else {
@@ -51,7 +51,7 @@ fn edit_here(
     requires whole { AreRowsOf rows.old schema.now }
     requires free { due_in (unplaced_table schema.now rows.old) [] (edit_of change) ≡ None }
     ensures whole { AreRowsOf rows.new schema.now }
-    ensures ok { OnOk result (unplaced_table schema.now rows.new ≡ edited_here (edit_of change) (unplaced_table schema.now rows.old)) }
+    ensures ok { OnOk result (unplaced_table schema.now rows.new ≡ edited_here (edit_of change.entry) (unplaced_table schema.now rows.old)) }
     ensures err { OnErr result (rows.new ≡ rows.old) }
 {
     match change {

@@ -1,5 +1,5 @@
 //! Views by name.
-ghost use Rattle.std.specs.Prelude.{◌≡◌, ◌↔◌, ◌<◌, ◌≤◌, [], length, map, position, IsSome, IfOk, OnOk, OnErr, ◌⊎◌, None, Some, Err};
+ghost use Rattle.std.specs.Prelude.{◌≡◌, ◌↔◌, ◌<◌, ◌≤◌, [], ◌∷◌, ◌++◌, length, map, position, IsSome, IfOk, OnOk, OnErr, ◌⊎◌, None, Some, Err};
 ghost use Rattle.mk_value.specs.Data.{AreRowsOf};
 ghost use Rattle.mk_value.specs.Limits.{max_rows};
 ghost use Rattle.mk_value.specs.Names.{same_bytes};
@@ -13,7 +13,7 @@ ghost use Rattle.view_store.specs.declared.error.EditError.TheVariants as edit_e
 
 use crate::change::Change;
 use crate::{EditError, Shared, Table, share};
-use mk_value::{Memory, Name, Path, Row, Sequence, TableRead, Value};
+use mk_value::{Memory, Name, Path, Row, Sequence, Value};
 use std::alloc::Global;
 use std::marker::Model;
 
@@ -132,14 +132,14 @@ impl Root {
         ensures err { OnErr result (self.new ≡ self.old) }
         ensures rests { MayReplace table (table_of self.old name.now) → ViewsRestOn self.new self.old }
     {
-        let _size = table.size();
+        let _properties = table.schema.len();
         let _name = name.as_bytes();
-        match self.find(name) {
+        match place_in(&self.names, name) {
             Some(at) => {
                 self.tables[at] = table;
                 Ok(())
             }
-            None => self.add(name, table),
+            None => push_view(&mut self.names, &mut self.tables, name, table),
         }
     }
 
@@ -155,7 +155,7 @@ impl Root {
         ensures err { OnErr result (self.new ≡ self.old) }
         ensures rests { ViewsRestOn self.new self.old }
     {
-        let Some(at) = self.find(name) else {
+        let Some(at) = place_in(&self.names, name) else {
             return Err(EditError::NoView);
         };
         let _name = self.names.remove(at);
@@ -173,7 +173,7 @@ impl Root {
         ensures due { AnswersDue (look_due self.now path.now) result }
         ensures ok { IfOk result (λ shared. view_at self.now path.now ≡ Some shared) }
     {
-        let Some(at) = self.find(path.name()) else {
+        let Some(at) = place_in(&self.names, path.name()) else {
             return Err(EditError::NoView);
         };
         let table = self.tables[at].look(path.steps())?;
@@ -200,37 +200,50 @@ impl Root {
         Ok(Root { names, tables })
     }
 
-    /// The place of the view of a name.
-    fn find(&self, name: &Name) -> Option<usize>
-        ensures { result ≡ position (λ v. same_bytes v.name name.now) self.now }
-    {
-        self.names
-            .as_slice()
-            .iter()
-            .position(|known| known.as_bytes() == name.as_bytes())
-    }
-
-    /// Adds a view last.
-    fn add(&mut self, name: &Name, table: Table) -> Result<(), Memory>
-        ensures { OnErr result (self.new ≡ self.old) }
-    {
-        self.tables.push(table)?;
-        Ok(())
-    }
-
     /// Edits the view that the path names.
     fn edit(&mut self, path: &Path, change: Change<'_>) -> Result<(), EditError>
         requires { FitsSizes change }
-        ensures due { AnswersDue (due self.old path.now (edit_of change)) result }
-        ensures ok { OnOk result (self.new ≡ edited_views self.old path.now (edit_of change)) }
+        ensures due { AnswersDue (due self.old path.now (edit_of change.entry)) result }
+        ensures ok { OnOk result (self.new ≡ edited_views self.old path.now (edit_of change.entry)) }
         ensures err { OnErr result (self.new ≡ self.old) }
         ensures rests { ViewsRestOn self.new self.old }
     {
-        let Some(at) = self.find(path.name()) else {
+        let Some(at) = place_in(&self.names, path.name()) else {
             return Err(EditError::NoView);
         };
         let alloc = *self.tables.allocator();
         let table = &mut self.tables[at];
         table.edit(alloc, path.steps(), change)
     }
+}
+
+/// The place of a name among names.
+fn place_in(names: &Names, name: &Name) -> Option<usize>
+    ensures { result ≡ position (λ known. same_bytes known name.now) names.now }
+{
+    names
+        .as_slice()
+        .iter()
+        .position(|known| known.as_bytes() == name.as_bytes())
+}
+
+/// Adds a name and its table last.
+fn push_view(
+    names: &mut Names,
+    tables: &mut Vec<Table>,
+    name: &Name,
+    table: Table,
+) -> Result<(), Memory>
+    ensures names { OnOk result (names.new ≡ names.old ++ name.now ∷ []) }
+    ensures tables { OnOk result (tables.new.items ≡ tables.old.items ++ table ∷ []) }
+    ensures err_names { OnErr result (names.new ≡ names.old) }
+    ensures err_tables { OnErr result (tables.new.items ≡ tables.old.items) }
+{
+    let name = name.copy()?;
+    tables.push(table)?;
+    if let Err(error) = names.push(name) {
+        let _table = tables.pop();
+        return Err(error);
+    }
+    Ok(())
 }

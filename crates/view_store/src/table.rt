@@ -4,7 +4,7 @@ ghost use Rattle.mk_value.specs.Data.{AreRowsOf};
 ghost use Rattle.view_store.specs.Changes.{FitsSizes, edit_of};
 ghost use Rattle.view_store.specs.Edits.{edited, table_at};
 ghost use Rattle.view_store.specs.Refusals.{AnswersDue, due_in, look_due_in};
-ghost use Rattle.view_store.specs.Tables.{IsTable, unplaced_table};
+ghost use Rattle.view_store.specs.Tables.{IsTable, IsUnplaced, unplaced_table};
 
 use crate::EditError;
 use crate::change::Change;
@@ -19,8 +19,8 @@ use std::marker::Model;
 /// A table: a schema, rows, and a home for each column.
 #[derive(Debug, Drop)]
 pub struct Table {
-    schema: Schema,
-    rows: Rows,
+    pub(crate) schema: Schema,
+    pub(crate) rows: Rows,
 }
 
 impl Model for Table {
@@ -68,10 +68,11 @@ impl Table {
         change: Change<'_>,
     ) -> Result<(), EditError>
         requires { FitsSizes change }
-        ensures due { AnswersDue (due_in self.old steps.now (edit_of change)) result }
-        ensures ok { OnOk result (self.new ≡ edited steps.now (edit_of change) self.old) }
+        ensures due { AnswersDue (due_in self.old steps.now (edit_of change.entry)) result }
+        ensures ok { OnOk result (self.new ≡ edited steps.now (edit_of change.entry) self.old) }
         ensures err { OnErr result (self.new ≡ self.old) }
         ensures whole { IsTable self.new }
+        ensures plain { IsUnplaced self.new }
     {
         check(&self.schema, &self.rows, steps, change)?;
         edit(alloc, &mut self.rows, &self.schema, steps, change)?;
