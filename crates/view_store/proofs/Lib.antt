@@ -1,3 +1,5 @@
+pub mod Editing
+pub mod Fitting
 pub mod Lists
 pub mod Named
 pub mod Resting
