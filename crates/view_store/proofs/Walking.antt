@@ -11,6 +11,9 @@ use Rattle.mk_value.specs.Heading.{Domain, Heading, Attribute, attributes_of, he
 use Rattle.mk_value.specs.Names.{same_bytes}
 use Rattle.mk_value.specs.Data.{Datum, integer, cell, IsOf, IsRowOf, AreRowsOf}
 use Rattle.mk_value.specs.Values.{datum_of}
+use Rattle.mk_value.specs.Kinds.{domain_of}
+use Rattle.mk_value.specs.declared.schema.Kind.{Kind}
+use Rattle.mk_value.specs.declared.schema.Schema.{Schema}
 use Rattle.mk_value.specs.declared.value.Value.{Value}
 use Rattle.mk_value.specs.declared.value.Rows.{Rows}
 use Rattle.mk_value.proofs.Relations.{row_fits_length, rows_of-relation_of, IsOf-relation}
@@ -58,6 +61,24 @@ domain_read schema k a d p e f =
 
 pub place_within : (schema : List Attribute) (name : List ℕ) (k : ℕ) → find schema name ≡ Some k → k < length schema
 place_within schema name k e = (position-Some (λ a. same_bytes a.name name) schema k (record { name = []; domain = Domain.integer }) e).0
+
+-- the property of a name stands at a place of the schema, and is a view of the inner schema
+pub record IsViewAt (schema : List Attribute) (name : List ℕ) (k : ℕ) (inner : List Attribute) : Type 0 where
+  pub found : find schema name ≡ Some k
+  pub within : k < length schema
+  pub view : domain_at schema k ≡ Domain.relation (heading_of inner)
+
+-- that is so of one that was looked up by its text and read
+pub view_read : (schema props : List Attribute) (name text : List ℕ) (o : Option ℕ) (k : ℕ) (a : Attribute) (kind : Kind) (inner : Schema) → text ≡ name → o ≡ find schema text → o ≡ Some k
+    → props ≡ schema → a ≡ get_or props k a → domain_of kind ≡ a.domain → kind ≡ Kind.V inner → IsViewAt schema name k inner
+view_read schema props name text o k a kind inner e f g h i j l =
+    let found : find schema name ≡ Some k = ap (λ n. find schema n) (sym e) ∙ sym f ∙ g in
+    let within = place_within schema name k found in
+    record {
+      found = found;
+      within = within;
+      view = domain_read schema k a (domain_of kind) within (i ∙ ap (λ s. get_or s k a) h) j ∙ ap domain_of l;
+    }
 
 -- each row has a value for each property, of its domain
 pub row_long : (rows : List (List Datum)) (schema : List Attribute) (i : ℕ) → AreRowsOf rows schema → i < length rows → length (get_or rows i []) ≡ length schema
