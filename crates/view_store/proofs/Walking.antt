@@ -1,6 +1,6 @@
 -- What is known along a path that no refusal ends, and one step of the walks.
 use Rattle.std.proofs.Common.{◌≡◌, ℕ, zero, suc, ◌+◌, ◌<◌, ◌≤◌, Bool, true, false, cond, ltb, List, [], ◌∷◌, length, get_or, Option, Some, None, Result, Ok, Err, MatchResult, unwrap_or, refl, ap, sym, subst, ◌∙◌, pos, arith}
-use Rattle.std.specs.Prelude.{IsOk}
+use Rattle.std.specs.Prelude.{IfOk, IsOk}
 use Rattle.std.specs.Option.{option_or}
 use Rattle.std.proofs.lemmas.Option.{none-some, same_Some}
 use Rattle.std.proofs.lemmas.List.Quantifiers.{position-Some}
@@ -19,12 +19,13 @@ use Rattle.mk_value.specs.declared.value.Rows.{Rows}
 use Rattle.mk_value.proofs.Relations.{row_fits_length, rows_of-relation_of, IsOf-relation}
 use Rattle.mk_value.proofs.Walks.{same_default}
 use Rattle.mk_value.specs.Tables.{domain_at}
-use Rattle.mk_value.proofs.Headings.{attributes_of-heading_of}
+use Rattle.mk_value.proofs.Headings.{attributes_of-heading_of, heading_of-attributes_of}
 use Rattle.view_store.specs.declared.error.EditError.{EditError}
 use Rattle.view_store.specs.declared.error.EditError.TheVariants.{NoProp, WrongKind, OutOfRange}
 use Rattle.view_store.specs.Homes.{rows_in}
-use Rattle.view_store.specs.Tables.{place_of, inner_schema}
-use Rattle.view_store.specs.Edits.{Edit}
+use Rattle.view_store.specs.Tables.{place_of, inner_schema, inner_table, unplaced_table}
+use Rattle.view_store.specs.Edits.{Edit, table_at}
+use Rattle.view_store.proofs.Unplaced.{inner_table-unplaced}
 use Rattle.view_store.specs.Refusals.{in_view, in_property, schema_at, rows_at, or_at_end, kind_refusal, range_refusal}
 
 -- one step further in the schema: the property is there and is a view of the inner schema
@@ -147,3 +148,28 @@ same_answer (Err x) f a b e h = e ∙ h
 
 pub IsOk-same : {X E : Type 0} (a b : Result X E) → a ≡ b → IsOk a → IsOk b
 IsOk-same a b e h = subst IsOk e h
+
+pub IfOk-same : {X Y E : Type 0} (result : Result Y E) (a b : Result X E) (P : Y → X → Type 0) → a ≡ b → IfOk result (λ y. IfOk b (P y)) → IfOk result (λ y. IfOk a (P y))
+IfOk-same result a b P e h = subst (λ r. IfOk result (λ y. IfOk r (P y))) (sym e) h
+
+below_from : (b : Bool) (x : Result (List (List Datum)) EditError) (e : EditError) (found : List (List Datum)) → cond b x (Err e) ≡ Ok found → b ≡ true
+below_from true x e found h = refl
+below_from false x e found h = absurd (let f : ◌≡◌ {A = Result (List (List Datum)) EditError} (Err e) (Ok found) = h in cc)
+
+-- the table to which steps lead, where no column has a home
+pub table_at-unplaced : (steps : List Step) (schema target : List Attribute) (rows found : List (List Datum)) → schema_at steps schema ≡ Ok target → rows_at steps schema rows ≡ Ok found
+    → table_at steps (unplaced_table schema rows) ≡ unplaced_table target found
+table_at-unplaced [] schema target rows found e f =
+    let s : schema ≡ target = let g : ◌≡◌ {A = Result (List Attribute) EditError} (Ok schema) (Ok target) = e in cc in
+    let r : rows ≡ found = let g : ◌≡◌ {A = Result (List (List Datum)) EditError} (Ok rows) (Ok found) = f in cc in
+    ap (λ x. unplaced_table x rows) s ∙ ap (λ x. unplaced_table target x) r
+table_at-unplaced (s ∷ steps) schema target rows found e f =
+    let step = goes_through schema s steps (subst IsOk (sym e) refl) in
+    let k = step.place in
+    let inner = attributes_of step.inner in
+    let view : domain_at schema k ≡ Domain.relation (heading_of inner) = step.view ∙ ap Domain.relation (sym (heading_of-attributes_of step.inner)) in
+    let p : s.row < length rows = (Decides-ltb s.row (length rows)).0 (below_from (ltb s.row (length rows)) _ _ found f) in
+    ap (λ j. table_at steps (inner_table (unplaced_table schema rows) s.row j)) (place_of-found schema s.prop k step.found)
+    ∙ ap (λ t. table_at steps t) (inner_table-unplaced schema inner rows s.row k p step.within view)
+    ∙ table_at-unplaced steps inner target (rows_in (cell rows s.row k)) found (sym (schema_at-step s steps schema inner k step.found view) ∙ e)
+    (sym (rows_at-step s steps schema inner rows k step.found view p) ∙ f)

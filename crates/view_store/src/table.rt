@@ -74,6 +74,7 @@ impl Table {
         ensures whole { IsTable self.new }
         ensures plain { IsUnplaced self.new }
     {
+        let _properties = self.schema.len();
         check(&self.schema, &self.rows, steps, change)?;
         edit(alloc, &mut self.rows, &self.schema, steps, change)?;
         Ok(())

@@ -1,5 +1,5 @@
 //! The ways along the steps of a path.
-ghost use Rattle.std.specs.Prelude.{◌≡◌, ◌<◌, [], length, slice_index_or, Ok, Err, MatchResult, IsOk};
+ghost use Rattle.std.specs.Prelude.{◌≡◌, ◌<◌, [], length, slice_index_or, Ok, Err, IfOk, MatchResult, IsOk};
 ghost use Rattle.mk_value.specs.Data.{AreRowsOf, cell, rows_of};
 ghost use Rattle.mk_value.specs.Values.{datum_of};
 ghost use Rattle.view_store.specs.Homes.{rows_in};
@@ -43,7 +43,8 @@ pub(crate) fn find_rows<'a>(
 ) -> Result<&'a Rows, EditError>
     requires whole { AreRowsOf rows.now schema.now }
     requires named { IsOk (schema_at steps.now schema.now) }
-    ensures { MatchResult result (λ found. rows_at steps.now schema.now rows.now ≡ Ok found.now) (λ e. rows_at steps.now schema.now rows.now ≡ Err e) }
+    ensures value { MatchResult result (λ found. rows_at steps.now schema.now rows.now ≡ Ok found.now) (λ e. rows_at steps.now schema.now rows.now ≡ Err e) }
+    ensures whole { IfOk result (λ found. IfOk (schema_at steps.now schema.now) (AreRowsOf found.now)) }
 {
     let Some((step, rest)) = steps.split_first() else {
         return Ok(rows);

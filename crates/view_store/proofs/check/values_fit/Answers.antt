@@ -1,5 +1,6 @@
 use Rattle.std.proofs.Common.{◌≡◌, ◌+◌, ◌&&◌, false, length, map, drop, get_or, ap, sym, ◌∙◌, arith}
-use Rattle.mk_value.specs.Heading.{Domain, Attribute}
+use Rattle.std.proofs.lemmas.List.{length-map}
+use Rattle.mk_value.specs.Heading.{Attribute}
 use Rattle.mk_value.specs.Kinds.{domain_of}
 use Rattle.mk_value.specs.Values.{datum_of}
 use Rattle.mk_value.proofs.Walks.{drop_read, drop_map_read}
@@ -9,6 +10,9 @@ use Rattle.view_store.proofs.check.values_fit.Goals as goal
 
 pub returns-then-not-fits : goal.returns-then-not-fits
 returns-then-not-fits c =
+    let values = ap length c.as_slice-values.ensures in
+    let properties = ap length c.as_slice-props.ensures.value in
+    let long = length-map c.as_slice-values.result.now datum_of in
     let rest = are_of (drop (c.loop-at.at + 1) (map datum_of c.as_slice-values.result.now)) (drop (c.loop-at.at + 1) c.as_slice-props.result.now) in
     let more = are_of-more _ _ c.loop-at.at (datum_of c.index-values-at.result) c.index-props-at.result
     (drop_map_read datum_of _ _ _ c.loop-at-test.true c.index-values-at.is) (drop_read c.as_slice-props.result.now c.loop-at.at _ (omega arith) c.index-props-at.is) in
@@ -20,6 +24,9 @@ returns-then-not-fits c =
 
 pub loop-at-preserved : goal.loop-at-preserved
 loop-at-preserved c =
+    let values = ap length c.as_slice-values.ensures in
+    let properties = ap length c.as_slice-props.ensures.value in
+    let long = length-map c.as_slice-values.result.now datum_of in
     let rest = are_of (drop (c.loop-at.at + 1) (map datum_of c.as_slice-values.result.now)) (drop (c.loop-at.at + 1) c.as_slice-props.result.now) in
     let more = are_of-more _ _ c.loop-at.at (datum_of c.index-values-at.result) c.index-props-at.result
     (drop_map_read datum_of _ _ _ c.loop-at-test.true c.index-values-at.is) (drop_read c.as_slice-props.result.now c.loop-at.at _ (omega arith) c.index-props-at.is) in
