@@ -1,6 +1,6 @@
 -- An edit that nothing refuses: what is known of it, and what it leaves.
 use Rattle.std.proofs.Common.{◌≡◌, ℕ, zero, suc, ◌+◌, ◌-◌, ◌<◌, ◌≤◌, Bool, true, false, cond, ltb, List, [], ◌∷◌, ◌++◌, length, get_or, set, take, drop, map, replicate, pos, Option, Some, None, Result, Ok, Err, OnOk, OnErr, All, min, refl, ap, sym, subst, ◌∙◌, arith}
-use Rattle.std.specs.Prelude.{IsOk}
+use Rattle.std.specs.Prelude.{IfOk, IsOk}
 use Rattle.std.specs.Option.{option_or}
 use Rattle.std.proofs.lemmas.Bool.{false≢true}
 use Rattle.std.proofs.lemmas.Bool.Decides.{nat_tests}
@@ -199,3 +199,7 @@ OnOk-then (Err x) h f = tt
 pub OnErr-then : {T E P Q : Type 0} (r : Result T E) → OnErr r P → (P → Q) → OnErr r Q
 OnErr-then (Ok x) h f = tt
 OnErr-then (Err x) h f = f h
+
+pub IfOk-then : {T E : Type 0} {P Q : T → Type 0} (r : Result T E) → IfOk r P → ((x : T) → P x → Q x) → IfOk r Q
+IfOk-then (Ok x) h f = f x h
+IfOk-then (Err x) h f = tt

@@ -1,6 +1,7 @@
 -- Roots of plain rows: what each call leaves of one.
 use Rattle.std.proofs.Common.{◌≡◌, ◌≢◌, ℕ, zero, suc, ◌+◌, ◌<◌, ◌≤◌, Bool, true, false, List, [], ◌∷◌, ◌++◌, length, get_or, set, take, drop, map, Option, Some, None, Result, Ok, Err, OnOk, OnErr, All, ⊎_elim, refl, ap, sym, subst, ◌∙◌, arith}
 use Rattle.std.specs.Prelude.{remove, IsSome, ◌⊎◌}
+use Rattle.std.specs.Option.{option_map}
 use Rattle.std.specs.List.{AllPairs}
 use Rattle.std.specs.Cmp.Lexicographic.{bytes_decides}
 use Rattle.std.proofs.lemmas.Bool.{false≢true}
@@ -17,8 +18,8 @@ use Rattle.view_store.specs.declared.error.EditError.{EditError}
 use Rattle.view_store.specs.declared.error.EditError.TheVariants.{NoView}
 use Rattle.view_store.specs.Refusals.{AnswersDue, at_view, due, due_in, look_due, look_due_in}
 use Rattle.view_store.specs.Tables.{Placed, IsTable, IsUnplaced, unplaced_table}
-use Rattle.view_store.specs.Edits.{Edit, edited}
-use Rattle.view_store.specs.Views.{NamedTable, IsView, AreViews, IsPlainRoot, view_names, named, table_of, with_view, without_view, edited_views, structure_length, max_structure, max_views}
+use Rattle.view_store.specs.Edits.{Edit, edited, table_at}
+use Rattle.view_store.specs.Views.{NamedTable, IsView, AreViews, IsPlainRoot, view_names, named, table_of, with_view, without_view, edited_views, view_at, structure_length, max_structure, max_views}
 use Rattle.view_store.proofs.Named.{IsPlace, IsAbsent, no_view, retabled, table_of-place, table_of-absent, with_view-place, with_view-absent, without_view-place, edited_views-place, view_names-named, length-named, named-set, named-remove, named-push, get_or-named}
 
 -- names with the same bytes are one
@@ -203,3 +204,7 @@ room_for views name e h = ⊎_elim (λ (some : IsSome (table_of views name)). ab
 -- a table of plain rows is whole, and no column of it has a home
 pub plain_whole : (schema : List Attribute) (rows : List (List Datum)) (t : Placed) → unplaced_table schema rows ≡ t → IsHeading schema → AreRowsOf rows schema → IsTable t × IsUnplaced t
 plain_whole schema rows t e heading whole = (subst IsTable e (record { schema = heading; rows = whole }), subst IsUnplaced e refl)
+
+-- the table to which a route leads, from the table of its name
+pub view_at-found : (views : List NamedTable) (route : Route) (t : Placed) → table_of views route.name ≡ Some t → view_at views route ≡ Some (table_at route.steps t)
+view_at-found views route t e = ap (λ o. option_map (λ t. table_at route.steps t) o) e

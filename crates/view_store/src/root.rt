@@ -12,7 +12,7 @@ ghost use Rattle.view_store.specs.Views.{AreViews, edited_views, max_structure, 
 ghost use Rattle.view_store.specs.declared.error.EditError.TheVariants as edit_error;
 
 use crate::change::Change;
-use crate::{EditError, Shared, Table, share};
+use crate::{EditError, Shared, Table};
 use mk_value::{Memory, Name, Path, Row, Sequence, Value};
 use std::alloc::Global;
 use std::marker::Model;
@@ -176,8 +176,7 @@ impl Root {
         let Some(at) = place_in(&self.names, path.name()) else {
             return Err(EditError::NoView);
         };
-        let table = self.tables[at].look(path.steps())?;
-        Ok(share(alloc, table)?)
+        self.tables[at].look(alloc, path.steps())
     }
 
     /// A root of the same names, rows and homes.

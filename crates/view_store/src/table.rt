@@ -6,11 +6,11 @@ ghost use Rattle.view_store.specs.Edits.{edited, table_at};
 ghost use Rattle.view_store.specs.Refusals.{AnswersDue, due_in, look_due_in};
 ghost use Rattle.view_store.specs.Tables.{IsTable, IsUnplaced, unplaced_table};
 
-use crate::EditError;
 use crate::change::Change;
 use crate::check::check;
 use crate::edit::edit;
 use crate::walk::{cell_at, find_rows, find_schema};
+use crate::{EditError, Shared, share};
 use mk_value::{Memory, Rows, Schema, Step, TableRead, Value, cmp_value};
 use std::alloc::Global;
 use std::cmp::Ordering;
@@ -80,14 +80,15 @@ impl Table {
         Ok(())
     }
 
-    /// A copy of the table to which the steps lead.
-    pub(crate) fn look(&self, steps: &[Step]) -> Result<Table, EditError>
+    /// The table to which the steps lead, to be shared.
+    pub(crate) fn look(&self, alloc: Global, steps: &[Step]) -> Result<Shared, EditError>
         ensures due { AnswersDue (look_due_in self.now steps.now) result }
-        ensures ok { IfOk result (λ table. table ≡ table_at steps.now self.now) }
+        ensures ok { IfOk result (λ shared. shared ≡ table_at steps.now self.now) }
     {
         let schema = find_schema(&self.schema, steps)?;
         let rows = find_rows(&self.rows, &self.schema, steps)?;
-        Ok(from_rows(schema.copy()?, rows.copy()?)?)
+        let table = from_rows(schema.copy()?, rows.copy()?)?;
+        Ok(share(alloc, table)?)
     }
 
     /// An equal table, which has memory of its own.

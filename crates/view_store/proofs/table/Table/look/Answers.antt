@@ -14,7 +14,7 @@ from_rows-requires c =
 
 pub returns-clause-ok : goal.returns-clause-ok
 returns-clause-ok c =
-    c.in_ok-from_rows.ensures
+    c.in_ok-share.ensures ∙ c.in_ok-table.ensures
     ∙ ap (λ schema. unplaced_table schema c.in_ok-copy-2.field-0) c.in_ok-copy.ensures
     ∙ ap (λ rows. unplaced_table c.in_ok-schema.schema.now rows) c.in_ok-copy-2.ensures
     ∙ sym (table_at-unplaced c.args.steps.now c.self.inside.schema c.in_ok-schema.schema.now c.self.inside.rows c.in_ok-rows.rows.now c.in_ok-schema.ensures c.in_ok-rows.ensures.value)
