@@ -1,6 +1,6 @@
 -- The values of a table by row and column.
-use Rattle.std.proofs.Common.{◌≡◌, ℕ, ◌<◌, ◌≤◌, List, [], length, get_or, map, pos, ap, sym, subst, ◌∙◌, arith}
-use Rattle.std.proofs.lemmas.List.{length-map, get_or-map}
+use Rattle.std.proofs.Common.{◌≡◌, ℕ, ◌<◌, List, [], length, get_or, map, pos, ap, sym, subst, ◌∙◌, arith}
+use Rattle.std.proofs.lemmas.List.{length-map}
 use Rattle.mk_value.specs.Heading.{Attribute}
 use Rattle.mk_value.specs.Data.{Datum, integer, AreRowsOf, IsRowOf, cell}
 use Rattle.mk_value.specs.Values.{datum_of}

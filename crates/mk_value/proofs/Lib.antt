@@ -1,5 +1,9 @@
+pub mod Appending
 pub mod Cells
+pub mod Converting
+pub mod Escapes
 pub mod Headings
 pub mod Names
+pub mod Printed
 pub mod Relations
 pub mod Walks

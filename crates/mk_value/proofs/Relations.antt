@@ -1,9 +1,8 @@
 -- Rows as lists and as plain data: each form gives back the other, fits where the other fits, and what is inside is smaller.
-use Rattle.std.proofs.Common.{◌≡◌, ◌↔◌, ℕ, zero, suc, ◌+◌, ◌<◌, ◌≤◌, List, [], ◌∷◌, length, get_or, drop, map, All, refl, ap, sym, subst, ◌∙◌, arith, ◌⊎◌}
-use Rattle.std.specs.List.{AllZip}
+use Rattle.std.proofs.Common.{◌≡◌, ◌↔◌, ℕ, zero, suc, ◌+◌, ◌<◌, ◌≤◌, List, [], ◌∷◌, length, get_or, drop, All, refl, ap, sym, ◌∙◌, arith}
 use Rattle.std.proofs.lemmas.List.Elements.{All-cons, All-head, All-tail}
-use Rattle.mk_value.specs.Heading.{Domain, Attribute, attributes_of, heading_of}
-use Rattle.mk_value.specs.Data.{Datum, Tuple, no_values, value, Relation, no_tuples, tuple, values_of, tuple_of, rows_of, relation_of, IsOf, IsTupleOf, AreTuplesOf, IsRowOf, AreRowsOf, datum_weight, tuple_weight, relation_weight, row_weight, rows_weight}
+use Rattle.mk_value.specs.Heading.{Domain, Attribute, heading_of}
+use Rattle.mk_value.specs.Data.{Datum, values_of, tuple_of, rows_of, relation_of, IsOf, IsTupleOf, AreTuplesOf, IsRowOf, AreRowsOf, datum_weight, tuple_weight, relation_weight, row_weight, rows_weight}
 
 pub values_of-tuple_of : (row : List Datum) → values_of (tuple_of row) ≡ row
 values_of-tuple_of [] = refl

@@ -1,5 +1,6 @@
 -- What is left of a list before and after one of its elements was read: for loops that go over a list by its places.
-use Rattle.std.proofs.Common.{◌≡◌, ℕ, zero, suc, ◌+◌, ◌<◌, ◌≤◌, List, [], ◌∷◌, length, get_or, drop, map, refl, ap, sym, ◌∙◌, arith, drop-cons, add-one}
+use Rattle.std.proofs.Common.{◌≡◌, ℕ, zero, suc, ◌+◌, ◌<◌, ◌≤◌, List, [], ◌∷◌, length, get_or, drop, map, refl, ap, sym, ◌∙◌, arith, drop-cons, add-one, Some, None}
+use Rattle.std.specs.List.{slice_get}
 use Rattle.std.proofs.lemmas.List.{length-map, get_or-map}
 
 pub drop_read : {X : Type 0} (xs : List X) (i : ℕ) (x : X) → i < length xs → x ≡ get_or xs i x → drop i xs ≡ x ∷ drop (i + 1) xs
@@ -18,3 +19,13 @@ pub same_default : {X : Type 0} (xs : List X) (i : ℕ) (d e : X) → i < length
 same_default [] i d e p = absurd (omega arith)
 same_default (x ∷ xs) zero d e p = refl
 same_default (x ∷ xs) (suc i) d e p = same_default xs i d e (omega arith)
+
+pub slice_map_read : {X Y : Type 0} (f : X → Y) (xs : List X) (i : ℕ) (x : X) → i < length xs → x ≡ get_or xs i x → slice_get (map f xs) i ≡ Some (f x)
+slice_map_read f [] i x p e = absurd (omega arith)
+slice_map_read f (y ∷ ys) zero x p e = ap (λ z. Some (f z)) (sym e)
+slice_map_read f (y ∷ ys) (suc i) x p e = slice_map_read f ys i x (omega arith) e
+
+pub slice_map_past : {X Y : Type 0} (f : X → Y) (xs : List X) (i : ℕ) → length xs ≤ i → slice_get (map f xs) i ≡ None
+slice_map_past f [] i p = refl
+slice_map_past f (y ∷ ys) zero p = absurd (omega arith)
+slice_map_past f (y ∷ ys) (suc i) p = slice_map_past f ys i (omega arith)

@@ -1,8 +1,8 @@
 -- Values and rows are coded as trees, so that a proof can tell two of them apart.
-use Rattle.std.specs.Prelude.{◌≡◌, ℕ, zero, suc, ℤ, pos, negsuc, List, [], ◌∷◌, refl}
+use Rattle.std.specs.Prelude.{◌≡◌, ℕ, zero, suc, pos, negsuc, List, [], ◌∷◌, refl}
 use Rattle.std.specs.Coded.{Coded, code_by, coded_list}
 use Rattle.std.proofs.Common.{ap, ◌∙◌}
-use Rattle.mk_value.specs.Tree.{Tree, leaf, node, numbers_of, tree_code}
+use Rattle.mk_value.specs.Tree.{Tree, leaf, node, tree_code}
 use Rattle.mk_value.specs.Data.{Datum, integer, long, text, bytes, relation, Tuple, no_values, value, Relation, no_tuples, tuple}
 
 abbrev mutual

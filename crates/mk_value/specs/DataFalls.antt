@@ -1,5 +1,5 @@
 -- Each row of a view inside another is smaller, so that going down into them ends.
-use Rattle.std.specs.Prelude.{◌≡◌, ℕ, ◌+◌, ◌≤◌, List, [], ◌∷◌, map, refl}
+use Rattle.std.specs.Prelude.{◌≡◌, ◌+◌, ◌≤◌, List, [], ◌∷◌, map, refl}
 use Rattle.std.proofs.Common.{arith}
 use denote.Param.Weighed.{most}
 use Rattle.mk_value.specs.Data.{Datum, tuple_of, relation_of, datum_weight, tuple_weight, relation_weight, row_weight, rows_weight}

@@ -54,11 +54,15 @@ abbrev mutual
 abbrev pub depth_of : List Attribute → ℕ
 depth_of attributes = heading_depth (heading_of attributes) + 1
 
+-- no two properties have one name
+abbrev pub HaveDistinctNames : List Attribute → Type 0
+HaveDistinctNames attributes = AllPairs (λ a b. a.name ≢ b.name) attributes
+
 -- the limits of one schema: 1 to 64 properties, distinct names, at most 8 deep
 pub record IsWithinLimits (attributes : List Attribute) : Type 0 where
   pub some : 0 < length attributes
   pub few : length attributes ≤ max_properties
-  pub distinct : AllPairs (λ a b. a.name ≢ b.name) attributes
+  pub distinct : HaveDistinctNames attributes
   pub shallow : depth_of attributes ≤ max_depth
 
 -- each schema inside the domain is whole

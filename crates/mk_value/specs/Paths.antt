@@ -1,5 +1,5 @@
 -- What a contract sees of a path.
-use Rattle.std.specs.Prelude.{◌≡◌, ℕ, List, refl}
+use Rattle.std.specs.Prelude.{ℕ, List, refl}
 use Rattle.std.specs.Coded.{Coded, code_by, coded_ℕ, coded_list, coded×}
 use Rattle.mk_value.specs.declared.path.Step.{Step}
 

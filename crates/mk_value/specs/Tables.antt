@@ -1,8 +1,8 @@
 -- Tables: a schema and rows.
-use Rattle.std.specs.Prelude.{◌≡◌, ℕ, List, [], slice_index_or, refl}
+use Rattle.std.specs.Prelude.{ℕ, List, [], slice_index_or, refl}
 use Rattle.std.specs.Coded.{Coded, code_by, coded×}
 use Rattle.mk_value.specs.Heading.{Domain, Attribute, attributes_code}
-use Rattle.mk_value.specs.Data.{Datum, integer, long, text, bytes, relation}
+use Rattle.mk_value.specs.Data.{Datum, integer, long, text, bytes}
 use Rattle.mk_value.specs.DataCode.{rows_code}
 
 -- a schema and the rows, in order

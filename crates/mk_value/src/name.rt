@@ -1,4 +1,4 @@
-ghost use Rattle.std.specs.Prelude.{◌≡◌, ◌↔◌, ◌∷◌, [], IsTrue, IsOkAnd};
+ghost use Rattle.std.specs.Prelude.{◌≡◌, ◌↔◌, ◌∷◌, [], IsTrue, IsOkAnd, IfSome, IsNone};
 ghost use Rattle.mk_value.specs.Names.{IsName, is_name_byte as name_byte};
 
 use crate::Memory;
@@ -36,6 +36,24 @@ impl Name {
         bytes.len() <= MAX_NAME
             && !first.is_ascii_digit()
             && bytes.iter().all(|byte| is_name_byte(*byte))
+    }
+
+    /// The name that the bytes spell, if they spell one.
+    pub fn from_bytes(bytes: &[u8]) -> Option<Name>
+        ensures some { IfSome result (λ name. (name ≡ bytes.now) × IsName bytes.now) }
+        ensures none { IsNone result ↔ (IsName bytes.now → ⊥) }
+    {
+        let first = bytes.first()?;
+        if bytes.len() > MAX_NAME
+            || first.is_ascii_digit()
+            || !bytes.iter().all(|byte| is_name_byte(*byte))
+        {
+            return None;
+        }
+        let len = bytes.len();
+        let mut held = [0; MAX_NAME];
+        held[..len].copy_from_slice(bytes);
+        Some(Name { bytes: held, len })
     }
 
     /// The name that a text spells. It needs no memory.
@@ -99,7 +117,7 @@ impl PartialEq for Name {
 }
 
 /// Whether a byte may stand in a name.
-fn is_name_byte(byte: u8) -> bool
+pub(crate) fn is_name_byte(byte: u8) -> bool
     ensures { result ≡ name_byte byte }
 {
     byte.is_ascii_alphanumeric() || byte == b'_'

@@ -1,7 +1,10 @@
 ghost use Rattle.std.specs.Prelude.{◌≡◌, ◌↔◌, ◌++◌, ◌∷◌, [], length, All, IsTrue, IfOk, OnOk, OnErr};
-ghost use Rattle.mk_value.specs.Heading.{IsAttribute, IsHeading, IsWithinLimits, depth_of, find};
+ghost use Rattle.std.specs.List.{list_any};
+ghost use Rattle.mk_value.specs.Names.{same_bytes};
+ghost use Rattle.mk_value.specs.Heading.{HaveDistinctNames, IsAttribute, IsHeading, IsWithinLimits, depth_of, find, heading_depth, heading_of};
 
 use crate::Memory;
+use crate::limits::{MAX_DEPTH, MAX_PROPERTIES};
 use crate::name::Name;
 use std::alloc::Global;
 use std::marker::Model;
@@ -195,6 +198,17 @@ impl Props {
         self.items.as_slice()
     }
 
+    /// Whether these are the properties of a schema: 1 to 64, their names distinct, nested at most 8 deep.
+    pub fn are_within_limits(&self) -> bool
+        ensures { IsTrue result ↔ IsWithinLimits self.now }
+    {
+        let props = self.as_slice();
+        !props.is_empty()
+            && props.len() <= MAX_PROPERTIES
+            && are_distinct(props)
+            && depth_inside(props) < MAX_DEPTH
+    }
+
     /// An equal list, which has memory of its own.
     #[cycle(copy)]
     pub fn copy(&self) -> Result<Props, Memory>
@@ -250,11 +264,7 @@ impl Schema {
         ensures value { result ≡ depth_of self.now }
         ensures whole { IsHeading self.now }
     {
-        let mut inside = 0;
-        for prop in self.as_slice() {
-            inside = inside.max(prop.kind.depth());
-        }
-        inside + 1
+        depth_inside(self.as_slice()) + 1
     }
 
     /// Whether two schemas have the same names and kinds, in order.
@@ -284,4 +294,38 @@ impl Schema {
             props: self.props.copy()?,
         })
     }
+}
+
+/// The greatest depth of the kinds of these properties.
+#[cycle(depth)]
+fn depth_inside(props: &[Prop]) -> usize
+    ensures { result ≡ heading_depth (heading_of props.now) }
+{
+    let mut inside = 0;
+    for prop in props {
+        inside = inside.max(prop.kind.depth());
+    }
+    inside
+}
+
+/// Whether no two properties have one name.
+fn are_distinct(props: &[Prop]) -> bool
+    ensures { IsTrue result ↔ HaveDistinctNames props.now }
+{
+    for at in 0..props.len() {
+        let prop = &props[at];
+        if has_name(&props[..at], &prop.name) {
+            return false;
+        }
+    }
+    true
+}
+
+/// Whether a property has this name.
+fn has_name(props: &[Prop], name: &Name) -> bool
+    ensures { result ≡ list_any (λ a. same_bytes a.name name.now) props.now }
+{
+    props
+        .iter()
+        .any(|prop| prop.name.as_bytes() == name.as_bytes())
 }

@@ -1,10 +1,10 @@
 ghost use Rattle.std.specs.Prelude.{◌≡◌, ◌+◌, ◌-◌, ◌≤◌, ◌<◌, ◌++◌, ◌↔◌, [], length, take, IsTrue, IfOk, IsOk, OnOk, OnErr};
 ghost use Rattle.std.specs.String.{string_bytes};
-ghost use Rattle.std.specs.String.Boundary.{IsSplitPoint};
 ghost use Rattle.std.specs.Char.{encode_utf8};
 ghost use Rattle.std.specs.Str.{IsUtf8};
 
 use crate::Memory;
+use itoa::Integer;
 use std::alloc::Global;
 use std::marker::Model;
 
@@ -88,6 +88,17 @@ impl Text {
         Ok(())
     }
 
+    /// Appends an integer in decimal.
+    pub fn push_integer<I: Integer>(&mut self, number: I) -> Result<(), Memory>
+        ensures ok { OnOk result (self.new.bytes ≡ self.old.bytes ++ I.text number) }
+        ensures err { OnErr result (self.new.bytes ≡ self.old.bytes) }
+        ensures roomy { length (I.text number) ≤ self.old.spare → IsOk result }
+        ensures spare { self.old.spare ≤ self.new.spare + length (I.text number) }
+    {
+        let mut digits = itoa::Buffer::new();
+        self.push_str(digits.format(number))
+    }
+
     /// Makes the text empty; what its bytes took is room again.
     pub fn clear(&mut self)
         ensures empty { self.new.bytes ≡ [] }
@@ -96,9 +107,9 @@ impl Text {
         self.string.clear();
     }
 
-    /// Keeps the first `len` bytes; what the others took is room again.
+    /// Keeps the first `len` bytes, which are a text; what the others took is room again.
     pub fn truncate(&mut self, len: usize)
-        requires { len ≤ length self.old.bytes → IsSplitPoint self.old.bytes len }
+        requires { IsUtf8 (take len self.old.bytes) }
         ensures front { self.new.bytes ≡ take len self.old.bytes }
         ensures spare { self.old.spare + (length self.old.bytes - len) ≤ self.new.spare }
     {
@@ -114,7 +125,8 @@ impl Text {
 
     /// The number of bytes.
     pub fn len(&self) -> usize
-        ensures { result ≡ length self.now.bytes }
+        ensures value { result ≡ length self.now.bytes }
+        ensures utf8 { IsUtf8 self.now.bytes }
     {
         self.string.len()
     }

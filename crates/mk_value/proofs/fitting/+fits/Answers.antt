@@ -1,9 +1,8 @@
-use Rattle.std.proofs.Common.{◌≡◌, List, map, length, ap, arith, ◌∙◌, sym, subst, Bool, true, false}
+use Rattle.std.proofs.Common.{◌≡◌, map, length, ap, arith, sym, subst, true, false}
 use Rattle.std.proofs.lemmas.List.{length-map}
-use Rattle.mk_value.specs.Heading.{Domain, Attribute, heading_of}
-use Rattle.mk_value.specs.Data.{Datum, datum_weight, row_weight, rows_weight, IsOf, IsRowOf, relation_of}
+use Rattle.mk_value.specs.Heading.{Attribute}
+use Rattle.mk_value.specs.Data.{datum_weight, row_weight, rows_weight, IsOf}
 use Rattle.mk_value.specs.Values.{datum_of}
-use Rattle.mk_value.specs.Kinds.{domain_of}
 use Rattle.mk_value.proofs.Relations.{IsOf-relation, row_fits_more, row_fits_no, rows_fit_more, row_fits_length, relation_weight-relation_of, row_weight_read, rows_weight_read}
 use Rattle.mk_value.proofs.Walks.{drop_read, drop_map_read, map_read}
 use Rattle.mk_value.proofs.fitting.+fits.Goals as goal

@@ -1,4 +1,4 @@
-use Rattle.std.proofs.Common.{◌≡◌, ◌↔◌, ◌+◌, drop, map, All}
+use Rattle.std.proofs.Common.{◌↔◌, ◌+◌, drop, map, All}
 use Rattle.mk_value.specs.Data.{datum_weight, row_weight, rows_weight, IsRowOf}
 use Rattle.mk_value.specs.Values.{datum_of}
 use Rattle.mk_value.proofs.fitting.+fits.Given as goal

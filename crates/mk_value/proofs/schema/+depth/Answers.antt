@@ -1,5 +1,5 @@
 use Rattle.std.proofs.Common.{ap, arith}
-use Rattle.mk_value.specs.Heading.{Attribute, domain_weight, attributes_weight}
+use Rattle.mk_value.specs.Heading.{Attribute, domain_weight}
 use Rattle.mk_value.specs.Kinds.{domain_of}
 use Rattle.mk_value.proofs.Headings.{heading_weight-heading_of, weight_read}
 use Rattle.mk_value.proofs.schema.+depth.Goals as goal
@@ -9,8 +9,7 @@ Kind::depth-depth-requires t c =
     let seen = ap (λ k. domain_weight (domain_of k)) c.in-V.is in
     (omega (arith, seen, heading_weight-heading_of c.in-V.schema), tt)
 
-pub Schema::depth-depth-requires : goal.Schema::depth-depth-requires
-Schema::depth-depth-requires t c =
+pub depth_inside-depth-requires : goal.depth_inside-depth-requires
+depth_inside-depth-requires t c =
     let kind = ap (λ (a : Attribute). domain_weight a.domain) c.prop.view_is in
-    let whole = ap attributes_weight c.as_slice-prop-items.ensures.value in
-    (omega (arith, kind, whole, weight_read _ _ _ c.loop-prop-test.true c.prop-item.is), tt)
+    (omega (arith, kind, weight_read c.args.props.now c.loop-prop.prop-index c.prop-item.result c.loop-prop-test.true c.prop-item.is), tt)

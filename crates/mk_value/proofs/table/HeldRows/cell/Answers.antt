@@ -1,6 +1,6 @@
-use Rattle.std.proofs.Common.{◌≡◌, ◌+◌, ◌*◌, ◌<◌, List, length, map, ap, sym, subst, ◌∙◌, arith, rules}
+use Rattle.std.proofs.Common.{length, ap, ◌∙◌, arith, rules}
 use Rattle.std.proofs.lemmas.List.{length-map}
-use Rattle.mk_value.specs.Data.{Datum, cell}
+use Rattle.mk_value.specs.Data.{cell}
 use Rattle.mk_value.specs.Tables.{Table}
 use Rattle.mk_value.specs.Values.{datum_of}
 use Rattle.mk_value.proofs.Cells.{column_in, cell_read}
