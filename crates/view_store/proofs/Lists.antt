@@ -1,0 +1,32 @@
+-- Lists put together from parts, element by element.
+use Rattle.std.proofs.Common.{◌≡◌, ℕ, zero, suc, ◌+◌, ◌<◌, ◌≤◌, List, [], ◌∷◌, ◌++◌, length, get_or, set, take, drop, map, replicate, refl, ap, sym, ◌∙◌, arith}
+use Rattle.std.proofs.lemmas.List.{map-append, take-map, drop-map}
+use Rattle.view_store.specs.Edits.{inserted, removed}
+use Rattle.view_store.specs.Homes.{Home, columns_of, column_homes, each_of, row_homes}
+
+pub map-replicate : {X Y : Type 0} (f : X → Y) (n : ℕ) (x : X) → map f (replicate n x) ≡ replicate n (f x)
+map-replicate f zero x = refl
+map-replicate f (suc n) x = ap (λ ys. f x ∷ ys) (map-replicate f n x)
+
+pub map-inserted : {X Y : Type 0} (f : X → Y) (at n : ℕ) (x : X) (xs : List X) → map f (inserted at n x xs) ≡ inserted at n (f x) (map f xs)
+map-inserted f at n x xs =
+    map-append f (take at xs) (replicate n x ++ drop at xs)
+    ∙ ap (λ ys. map f (take at xs) ++ ys) (map-append f (replicate n x) (drop at xs) ∙ ap (λ ys. ys ++ map f (drop at xs)) (map-replicate f n x))
+    ∙ ap (λ ys. ys ++ (replicate n (f x) ++ map f (drop at xs))) (sym (take-map f at xs))
+    ∙ ap (λ ys. take at (map f xs) ++ (replicate n (f x) ++ ys)) (sym (drop-map f at xs))
+
+pub map-removed : {X Y : Type 0} (f : X → Y) (at n : ℕ) (xs : List X) → map f (removed at n xs) ≡ removed at n (map f xs)
+map-removed f at n xs =
+    map-append f (take at xs) (drop (at + n) xs)
+    ∙ ap (λ ys. ys ++ map f (drop (at + n) xs)) (sym (take-map f at xs))
+    ∙ ap (λ ys. take at (map f xs) ++ ys) (sym (drop-map f (at + n) xs))
+
+-- homes as lists and as plain data: each form gives back the other
+pub columns_of-column_homes : (homes : List Home) → columns_of (column_homes homes) ≡ homes
+columns_of-column_homes [] = refl
+columns_of-column_homes (h ∷ rest) = ap (λ hs. h ∷ hs) (columns_of-column_homes rest)
+
+pub each_of-row_homes : (rows : List (List Home)) → each_of (row_homes rows) ≡ rows
+each_of-row_homes [] = refl
+each_of-row_homes (hs ∷ rest) =
+    ap (λ h. h ∷ each_of (row_homes rest)) (columns_of-column_homes hs) ∙ ap (λ rs. hs ∷ rs) (each_of-row_homes rest)

@@ -1,0 +1,92 @@
+-- Views by name: what a contract sees of a root.
+use Rattle.std.specs.Prelude.{◌≡◌, ◌≢◌, ℕ, ◌+◌, ◌≤◌, if◌then◌else◌, List, [], ◌∷◌, length, map, Option, All, AllPairs, find, refl}
+use Rattle.std.specs.Coded.{Coded, code_by, coded_ℕ, coded_list, coded×}
+use Rattle.std.specs.Option.{option_map}
+use Rattle.mk_value.specs.Names.{IsName, same_bytes}
+use Rattle.mk_value.specs.Heading.{Domain, Heading, no_attributes, attribute, Attribute, heading_of}
+use Rattle.mk_value.specs.Paths.{Route}
+use Rattle.view_store.specs.Tables.{Placed, IsTable, IsUnplaced, placed_code}
+use Rattle.view_store.specs.Edits.{Edit, edited, table_at}
+
+-- a view: its name and its table
+pub record NamedTable : Type 0 where
+  pub name : List ℕ
+  pub table : Placed
+
+abbrev pub views_code : Coded (List NamedTable)
+views_code =
+    coded_list (code_by (List ℕ × Placed) (coded× (coded_list coded_ℕ) placed_code) (λ v. (v.name, v.table)) (λ p. record { name = p.0; table = p.1 }) (λ _. refl))
+
+-- the most views of a root, and the most bytes of a structure text
+abbrev pub max_views : ℕ
+max_views = 1_024
+
+abbrev pub max_structure : ℕ
+max_structure = 1_048_576
+
+-- the number of bytes of a structure text: a name, and in brackets the properties, with commas between them.
+-- A plain property is a name, a colon and a letter; a view property is a name and its own properties in brackets.
+abbrev mutual
+  domain_length : Domain → ℕ
+  domain_length (Domain.relation h) = properties_length h
+  domain_length _ = 2
+
+  properties_length : Heading → ℕ
+  properties_length no_attributes = 1
+  properties_length (attribute name e rest) = length name + domain_length e + 1 + properties_length rest
+
+abbrev pub structure_length : List ℕ → List Attribute → ℕ
+structure_length name schema = length name + properties_length (heading_of schema)
+
+-- the names of the views, in order
+abbrev pub view_names : List NamedTable → List (List ℕ)
+view_names views = map (λ v. v.name) views
+
+-- a view that a root may hold
+pub record IsView (v : NamedTable) : Type 0 where
+  pub name : IsName v.name
+  pub table : IsTable v.table
+  pub short : structure_length v.name v.table.schema ≤ max_structure
+
+-- a whole root: at most 1,024 views with distinct names, each whole
+pub record AreViews (views : List NamedTable) : Type 0 where
+  pub few : length views ≤ max_views
+  pub distinct : AllPairs (λ a b. a ≢ b) (view_names views)
+  pub whole : All IsView views
+
+-- the table of a name
+abbrev pub table_of : List NamedTable → List ℕ → Option Placed
+table_of views name = option_map (λ v. v.table) (find (λ v. same_bytes v.name name) views)
+
+-- the table to which a route leads
+abbrev pub view_at : List NamedTable → Route → Option Placed
+view_at views route = option_map (λ t. table_at route.steps t) (table_of views route.name)
+
+-- the views after the one of a name was given another table, or was added last where there is none
+abbrev pub with_view : List NamedTable → List ℕ → Placed → List NamedTable
+with_view [] name t = record { name = name; table = t } ∷ []
+with_view (v ∷ rest) name t =
+    if same_bytes v.name name then record { name = v.name; table = t } ∷ rest else v ∷ with_view rest name t
+
+-- the views without the one of a name
+abbrev pub without_view : List NamedTable → List ℕ → List NamedTable
+without_view [] name = []
+without_view (v ∷ rest) name = if same_bytes v.name name then rest else v ∷ without_view rest name
+
+-- the views after an edit of the rows that the route names; all else is as before
+abbrev pub edited_views : List NamedTable → Route → Edit → List NamedTable
+edited_views [] route edit = []
+edited_views (v ∷ rest) route edit =
+    if same_bytes v.name route.name then record { name = v.name; table = edited route.steps edit v.table } ∷ rest
+    else v ∷ edited_views rest route edit
+
+-- names beside their tables
+abbrev pub named : List (List ℕ) → List Placed → List NamedTable
+named (name ∷ names) (t ∷ rest) = record { name = name; table = t } ∷ named names rest
+named _ _ = []
+
+-- what a root of plain rows keeps: a table for each name, a whole root, and no homes
+pub record IsPlainRoot (names : List (List ℕ)) (tables : List Placed) : Type 0 where
+  pub paired : length names ≡ length tables
+  pub views : AreViews (named names tables)
+  pub plain : All IsUnplaced tables

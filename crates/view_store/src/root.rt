@@ -1,0 +1,248 @@
+//! Views by name.
+ghost use Rattle.std.specs.Prelude.{◌≡◌, ◌↔◌, ◌<◌, ◌≤◌, [], ◌∷◌, ◌++◌, length, map, position, IsSome, IfOk, OnOk, OnErr, ◌⊎◌, None, Some, Err};
+ghost use Rattle.mk_value.specs.Data.{AreRowsOf};
+ghost use Rattle.mk_value.specs.Limits.{max_rows};
+ghost use Rattle.mk_value.specs.Names.{same_bytes};
+ghost use Rattle.mk_value.specs.Values.{datum_of};
+ghost use Rattle.view_store.specs.Changes.{FitsSizes, edit_of};
+ghost use Rattle.view_store.specs.Edits.{Edit, table_at};
+ghost use Rattle.view_store.specs.Refusals.{AnswersDue, due, look_due};
+ghost use Rattle.view_store.specs.Rests.{MayReplace, ViewsRestOn};
+ghost use Rattle.view_store.specs.Views.{AreViews, edited_views, max_structure, max_views, structure_length, table_of, view_at, view_names, with_view, without_view};
+ghost use Rattle.view_store.specs.declared.error.EditError.TheVariants as edit_error;
+
+use crate::change::Change;
+use crate::{EditError, Shared, Table};
+use mk_value::{Memory, Name, Path, Row, Sequence, Value};
+use std::alloc::Global;
+use std::marker::Model;
+
+/// The names of views, in the order in which they were made.
+pub type Names = Sequence<Name>;
+
+/// Views by name, at most 1,024. Each is a table whose structure text has at most 1,048,576 bytes.
+#[derive(Drop)]
+pub struct Root {
+    names: Names,
+    tables: Vec<Table>,
+}
+
+impl Model for Root {
+    ghost use Rattle.std.specs.Prelude.{List};
+    ghost use Rattle.view_store.specs.Views.{IsPlainRoot, NamedTable, named, views_code};
+
+    ghost Value = { List NamedTable };
+
+    ghost coded = { views_code };
+
+    ghost view = { λ r. named r.names r.tables.items };
+
+    ghost invariant = { λ r. IsPlainRoot r.names r.tables.items };
+}
+
+impl Root {
+    /// A root without views.
+    pub fn new(alloc: Global) -> Root
+        ensures { result ≡ [] }
+    {
+        Root {
+            names: Names::new(alloc),
+            tables: Vec::new(alloc),
+        }
+    }
+
+    /// The names of the views, in order.
+    pub fn names(&self) -> &Names
+        ensures names { result.now ≡ view_names self.now }
+        ensures whole { AreViews self.now }
+    {
+        &self.names
+    }
+
+    /// Puts copies of a row, so many times, before the row at a place of the view that the path names. Values that are missing at
+    /// the row's end are defaults. At the end of a view it costs the rows that are put in.
+    ///
+    /// # Errors
+    ///
+    /// The first that is due: `NoView`; `NoProp` where a property of the path is absent or the row has more values than there are
+    /// properties; `WrongKind` where a step goes into no view or a value does not fit; `OutOfRange` with the size there, where a
+    /// row of the path is not there or the place is past the end; `TooMany` with the size after the edit. Else `Memory`.
+    pub fn insert_rows(
+        &mut self,
+        path: &Path,
+        pos: usize,
+        row: &Row,
+        count: usize,
+    ) -> Result<(), EditError>
+        requires { count ≤ max_rows }
+        ensures due { AnswersDue (due self.old path.now (Edit.insert pos row.now count)) result }
+        ensures ok { OnOk result (self.new ≡ edited_views self.old path.now (Edit.insert pos row.now count)) }
+        ensures err { OnErr result (self.new ≡ self.old) }
+        ensures rests { ViewsRestOn self.new self.old }
+    {
+        self.edit(path, Change::Insert(pos, row, count))
+    }
+
+    /// Gives a property of one row of the view that the path names another value.
+    ///
+    /// # Errors
+    ///
+    /// The first that is due: `NoView`; `NoProp` where a property of the path, or the one to be set, is absent; `WrongKind` where
+    /// a step goes into no view or the value does not fit; `OutOfRange` with the size there. Else `Memory`.
+    pub fn set(
+        &mut self,
+        path: &Path,
+        row: usize,
+        prop: &Name,
+        value: &Value,
+    ) -> Result<(), EditError>
+        ensures due { AnswersDue (due self.old path.now (Edit.set row prop.now (datum_of value.now))) result }
+        ensures ok { OnOk result (self.new ≡ edited_views self.old path.now (Edit.set row prop.now (datum_of value.now))) }
+        ensures err { OnErr result (self.new ≡ self.old) }
+        ensures rests { ViewsRestOn self.new self.old }
+    {
+        self.edit(path, Change::Set(row, prop, value))
+    }
+
+    /// Removes so many rows from a place on in the view that the path names.
+    ///
+    /// # Errors
+    ///
+    /// The first that is due: `NoView`; `NoProp` where a property of the path is absent; `WrongKind` where a step goes into no
+    /// view; `OutOfRange` with the size there, where a row of the path is not there or the rows to be removed pass the end.
+    /// Else `Memory`.
+    pub fn remove_rows(&mut self, path: &Path, pos: usize, count: usize) -> Result<(), EditError>
+        ensures due { AnswersDue (due self.old path.now (Edit.remove pos count)) result }
+        ensures ok { OnOk result (self.new ≡ edited_views self.old path.now (Edit.remove pos count)) }
+        ensures err { OnErr result (self.new ≡ self.old) }
+        ensures rests { ViewsRestOn self.new self.old }
+    {
+        self.edit(path, Change::Remove(pos, count))
+    }
+
+    /// Replaces the view of a name in place, or adds it last.
+    ///
+    /// # Errors
+    ///
+    /// `Memory`.
+    pub fn put_view(&mut self, name: &Name, table: Table) -> Result<(), Memory>
+        requires room { IsSome (table_of self.old name.now) ⊎ (length self.old < max_views) }
+        requires short { structure_length name.now table.schema ≤ max_structure }
+        ensures ok { OnOk result (self.new ≡ with_view self.old name.now table) }
+        ensures err { OnErr result (self.new ≡ self.old) }
+        ensures rests { MayReplace table (table_of self.old name.now) → ViewsRestOn self.new self.old }
+    {
+        let _properties = table.schema.len();
+        let _name = name.as_bytes();
+        match place_in(&self.names, name) {
+            Some(at) => {
+                self.tables[at] = table;
+                Ok(())
+            }
+            None => push_view(&mut self.names, &mut self.tables, name, table),
+        }
+    }
+
+    /// Removes the view of a name.
+    ///
+    /// # Errors
+    ///
+    /// `NoView` where there is none.
+    pub fn drop_view(&mut self, name: &Name) -> Result<(), EditError>
+        ensures no_view { (result ≡ Err edit_error.NoView) ↔ (table_of self.old name.now ≡ None) }
+        ensures no_view_alone { OnErr result (result ≡ Err edit_error.NoView) }
+        ensures ok { OnOk result (self.new ≡ without_view self.old name.now) }
+        ensures err { OnErr result (self.new ≡ self.old) }
+        ensures rests { ViewsRestOn self.new self.old }
+    {
+        let Some(at) = place_in(&self.names, name) else {
+            return Err(EditError::NoView);
+        };
+        let _name = self.names.remove(at);
+        let _table = self.tables.remove(at);
+        Ok(())
+    }
+
+    /// The view that the path names, to be shared. Later edits of the root leave it as it is.
+    ///
+    /// # Errors
+    ///
+    /// The first that is due: `NoView`; `NoProp` where a property of the path is absent; `WrongKind` where a step goes into no
+    /// view; `OutOfRange` with the size there, where a row of the path is not there. Else `Memory`.
+    pub fn view(&self, alloc: Global, path: &Path) -> Result<Shared, EditError>
+        ensures due { AnswersDue (look_due self.now path.now) result }
+        ensures ok { IfOk result (λ shared. view_at self.now path.now ≡ Some shared) }
+    {
+        let Some(at) = place_in(&self.names, path.name()) else {
+            return Err(EditError::NoView);
+        };
+        self.tables[at].look(alloc, path.steps())
+    }
+
+    /// A root of the same names, rows and homes.
+    ///
+    /// # Errors
+    ///
+    /// `Memory`.
+    pub fn same(&self) -> Result<Root, Memory>
+        ensures { IfOk result (λ root. root ≡ self.now) }
+    {
+        let alloc = *self.tables.allocator();
+        let mut names = Names::new(alloc);
+        for name in self.names.as_slice() {
+            names.push(name.copy()?)?;
+        }
+        let mut tables = Vec::new(alloc);
+        for table in self.tables.iter() {
+            tables.push(table.copy()?)?;
+        }
+        Ok(Root { names, tables })
+    }
+
+    /// Edits the view that the path names.
+    fn edit(&mut self, path: &Path, change: Change<'_>) -> Result<(), EditError>
+        requires { FitsSizes change }
+        ensures due { AnswersDue (due self.old path.now (edit_of change.entry)) result }
+        ensures ok { OnOk result (self.new ≡ edited_views self.old path.now (edit_of change.entry)) }
+        ensures err { OnErr result (self.new ≡ self.old) }
+        ensures rests { ViewsRestOn self.new self.old }
+    {
+        let Some(at) = place_in(&self.names, path.name()) else {
+            return Err(EditError::NoView);
+        };
+        let alloc = *self.tables.allocator();
+        let table = &mut self.tables[at];
+        table.edit(alloc, path.steps(), change)
+    }
+}
+
+/// The place of a name among names.
+fn place_in(names: &Names, name: &Name) -> Option<usize>
+    ensures { result ≡ position (λ known. same_bytes known name.now) names.now }
+{
+    names
+        .as_slice()
+        .iter()
+        .position(|known| known.as_bytes() == name.as_bytes())
+}
+
+/// Adds a name and its table last.
+fn push_view(
+    names: &mut Names,
+    tables: &mut Vec<Table>,
+    name: &Name,
+    table: Table,
+) -> Result<(), Memory>
+    ensures names { OnOk result (names.new ≡ names.old ++ name.now ∷ []) }
+    ensures tables { OnOk result (tables.new.items ≡ tables.old.items ++ table ∷ []) }
+    ensures err_names { OnErr result (names.new ≡ names.old) }
+    ensures err_tables { OnErr result (tables.new.items ≡ tables.old.items) }
+{
+    let name = name.copy()?;
+    tables.push(table)?;
+    if let Err(error) = names.push(name) {
+        let _table = tables.pop();
+        return Err(error);
+    }
+    Ok(())
+}

@@ -1,0 +1,86 @@
+//! Tables that are shared.
+ghost use Rattle.std.specs.Prelude.{◌≡◌, IfOk};
+
+use crate::Table;
+use mk_value::{Memory, Same, Schema, TableRead, Value};
+use std::alloc::Global;
+use std::cmp::Ordering;
+use std::marker::Model;
+use std::rc::Rc;
+
+/// A table that several hold. None of them changes it: it keeps its rows whatever becomes of the root that it was read from.
+#[derive(Drop)]
+pub struct Shared {
+    table: Rc<Table>,
+}
+
+impl Model for Shared {
+    ghost use Rattle.view_store.specs.Tables.{Placed, placed_code};
+
+    ghost Value = { Placed };
+
+    ghost coded = { placed_code };
+
+    ghost view = { λ s. s.table.value };
+}
+
+/// The table, to be shared. Its homes are kept.
+///
+/// # Errors
+///
+/// `Memory`.
+pub fn share(alloc: Global, table: Table) -> Result<Shared, Memory>
+    ensures { IfOk result (λ shared. shared ≡ table) }
+{
+    Ok(Shared {
+        table: Rc::new(alloc, table)?,
+    })
+}
+
+impl Shared {
+    /// The table that is shared.
+    pub fn table(&self) -> &Table
+        ensures { result.now ≡ self.now }
+    {
+        &self.table
+    }
+}
+
+impl TableRead for Shared {
+    ghost schema = { λ t. t.schema };
+
+    ghost rows = { λ t. t.rows };
+
+    fn schema(&self) -> &Schema {
+        self.table().schema()
+    }
+
+    fn size(&self) -> usize {
+        self.table().size()
+    }
+
+    fn get(&self, row: usize, col: usize) -> Result<Value, Memory> {
+        self.table().get(row, col)
+    }
+
+    fn cmp_cell(&self, row: usize, col: usize, with: &Value) -> Ordering {
+        self.table().cmp_cell(row, col, with)
+    }
+
+    fn cmp_rows(&self, a: usize, b: usize, col: usize) -> Ordering {
+        self.table().cmp_rows(a, b, col)
+    }
+}
+
+impl Same for Shared {
+    /// A table of the same schema, rows and homes, which is the very same in memory. A clone of the `Rc` that is refused is `Memory`.
+    fn same(&self) -> Result<Shared, Memory>
+        ensures schema { IfOk result (λ table. table.schema ≡ self.now.schema) }
+        ensures rows { IfOk result (λ table. table.rows ≡ self.now.rows) }
+        ensures homes { IfOk result (λ table. table.homes ≡ self.now.homes) }
+    {
+        Ok(Shared {
+            table: self.table.clone()?,
+        })
+    }
+}

@@ -1,0 +1,128 @@
+//! Tables in memory.
+ghost use Rattle.std.specs.Prelude.{◌≡◌, ◌≤◌, [], length, IfOk, OnOk, OnErr};
+ghost use Rattle.mk_value.specs.Data.{AreRowsOf};
+ghost use Rattle.view_store.specs.Changes.{FitsSizes, edit_of};
+ghost use Rattle.view_store.specs.Edits.{edited, table_at};
+ghost use Rattle.view_store.specs.Refusals.{AnswersDue, due_in, look_due_in};
+ghost use Rattle.view_store.specs.Tables.{IsTable, IsUnplaced, unplaced_table};
+
+use crate::change::Change;
+use crate::check::check;
+use crate::edit::edit;
+use crate::walk::{cell_at, find_rows, find_schema};
+use crate::{EditError, Shared, share};
+use mk_value::{Memory, Rows, Schema, Step, TableRead, Value, cmp_value};
+use std::alloc::Global;
+use std::cmp::Ordering;
+use std::marker::Model;
+
+/// A table: a schema, rows, and a home for each column.
+#[derive(Debug, Drop)]
+pub struct Table {
+    pub(crate) schema: Schema,
+    pub(crate) rows: Rows,
+}
+
+impl Model for Table {
+    ghost use Rattle.mk_value.specs.Data.{AreRowsOf};
+    ghost use Rattle.view_store.specs.Tables.{Placed, placed_code, unplaced_table};
+
+    ghost Value = { Placed };
+
+    ghost coded = { placed_code };
+
+    ghost view = { λ t. unplaced_table t.schema t.rows };
+
+    ghost invariant = { λ t. AreRowsOf t.rows t.schema };
+}
+
+/// The table of these rows, no column of which has a home.
+///
+/// # Errors
+///
+/// `Memory`.
+pub fn from_rows(schema: Schema, rows: Rows) -> Result<Table, Memory>
+    requires { AreRowsOf rows schema }
+    ensures { IfOk result (λ table. table ≡ unplaced_table schema rows) }
+{
+    Ok(Table { schema, rows })
+}
+
+/// The table of a schema that has no rows.
+///
+/// # Errors
+///
+/// `Memory`.
+pub fn empty_table(alloc: Global, schema: &Schema) -> Result<Table, Memory>
+    ensures { IfOk result (λ table. table ≡ unplaced_table schema.now []) }
+{
+    from_rows(schema.copy()?, Rows::new(alloc))
+}
+
+impl Table {
+    /// Edits the rows to which the steps lead.
+    pub(crate) fn edit(
+        &mut self,
+        alloc: Global,
+        steps: &[Step],
+        change: Change<'_>,
+    ) -> Result<(), EditError>
+        requires { FitsSizes change }
+        ensures due { AnswersDue (due_in self.old steps.now (edit_of change.entry)) result }
+        ensures ok { OnOk result (self.new ≡ edited steps.now (edit_of change.entry) self.old) }
+        ensures err { OnErr result (self.new ≡ self.old) }
+        ensures whole { IsTable self.new }
+        ensures plain { IsUnplaced self.new }
+    {
+        let _properties = self.schema.len();
+        check(&self.schema, &self.rows, steps, change)?;
+        edit(alloc, &mut self.rows, &self.schema, steps, change)?;
+        Ok(())
+    }
+
+    /// The table to which the steps lead, to be shared.
+    pub(crate) fn look(&self, alloc: Global, steps: &[Step]) -> Result<Shared, EditError>
+        ensures due { AnswersDue (look_due_in self.now steps.now) result }
+        ensures ok { IfOk result (λ shared. shared ≡ table_at steps.now self.now) }
+    {
+        let schema = find_schema(&self.schema, steps)?;
+        let rows = find_rows(&self.rows, &self.schema, steps)?;
+        let table = from_rows(schema.copy()?, rows.copy()?)?;
+        Ok(share(alloc, table)?)
+    }
+
+    /// An equal table, which has memory of its own.
+    pub(crate) fn copy(&self) -> Result<Table, Memory>
+        ensures { IfOk result (λ table. table ≡ self.now) }
+    {
+        from_rows(self.schema.copy()?, self.rows.copy()?)
+    }
+}
+
+impl TableRead for Table {
+    ghost schema = { λ t. t.schema };
+
+    ghost rows = { λ t. t.rows };
+
+    fn schema(&self) -> &Schema {
+        let schema = &self.schema;
+        let _len = schema.len();
+        schema
+    }
+
+    fn size(&self) -> usize {
+        self.rows.len()
+    }
+
+    fn get(&self, row: usize, col: usize) -> Result<Value, Memory> {
+        cell_at(&self.rows, row, col).copy()
+    }
+
+    fn cmp_cell(&self, row: usize, col: usize, with: &Value) -> Ordering {
+        cmp_value(cell_at(&self.rows, row, col), with)
+    }
+
+    fn cmp_rows(&self, a: usize, b: usize, col: usize) -> Ordering {
+        cmp_value(cell_at(&self.rows, a, col), cell_at(&self.rows, b, col))
+    }
+}
