@@ -1,13 +1,9 @@
 -- Appending one thing after another.
 use Rattle.std.proofs.Common.{◌≡◌, ℕ, suc, ◌+◌, ◌-◌, ◌<◌, ◌≤◌, List, [], ◌∷◌, ◌++◌, length, take, drop, refl, sym, ◌∙◌, ap, subst, arith, append_assoc, append-nil, length-append, ⊎_elim, add-one, get_or, take-append-drop, OnOk, OnErr, IsOk}
 use Rattle.std.specs.Prelude.{Result, Ok, Err}
-use Rattle.std.proofs.lemmas.Bool.{true≢false, cases_lt, and_parts}
+use Rattle.std.proofs.lemmas.Bool.{true≢false, cases_lt}
 use Rattle.std.proofs.lemmas.Grind.{flat_map-append}
-use Rattle.std.proofs.lemmas.List.{get_or_at, take_more, take_rest, drop_more, length-drop, get_or-drop}
-use Rattle.std.specs.String.Boundary.{IsSplitPoint}
-use Rattle.mk_value.specs.Names.{IsName, is_name_byte}
-use Rattle.mk_value.proofs.Names.{name_byte-lt}
-use Rattle.struct_text.proofs.Unique.{name_begins}
+use Rattle.std.proofs.lemmas.List.{take_more, take_rest, drop_more, length-drop, get_or-drop}
 use Rattle.mk_value.specs.Buffer.{Buffer}
 use Rattle.mk_value.specs.Heading.{Attribute, heading_of}
 use Rattle.struct_text.specs.Bytes.{comma}
@@ -150,12 +146,3 @@ module _ (properties : List Attribute) (n : ℕ) (property : Attribute) (next : 
   cut_at_property {old} {mid} {then} {new} h k c =
       let P : List ℕ → Type 0 = λ s. Cut old new s in
       subst P (sym whole_is) (cut_next h (cut_next k (cut_first (spelled_others (drop (n + 1 + 1) properties)) c)))
-
--- Where a front of a spelling was appended, the text may be cut back to what it was: a name begins with an ASCII byte.
-pub split_point : (old front rest name inside : List ℕ) → IsName name → name ++ inside ≡ front ++ rest → IsSplitPoint (old ++ front) (length old)
-split_point old [] rest name inside h e = (omega (arith, length-append old []), λ pos less big. absurd (omega (arith, length-append old [], less)))
-split_point old (b ∷ front) rest name inside h e =
-    let n = name_begins name h in
-    let heads : n.0 ≡ b = ap (λ (l : List ℕ). get_or l 0 0) (ap (λ w. w ++ inside) (sym n.2) ∙ e) in
-    let small : n.0 < 128 = name_byte-lt n.0 (and_parts (is_name_byte n.0) _ n.3).0 in
-    (omega (arith, length-append old (b ∷ front)), λ pos less big. absurd (omega (arith, big, heads, small, get_or_at old b front 0 (length old) refl)))

@@ -6,7 +6,7 @@ use Rattle.std.proofs.lemmas.List.Quantifiers.{all_pairs_push}
 use Rattle.mk_value.specs.Limits.{max_properties, max_depth}
 use Rattle.mk_value.specs.Names.{is_name_byte}
 use Rattle.mk_value.specs.Heading.{Domain, relation, Attribute, names_of, heading_of, domain_depth, heading_depth, IsWithinLimits, IsHeading}
-use Rattle.mk_value.proofs.Headings.{IsDomain-relation}
+use Rattle.mk_value.proofs.Headings.{view_is_domain}
 use Rattle.struct_text.specs.Bytes.{open_bracket, close_bracket, colon, comma}
 use Rattle.struct_text.specs.Spelling.{spelled_domain, spelled_properties}
 use Rattle.struct_text.specs.declared.error.StructError.{StructError}
@@ -47,7 +47,7 @@ module _ (bytes : List ℕ) (at depth : ℕ) where
         reaches = λ name names outer d. ap (first_flaw (in_name name (names ∷ outer)) at) e
             ∙ over_open name (names ∷ outer) at (drop (at + 1) bytes) (ne_eqb (length (names ∷ outer)) max_depth (λ q. l (omega (arith, q, d))))
             ∙ h.reaches ((names ++ name ∷ []) ∷ outer) (omega (arith, d));
-        whole = IsDomain-relation properties h.whole;
+        whole = view_is_domain properties h.whole;
         shallow = omega (arith, h.shallow);
       }
 
