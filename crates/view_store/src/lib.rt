@@ -15,6 +15,7 @@ mod error;
 mod limits;
 mod root;
 mod shared;
+mod structure;
 mod table;
 mod walk;
 
@@ -22,4 +23,5 @@ pub use error::EditError;
 pub use limits::{MAX_STRUCTURE, MAX_VIEWS};
 pub use root::{Names, Root};
 pub use shared::{Shared, share};
+pub use structure::structure_fits;
 pub use table::{Table, empty_table, from_rows};
