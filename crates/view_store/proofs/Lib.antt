@@ -1,5 +1,6 @@
 pub mod Editing
 pub mod Fitting
+pub mod Lengths
 pub mod Lists
 pub mod Named
 pub mod Resting

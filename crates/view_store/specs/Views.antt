@@ -27,11 +27,11 @@ max_structure = 1_048_576
 -- the number of bytes of a structure text: a name, and in brackets the properties, with commas between them.
 -- A plain property is a name, a colon and a letter; a view property is a name and its own properties in brackets.
 abbrev mutual
-  domain_length : Domain → ℕ
+  pub domain_length : Domain → ℕ
   domain_length (Domain.relation h) = properties_length h
   domain_length _ = 2
 
-  properties_length : Heading → ℕ
+  pub properties_length : Heading → ℕ
   properties_length no_attributes = 1
   properties_length (attribute name e rest) = length name + domain_length e + 1 + properties_length rest
 

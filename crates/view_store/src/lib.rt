@@ -15,11 +15,15 @@ mod error;
 mod limits;
 mod root;
 mod shared;
+mod structure;
 mod table;
+#[cfg(test)]
+mod tests;
 mod walk;
 
 pub use error::EditError;
 pub use limits::{MAX_STRUCTURE, MAX_VIEWS};
 pub use root::{Names, Root};
 pub use shared::{Shared, share};
+pub use structure::structure_fits;
 pub use table::{Table, empty_table, from_rows};

@@ -60,6 +60,16 @@ pub fn empty_table(alloc: Global, schema: &Schema) -> Result<Table, Memory>
 }
 
 impl Table {
+    /// The rows, in order. Tables are kept as plain rows, so no column has a home.
+    pub fn rows(&self) -> &Rows
+        ensures value { result.now ≡ self.now.rows }
+        ensures whole { IsTable self.now }
+        ensures plain { IsUnplaced self.now }
+    {
+        let _properties = self.schema.len();
+        &self.rows
+    }
+
     /// Edits the rows to which the steps lead.
     pub(crate) fn edit(
         &mut self,
