@@ -83,7 +83,7 @@ insert_whole schema rows at n values whole may =
     record {
       few = omega (arith, length-append (take at rows) (replicate n row ++ drop at rows), length-append (replicate n row) (drop at rows), length-take at rows, length-replicate n row, length-drop at rows);
       whole = All-append P (take at rows) (replicate n row ++ drop at rows) (All-take P at rows whole.whole)
-      (All-append P (replicate n row) (drop at rows) (All-replicate P n row (completed_fits values schema may.few_values may.fit)) (All-drop P at rows whole.whole));
+          (All-append P (replicate n row) (drop at rows) (All-replicate P n row (completed_fits values schema may.few_values may.fit)) (All-drop P at rows whole.whole));
     }
 
 pub insert_done : (schema : List Attribute) (rows : List (List Datum)) (at n : ℕ) (values : List Datum)

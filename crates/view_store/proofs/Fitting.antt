@@ -34,10 +34,10 @@ text_fits : (content : List ℕ) → Decides (is_utf8 content && list_all (λ b.
 text_fits content =
     let utf8 : Decides (is_utf8 content) (IsUtf8 content) = (IsUtf8-from_is_utf8 content, is_utf8-from_IsUtf8 content) in
     let no_zero : Decides (list_all (λ b. not (eqb b 0)) content) (All (λ b. b ≢ 0) content) =
-        Decides-by_and (λ b. not (eqb b 0)) (λ b. b ≢ 0) (list_all (λ b. not (eqb b 0))) (λ b. Decides-not (eqb b 0) (Decides-eqb b 0)) refl (λ _ _. refl) content in
+    Decides-by_and (λ b. not (eqb b 0)) (λ b. b ≢ 0) (list_all (λ b. not (eqb b 0))) (λ b. Decides-not (eqb b 0) (Decides-eqb b 0)) refl (λ _ _. refl) content in
     let both = Decides-and (is_utf8 content) (list_all (λ b. not (eqb b 0)) content) utf8 no_zero in
     let is_text : Decides (is_utf8 content && list_all (λ b. not (eqb b 0)) content) (IsText content) =
-        Decides-like _ (λ p. record { utf8 = p.0; no_zero = p.1 }) (λ p. (p.utf8, p.no_zero)) both in
+    Decides-like _ (λ p. record { utf8 = p.0; no_zero = p.1 }) (λ p. (p.utf8, p.no_zero)) both in
     Decides-and _ (leb (length content) max_bytes) is_text (Decides-leb (length content) max_bytes)
 
 never : Decides false ⊥

@@ -57,7 +57,7 @@ root-set names tables at t root p whole plain short =
         few = let new_long = length-named names (set tables at t) new_paired in omega arith;
         distinct = subst (AllPairs (λ a b. a ≢ b)) (sym (view_names-named names (set tables at t) new_paired)) (distinct_names names tables root);
         whole = subst (All IsView) (sym (named-set names tables at t paired p))
-        (All-set IsView views at (retabled (get_or views at no_view) t) (record { name = old.name; table = whole; short = short }) root.views.whole);
+            (All-set IsView views at (retabled (get_or views at no_view) t) (record { name = old.name; table = whole; short = short }) root.views.whole);
       };
       plain = All-set IsUnplaced tables at t plain root.plain;
     }
@@ -78,7 +78,7 @@ root-remove names tables at root p =
       views = record {
         few = let new_long = length-named (remove names at) (remove tables at) new_paired in omega arith;
         distinct = subst (AllPairs (λ a b. a ≢ b)) (sym (view_names-named (remove names at) (remove tables at) new_paired))
-        (all_pairs_remove (λ a b. a ≢ b) names at p (distinct_names names tables root));
+            (all_pairs_remove (λ a b. a ≢ b) names at p (distinct_names names tables root));
         whole = subst (All IsView) (sym (named-remove names tables at paired)) (All-remove IsView (named names tables) at root.views.whole);
       };
       plain = All-remove IsUnplaced tables at root.plain;
@@ -97,7 +97,7 @@ root-push names tables name t root absent room view plain =
       views = record {
         few = let new_long = length-named (names ++ name ∷ []) (tables ++ t ∷ []) new_paired in omega arith;
         distinct = subst (AllPairs (λ a b. a ≢ b)) (sym (view_names-named (names ++ name ∷ []) (tables ++ t ∷ []) new_paired))
-        (all_pairs_push (λ a b. a ≢ b) names name (distinct_names names tables root)
+            (all_pairs_push (λ a b. a ≢ b) names name (distinct_names names tables root)
             (λ k d p. other_name (get_or names k d) name (subst (λ n. same_bytes n name ≡ false) (get_or_default names k [] d p) (absent.other k p))));
         whole = subst (All IsView) (sym (named-push names tables name t paired)) (All-push IsView (named names tables) (record { name = name; table = t }) root.views.whole view);
       };

@@ -34,10 +34,10 @@ unplaced_from-inserted : (schema : List Attribute) (k at n : ℕ) (row : List Da
 unplaced_from-inserted [] k at n row rows p = refl
 unplaced_from-inserted (a ∷ schema) k at n row rows p =
     let split : drop k row ≡ value_at row k ∷ drop (k + 1) row =
-        rw add-one (drop-cons row k (integer (pos 0)) (omega arith)) in
+    rw add-one (drop-cons row k (integer (pos 0)) (omega arith)) in
     let first : unplaced a.domain (column_of (inserted at n row rows) k) ≡ home_inserted at n a.domain (value_at row k) (unplaced a.domain (column_of rows k)) =
-        ap (λ values. unplaced a.domain values) (map-inserted (λ (r : List Datum). value_at r k) at n row rows)
-        ∙ unplaced-inserted a.domain at n (value_at row k) (column_of rows k) in
+    ap (λ values. unplaced a.domain values) (map-inserted (λ (r : List Datum). value_at r k) at n row rows)
+    ∙ unplaced-inserted a.domain at n (value_at row k) (column_of rows k) in
     let others = unplaced_from-inserted schema (k + 1) at n row rows (omega arith) in
     ap (λ h. h ∷ unplaced_from (heading_of schema) (k + 1) (inserted at n row rows)) first
     ∙ ap (λ hs. home_inserted at n a.domain (value_at row k) (unplaced a.domain (column_of rows k)) ∷ hs) others
@@ -65,8 +65,8 @@ unplaced_from-removed : (schema : List Attribute) (k at n : ℕ) (rows : List (L
 unplaced_from-removed [] k at n rows = refl
 unplaced_from-removed (a ∷ schema) k at n rows =
     let first : unplaced a.domain (column_of (removed at n rows) k) ≡ home_removed at n (unplaced a.domain (column_of rows k)) =
-        ap (λ values. unplaced a.domain values) (map-removed (λ (r : List Datum). value_at r k) at n rows)
-        ∙ unplaced-removed a.domain at n (column_of rows k) in
+    ap (λ values. unplaced a.domain values) (map-removed (λ (r : List Datum). value_at r k) at n rows)
+    ∙ unplaced-removed a.domain at n (column_of rows k) in
     ap (λ h. h ∷ unplaced_from (heading_of schema) (k + 1) (removed at n rows)) first
     ∙ ap (λ hs. home_removed at n (unplaced a.domain (column_of rows k)) ∷ hs) (unplaced_from-removed schema (k + 1) at n rows)
 
@@ -121,7 +121,7 @@ unplaced-set (Domain.relation h) i d values =
 -- column by column: the one that was set, and the others
 home-set : (schema : List Attribute) (rows : List (List Datum)) (i k m : ℕ) (d : Datum) (x : Home) → i < length rows → k < length schema → k < length (get_or rows i []) → m < length schema
     → get_or (unplaced_homes schema (set rows i (set (get_or rows i []) k d))) m x
-        ≡ get_or (set (unplaced_homes schema rows) k (home_with i (unplaced_in (domain_at schema k) d) (get_or (unplaced_homes schema rows) k nowhere))) m x
+    ≡ get_or (set (unplaced_homes schema rows) k (home_with i (unplaced_in (domain_at schema k) d) (get_or (unplaced_homes schema rows) k nowhere))) m x
 home-set schema rows i k m d x p q r s =
     let homes = unplaced_homes schema rows in
     let long = length-unplaced_from schema 0 rows in
@@ -130,16 +130,16 @@ home-set schema rows i k m d x p q r s =
     let was : get_or homes k nowhere ≡ unplaced (domain_at schema k) (column_of rows k) = get_or-unplaced schema k rows nowhere q in
     ⊎_elim
     (λ (same : m ≡ k).
-        let here : column_of (set rows i (set (get_or rows i []) k d)) m ≡ set (column_of rows k) i d =
-            ap (λ j. column_of (set rows i (set (get_or rows i []) k d)) j) same ∙ column-set_same rows i k d r in
-        new ∙ ap (λ values. unplaced (domain_at schema m) values) here ∙ ap (λ j. unplaced (domain_at schema j) (set (column_of rows k) i d)) same
-        ∙ unplaced-set (domain_at schema k) i d (column_of rows k)
-        ∙ ap (λ h. home_with i (unplaced_in (domain_at schema k) d) h) (sym was)
-        ∙ sym (get_or-set_same homes k (home_with i (unplaced_in (domain_at schema k) d) (get_or homes k nowhere)) x (omega (arith, long)))
-        ∙ ap (λ j. get_or (set homes k (home_with i (unplaced_in (domain_at schema k) d) (get_or homes k nowhere))) j x) (sym same))
+    let here : column_of (set rows i (set (get_or rows i []) k d)) m ≡ set (column_of rows k) i d =
+    ap (λ j. column_of (set rows i (set (get_or rows i []) k d)) j) same ∙ column-set_same rows i k d r in
+    new ∙ ap (λ values. unplaced (domain_at schema m) values) here ∙ ap (λ j. unplaced (domain_at schema j) (set (column_of rows k) i d)) same
+    ∙ unplaced-set (domain_at schema k) i d (column_of rows k)
+    ∙ ap (λ h. home_with i (unplaced_in (domain_at schema k) d) h) (sym was)
+    ∙ sym (get_or-set_same homes k (home_with i (unplaced_in (domain_at schema k) d) (get_or homes k nowhere)) x (omega (arith, long)))
+    ∙ ap (λ j. get_or (set homes k (home_with i (unplaced_in (domain_at schema k) d) (get_or homes k nowhere))) j x) (sym same))
     (λ (other : m ≢ k).
-        new ∙ ap (λ values. unplaced (domain_at schema m) values) (column-set rows i k m d p other) ∙ sym old
-        ∙ sym (get_or-set_other homes k m (home_with i (unplaced_in (domain_at schema k) d) (get_or homes k nowhere)) x other))
+    new ∙ ap (λ values. unplaced (domain_at schema m) values) (column-set rows i k m d p other) ∙ sym old
+    ∙ sym (get_or-set_other homes k m (home_with i (unplaced_in (domain_at schema k) d) (get_or homes k nowhere)) x other))
     (same_or_not m k)
 
 -- a value given another
@@ -162,12 +162,12 @@ inner_table-unplaced schema inner rows i k p q e =
     let column = column_of rows k in
     let long = length-map rows (λ (r : List Datum). value_at r k) in
     let home : get_or (unplaced_homes schema rows) k nowhere ≡ tables (row_homes (map f column)) =
-        get_or-unplaced schema k rows nowhere q ∙ ap (λ d. unplaced d column) e in
+    get_or-unplaced schema k rows nowhere q ∙ ap (λ d. unplaced d column) e in
     let homes : homes_in (get_or (unplaced_homes schema rows) k nowhere) i ≡ unplaced_homes inner (rows_in (cell rows i k)) =
-        ap (λ h. homes_in h i) home
-        ∙ ap (λ hs. get_or hs i []) (each_of-row_homes (map f column))
-        ∙ get_or-map f column i (integer (pos 0)) [] (omega (arith, long))
-        ∙ ap f (get_or-map (λ (r : List Datum). value_at r k) rows i [] (integer (pos 0)) p) in
+    ap (λ h. homes_in h i) home
+    ∙ ap (λ hs. get_or hs i []) (each_of-row_homes (map f column))
+    ∙ get_or-map f column i (integer (pos 0)) [] (omega (arith, long))
+    ∙ ap f (get_or-map (λ (r : List Datum). value_at r k) rows i [] (integer (pos 0)) p) in
     let attributes : inner_schema (domain_at schema k) ≡ inner = ap inner_schema e ∙ attributes_of-heading_of inner in
     ap (λ hs. let t : Placed = record { schema = inner_schema (domain_at schema k); rows = rows_in (cell rows i k); homes = hs } in t) homes
     ∙ ap (λ s. let t : Placed = record { schema = s; rows = rows_in (cell rows i k); homes = unplaced_homes inner (rows_in (cell rows i k)) } in t) attributes
@@ -179,5 +179,5 @@ pub unplaced_table-with_inner : (schema inner : List Attribute) (rows inner_rows
 unplaced_table-with_inner schema inner rows inner_rows i k p q r e =
     let d = relation (relation_of inner_rows) in
     let homes : unplaced_in (domain_at schema k) d ≡ unplaced_homes inner inner_rows =
-        ap (λ (e : Domain). unplaced_in e d) e ∙ ap (λ rs. unplaced_from (heading_of inner) 0 rs) (rows_of-relation_of inner_rows) in
+    ap (λ (e : Domain). unplaced_in e d) e ∙ ap (λ rs. unplaced_from (heading_of inner) 0 rs) (rows_of-relation_of inner_rows) in
     unplaced_table-with_value schema rows i k d p q r ∙ ap (λ hs. with_value (unplaced_table schema rows) i k d hs) homes

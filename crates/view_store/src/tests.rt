@@ -169,9 +169,33 @@ fn people_are_added_and_removed(rt: HostRuntime) -> Result<(), Fail> {
     let mut root = Root::new(alloc);
     put(alloc, &mut root, "people", &people(alloc)?)?;
     let people = path(alloc, "people", "")?;
-    insert(&rt, &mut root, &people, 0, &person(alloc, "Ann", 31)?, 1, Ok(()));
-    insert(&rt, &mut root, &people, 1, &person(alloc, "Cy", 20)?, 2, Ok(()));
-    insert(&rt, &mut root, &people, 1, &person(alloc, "Bob", 30)?, 1, Ok(()));
+    insert(
+        &rt,
+        &mut root,
+        &people,
+        0,
+        &person(alloc, "Ann", 31)?,
+        1,
+        Ok(()),
+    );
+    insert(
+        &rt,
+        &mut root,
+        &people,
+        1,
+        &person(alloc, "Cy", 20)?,
+        2,
+        Ok(()),
+    );
+    insert(
+        &rt,
+        &mut root,
+        &people,
+        1,
+        &person(alloc, "Bob", 30)?,
+        1,
+        Ok(()),
+    );
     set(&rt, &mut root, &people, 1, "age", &Value::I(31), Ok(()))?;
     remove(&rt, &mut root, &people, 3, 1, Ok(()));
     // Nothing is removed at the end, and past it nothing can be.
@@ -253,9 +277,25 @@ fn a_view_eight_deep_is_edited(rt: HostRuntime) -> Result<(), Fail> {
     let mut root = Root::new(alloc);
     put(alloc, &mut root, "d", &eight_deep(alloc)?)?;
     let outermost = path(alloc, "d", "")?;
-    insert(&rt, &mut root, &outermost, 0, &nested(alloc, 7, 7)?, 1, Ok(()));
+    insert(
+        &rt,
+        &mut root,
+        &outermost,
+        0,
+        &nested(alloc, 7, 7)?,
+        1,
+        Ok(()),
+    );
     let innermost = path(alloc, "d", "a b c e f g h")?;
-    insert(&rt, &mut root, &innermost, 1, &nested(alloc, 8, 0)?, 1, Ok(()));
+    insert(
+        &rt,
+        &mut root,
+        &innermost,
+        1,
+        &nested(alloc, 8, 0)?,
+        1,
+        Ok(()),
+    );
     remove(&rt, &mut root, &innermost, 0, 1, Ok(()));
     number(&rt, alloc, &root, &innermost, 0, 0, 8)?;
     size(&rt, alloc, &root, &innermost, 1)?;
@@ -275,16 +315,48 @@ fn rows_are_refused_in_order(rt: HostRuntime) -> Result<(), Fail> {
     let nobody = path(alloc, "nobody", "nothing")?;
     insert(&rt, &mut root, &nobody, 9, &long, 1, Err(EditError::NoView));
     let nothing = path(alloc, "book", "phones nothing")?;
-    insert(&rt, &mut root, &nothing, 9, &long, 1, Err(EditError::NoProp));
+    insert(
+        &rt,
+        &mut root,
+        &nothing,
+        9,
+        &long,
+        1,
+        Err(EditError::NoProp),
+    );
     // Behind a property that is no view nothing is looked at.
     let plain = path(alloc, "book", "name nothing")?;
-    insert(&rt, &mut root, &plain, 9, &long, 1, Err(EditError::WrongKind));
+    insert(
+        &rt,
+        &mut root,
+        &plain,
+        9,
+        &long,
+        1,
+        Err(EditError::WrongKind),
+    );
     let book = path(alloc, "book", "")?;
     insert(&rt, &mut root, &book, 9, &long, 1, Err(EditError::NoProp));
     insert(&rt, &mut root, &book, 9, &one, 1, Err(EditError::WrongKind));
     // As many copies as a view has rows: the place is tested first, then the size.
-    insert(&rt, &mut root, &book, 2, &fits, MAX_ROWS, Err(EditError::OutOfRange(1)));
-    insert(&rt, &mut root, &book, 1, &fits, MAX_ROWS, Err(EditError::TooMany(16_777_217)));
+    insert(
+        &rt,
+        &mut root,
+        &book,
+        2,
+        &fits,
+        MAX_ROWS,
+        Err(EditError::OutOfRange(1)),
+    );
+    insert(
+        &rt,
+        &mut root,
+        &book,
+        1,
+        &fits,
+        MAX_ROWS,
+        Err(EditError::TooMany(16_777_217)),
+    );
     size(&rt, alloc, &root, &book, 1)
 }
 
@@ -294,9 +366,33 @@ fn values_are_refused_in_order(rt: HostRuntime) -> Result<(), Fail> {
     let mut root = one_book(alloc)?;
     let book = path(alloc, "book", "")?;
     let word = text(alloc, "word")?;
-    set(&rt, &mut root, &book, 9, "nothing", &word, Err(EditError::NoProp))?;
-    set(&rt, &mut root, &book, 9, "born", &word, Err(EditError::WrongKind))?;
-    set(&rt, &mut root, &book, 1, "born", &Value::I(1), Err(EditError::OutOfRange(1)))?;
+    set(
+        &rt,
+        &mut root,
+        &book,
+        9,
+        "nothing",
+        &word,
+        Err(EditError::NoProp),
+    )?;
+    set(
+        &rt,
+        &mut root,
+        &book,
+        9,
+        "born",
+        &word,
+        Err(EditError::WrongKind),
+    )?;
+    set(
+        &rt,
+        &mut root,
+        &book,
+        1,
+        "born",
+        &Value::I(1),
+        Err(EditError::OutOfRange(1)),
+    )?;
     assert_eq!(rt; root.drop_view(&name("nobody")?), Err(EditError::NoView));
     assert_eq!(rt; root.drop_view(book.name()), Ok(()));
     assert!(rt; matches!(root.view(alloc, &book), Err(EditError::NoView)));

@@ -17,10 +17,10 @@ returns-then-not-fits c =
     let more = are_of-more _ _ c.loop-at.at (datum_of c.index-values-at.result) c.index-props-at.result
     (drop_map_read datum_of _ _ _ c.loop-at-test.true c.index-values-at.is) (drop_read c.as_slice-props.result.now c.loop-at.at _ (omega arith) c.index-props-at.is) in
     let no : is_of (datum_of c.index-values-at.result) c.index-props-at.result.domain ≡ false =
-        sym (ap (λ (a : Attribute). is_of (datum_of c.index-values-at.result) a.domain) c.prop.view_is)
-        ∙ sym (fits_is c.fits.result (datum_of c.index-values-at.result) (domain_of c.prop.inside.kind) c.fits.ensures) ∙ c.if-not-fits.true in
+    sym (ap (λ (a : Attribute). is_of (datum_of c.index-values-at.result) a.domain) c.prop.view_is)
+    ∙ sym (fits_is c.fits.result (datum_of c.index-values-at.result) (domain_of c.prop.inside.kind) c.fits.ensures) ∙ c.if-not-fits.true in
     sym (ap (λ ds. are_of ds c.args.schema.now) (sym c.as_slice-values.ensures) ∙ ap (λ s. are_of (map datum_of c.as_slice-values.result.now) s) (sym c.as_slice-props.ensures.value)
-        ∙ c.loop-at.invariant ∙ more ∙ ap (λ b. b && rest) no)
+    ∙ c.loop-at.invariant ∙ more ∙ ap (λ b. b && rest) no)
 
 pub loop-at-preserved : goal.loop-at-preserved
 loop-at-preserved c =
@@ -31,6 +31,6 @@ loop-at-preserved c =
     let more = are_of-more _ _ c.loop-at.at (datum_of c.index-values-at.result) c.index-props-at.result
     (drop_map_read datum_of _ _ _ c.loop-at-test.true c.index-values-at.is) (drop_read c.as_slice-props.result.now c.loop-at.at _ (omega arith) c.index-props-at.is) in
     let yes =
-        sym (ap (λ (a : Attribute). is_of (datum_of c.index-values-at.result) a.domain) c.prop.view_is)
-        ∙ sym (fits_is c.fits.result (datum_of c.index-values-at.result) (domain_of c.prop.inside.kind) c.fits.ensures) ∙ c.if-not-fits.false in
+    sym (ap (λ (a : Attribute). is_of (datum_of c.index-values-at.result) a.domain) c.prop.view_is)
+    ∙ sym (fits_is c.fits.result (datum_of c.index-values-at.result) (domain_of c.prop.inside.kind) c.fits.ensures) ∙ c.if-not-fits.false in
     c.loop-at.invariant ∙ more ∙ ap (λ b. b && rest) yes

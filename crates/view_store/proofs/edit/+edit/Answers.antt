@@ -19,8 +19,8 @@ replace-requires-clause-col_in t c =
     let step = c.in-Some.step.now in
     let col = c.unwrap-col.result in
     let at : IsViewAt schema step.prop col c.in-V.inner_schema =
-        view_read schema c.as_slice.result.now step.prop c.as_str.result.now c.find.result col c.index-as_slice-col.result c.prop.inside.kind c.in-V.inner_schema
-        c.as_str.ensures.value c.find.ensures c.unwrap-col.ensures c.as_slice.ensures.value c.index-as_slice-col.is (ap (λ (a : Attribute). a.domain) c.prop.view_is) c.in-V.is in
+    view_read schema c.as_slice.result.now step.prop c.as_str.result.now c.find.result col c.index-as_slice-col.result c.prop.inside.kind c.in-V.inner_schema
+    c.as_str.ensures.value c.find.ensures c.unwrap-col.ensures c.as_slice.ensures.value c.index-as_slice-col.is (ap (λ (a : Attribute). a.domain) c.prop.view_is) c.in-V.is in
     let edit = edit_of c.args.change in
     let free = sym (ap (λ ss. due_in (unplaced_table schema rows) ss edit) c.in-Some.ensures.cases.0) ∙ c.requires.free in
     let row_in = free_row schema rows step c.in-Some.rest.now edit free in
@@ -35,8 +35,8 @@ unreachable-requires-in_default-replace t c =
     let step = c.in-Some.step.now in
     let col = c.unwrap-col.result in
     let at : IsViewAt schema step.prop col c.in-V.inner_schema =
-        view_read schema c.as_slice.result.now step.prop c.as_str.result.now c.find.result col c.index-as_slice-col.result c.prop.inside.kind c.in-V.inner_schema
-        c.as_str.ensures.value c.find.ensures c.unwrap-col.ensures c.as_slice.ensures.value c.index-as_slice-col.is (ap (λ (a : Attribute). a.domain) c.prop.view_is) c.in-V.is in
+    view_read schema c.as_slice.result.now step.prop c.as_str.result.now c.find.result col c.index-as_slice-col.result c.prop.inside.kind c.in-V.inner_schema
+    c.as_str.ensures.value c.find.ensures c.unwrap-col.ensures c.as_slice.ensures.value c.index-as_slice-col.is (ap (λ (a : Attribute). a.domain) c.prop.view_is) c.in-V.is in
     let edit = edit_of c.args.change in
     let free = sym (ap (λ ss. due_in (unplaced_table schema rows) ss edit) c.in-Some.ensures.cases.0) ∙ c.requires.free in
     let row_in = free_row schema rows step c.in-Some.rest.now edit free in
@@ -52,8 +52,8 @@ edit-result-requires t c =
     let step = c.in-Some.step.now in
     let col = c.unwrap-col.result in
     let at : IsViewAt schema step.prop col c.in-V.inner_schema =
-        view_read schema c.as_slice.result.now step.prop c.as_str.result.now c.find.result col c.index-as_slice-col.result c.prop.inside.kind c.in-V.inner_schema
-        c.as_str.ensures.value c.find.ensures c.unwrap-col.ensures c.as_slice.ensures.value c.index-as_slice-col.is (ap (λ (a : Attribute). a.domain) c.prop.view_is) c.in-V.is in
+    view_read schema c.as_slice.result.now step.prop c.as_str.result.now c.find.result col c.index-as_slice-col.result c.prop.inside.kind c.in-V.inner_schema
+    c.as_str.ensures.value c.find.ensures c.unwrap-col.ensures c.as_slice.ensures.value c.index-as_slice-col.is (ap (λ (a : Attribute). a.domain) c.prop.view_is) c.in-V.is in
     let edit = edit_of c.args.change in
     let free = sym (ap (λ ss. due_in (unplaced_table schema rows) ss edit) c.in-Some.ensures.cases.0) ∙ c.requires.free in
     let row_in = free_row schema rows step c.in-Some.rest.now edit free in
@@ -63,7 +63,7 @@ edit-result-requires t c =
       (
         view_rows c.replace.result c.in-V-replace.inner _ _ c.in-V.inner_schema c.replace.ensures.old c.in-V-replace.is at.view fits,
         ap (λ rs. due_in (unplaced_table c.in-V.inner_schema rs) c.in-Some.rest.now edit) (sym (rows_read c.replace.result c.in-V-replace.inner _ c.replace.ensures.old c.in-V-replace.is))
-        ∙ sym (due_in-step step c.in-Some.rest.now schema c.in-V.inner_schema rows col edit at.found at.view row_in) ∙ free,
+            ∙ sym (due_in-step step c.in-Some.rest.now schema c.in-V.inner_schema rows col edit at.found at.view row_in) ∙ free,
       ),
     )
 
@@ -74,8 +74,8 @@ returns-clause-whole t c =
     let step = c.in-Some.step.now in
     let col = c.unwrap-col.result in
     let at : IsViewAt schema step.prop col c.in-V.inner_schema =
-        view_read schema c.as_slice.result.now step.prop c.as_str.result.now c.find.result col c.index-as_slice-col.result c.prop.inside.kind c.in-V.inner_schema
-        c.as_str.ensures.value c.find.ensures c.unwrap-col.ensures c.as_slice.ensures.value c.index-as_slice-col.is (ap (λ (a : Attribute). a.domain) c.prop.view_is) c.in-V.is in
+    view_read schema c.as_slice.result.now step.prop c.as_str.result.now c.find.result col c.index-as_slice-col.result c.prop.inside.kind c.in-V.inner_schema
+    c.as_str.ensures.value c.find.ensures c.unwrap-col.ensures c.as_slice.ensures.value c.index-as_slice-col.is (ap (λ (a : Attribute). a.domain) c.prop.view_is) c.in-V.is in
     let edit = edit_of c.args.change in
     let free = sym (ap (λ ss. due_in (unplaced_table schema rows) ss edit) c.in-Some.ensures.cases.0) ∙ c.requires.free in
     let row_in = free_row schema rows step c.in-Some.rest.now edit free in
@@ -91,8 +91,8 @@ returns-clause-ok t c =
     let step = c.in-Some.step.now in
     let col = c.unwrap-col.result in
     let at : IsViewAt schema step.prop col c.in-V.inner_schema =
-        view_read schema c.as_slice.result.now step.prop c.as_str.result.now c.find.result col c.index-as_slice-col.result c.prop.inside.kind c.in-V.inner_schema
-        c.as_str.ensures.value c.find.ensures c.unwrap-col.ensures c.as_slice.ensures.value c.index-as_slice-col.is (ap (λ (a : Attribute). a.domain) c.prop.view_is) c.in-V.is in
+    view_read schema c.as_slice.result.now step.prop c.as_str.result.now c.find.result col c.index-as_slice-col.result c.prop.inside.kind c.in-V.inner_schema
+    c.as_str.ensures.value c.find.ensures c.unwrap-col.ensures c.as_slice.ensures.value c.index-as_slice-col.is (ap (λ (a : Attribute). a.domain) c.prop.view_is) c.in-V.is in
     let edit = edit_of c.args.change in
     let free = sym (ap (λ ss. due_in (unplaced_table schema rows) ss edit) c.in-Some.ensures.cases.0) ∙ c.requires.free in
     let row_in = free_row schema rows step c.in-Some.rest.now edit free in
@@ -100,9 +100,9 @@ returns-clause-ok t c =
     let put = c.replace-2.ensures.new ∙ ap (λ rs. set rs step.row (set (get_or rs step.row []) col view)) c.replace.ensures.new ∙ put_back rows step.row col _ view row_in in
     OnOk-then c.edit-result.result c.edit-result.ensures.ok
     (λ done. ap (λ rs. unplaced_table schema rs) put
-        ∙ edited-step step c.in-Some.rest.now schema c.in-V.inner_schema rows c.edit-result.new.rows col edit c.requires.whole at.found at.view row_in
-        (done ∙ ap (λ rs. edited c.in-Some.rest.now edit (unplaced_table c.in-V.inner_schema rs)) (sym (rows_read c.replace.result c.in-V-replace.inner _ c.replace.ensures.old c.in-V-replace.is)))
-        ∙ sym (ap (λ ss. edited ss edit (unplaced_table schema rows)) c.in-Some.ensures.cases.0))
+    ∙ edited-step step c.in-Some.rest.now schema c.in-V.inner_schema rows c.edit-result.new.rows col edit c.requires.whole at.found at.view row_in
+    (done ∙ ap (λ rs. edited c.in-Some.rest.now edit (unplaced_table c.in-V.inner_schema rs)) (sym (rows_read c.replace.result c.in-V-replace.inner _ c.replace.ensures.old c.in-V-replace.is)))
+    ∙ sym (ap (λ ss. edited ss edit (unplaced_table schema rows)) c.in-Some.ensures.cases.0))
 
 pub returns-clause-err : goal.returns-clause-err
 returns-clause-err t c =
@@ -111,8 +111,8 @@ returns-clause-err t c =
     let step = c.in-Some.step.now in
     let col = c.unwrap-col.result in
     let at : IsViewAt schema step.prop col c.in-V.inner_schema =
-        view_read schema c.as_slice.result.now step.prop c.as_str.result.now c.find.result col c.index-as_slice-col.result c.prop.inside.kind c.in-V.inner_schema
-        c.as_str.ensures.value c.find.ensures c.unwrap-col.ensures c.as_slice.ensures.value c.index-as_slice-col.is (ap (λ (a : Attribute). a.domain) c.prop.view_is) c.in-V.is in
+    view_read schema c.as_slice.result.now step.prop c.as_str.result.now c.find.result col c.index-as_slice-col.result c.prop.inside.kind c.in-V.inner_schema
+    c.as_str.ensures.value c.find.ensures c.unwrap-col.ensures c.as_slice.ensures.value c.index-as_slice-col.is (ap (λ (a : Attribute). a.domain) c.prop.view_is) c.in-V.is in
     let edit = edit_of c.args.change in
     let free = sym (ap (λ ss. due_in (unplaced_table schema rows) ss edit) c.in-Some.ensures.cases.0) ∙ c.requires.free in
     let row_in = free_row schema rows step c.in-Some.rest.now edit free in
@@ -120,4 +120,4 @@ returns-clause-err t c =
     let put = c.replace-2.ensures.new ∙ ap (λ rs. set rs step.row (set (get_or rs step.row []) col view)) c.replace.ensures.new ∙ put_back rows step.row col _ view row_in in
     OnErr-then c.edit-result.result c.edit-result.ensures.err
     (λ same. put ∙ ap (λ rs. set rows step.row (set (get_or rows step.row []) col (relation (relation_of rs)))) same
-        ∙ put_same rows step.row col (relation (relation_of c.in-V-replace.inner)) (sym (ap datum_of c.in-V-replace.is) ∙ c.replace.ensures.old))
+    ∙ put_same rows step.row col (relation (relation_of c.in-V-replace.inner)) (sym (ap datum_of c.in-V-replace.is) ∙ c.replace.ensures.old))

@@ -16,7 +16,7 @@ replace-requires-clause-col_in c =
     let schema = c.args.schema.now in
     let rows = c.args.rows.now in
     let found : find schema c.in-Set.prop.now ≡ Some c.unwrap-col.result =
-        ap (λ n. find schema n) (sym c.as_str.ensures.value) ∙ sym c.find.ensures ∙ c.unwrap-col.ensures in
+    ap (λ n. find schema n) (sym c.as_str.ensures.value) ∙ sym c.find.ensures ∙ c.unwrap-col.ensures in
     let free = sym (ap (λ ch. due_in (unplaced_table schema rows) [] (edit_of ch)) c.in-Set.is) ∙ c.requires.free in
     let may = may_set schema rows c.in-Set.row c.unwrap-col.result c.in-Set.prop.now (datum_of c.in-Set.value.now) found free in
     let in_row = place_within schema c.in-Set.prop.now c.unwrap-col.result found in
@@ -43,7 +43,7 @@ returns-in_ok-row-in-Insert-clause-ok c =
     let n = c.in-Insert.count in
     OnOk-then c.insert.result c.insert.ensures.ok
     (λ e. ap (λ rs. unplaced_table schema rs) (e ∙ ap (λ r. take at rows ++ (replicate n r ++ drop at rows)) c.in_ok-row-in-Insert.ensures)
-        ∙ insert_done schema rows at n c.in-Insert.row.now ∙ sym (ap (λ ch. edited_here (edit_of ch) (unplaced_table schema rows)) c.in-Insert.is))
+    ∙ insert_done schema rows at n c.in-Insert.row.now ∙ sym (ap (λ ch. edited_here (edit_of ch) (unplaced_table schema rows)) c.in-Insert.is))
 
 pub returns-in_ok-copy-in-Set-clause-whole : goal.returns-in_ok-copy-in-Set-clause-whole
 returns-in_ok-copy-in-Set-clause-whole c =
@@ -53,7 +53,7 @@ returns-in_ok-copy-in-Set-clause-whole c =
     let col = c.unwrap-col.result in
     let d = datum_of c.in-Set.value.now in
     let found : find schema c.in-Set.prop.now ≡ Some col =
-        ap (λ n. find schema n) (sym c.as_str.ensures.value) ∙ sym c.find.ensures ∙ c.unwrap-col.ensures in
+    ap (λ n. find schema n) (sym c.as_str.ensures.value) ∙ sym c.find.ensures ∙ c.unwrap-col.ensures in
     let free = sym (ap (λ ch. due_in (unplaced_table schema rows) [] (edit_of ch)) c.in-Set.is) ∙ c.requires.free in
     let may = may_set schema rows i col c.in-Set.prop.now d found free in
     subst (λ rs. AreRowsOf rs schema) (sym (c.replace.ensures.new ∙ ap (λ v. set rows i (set (get_or rows i []) col v)) c.in_ok-copy-in-Set.ensures))
@@ -67,7 +67,7 @@ returns-in_ok-copy-in-Set-clause-ok c =
     let col = c.unwrap-col.result in
     let d = datum_of c.in-Set.value.now in
     let found : find schema c.in-Set.prop.now ≡ Some col =
-        ap (λ n. find schema n) (sym c.as_str.ensures.value) ∙ sym c.find.ensures ∙ c.unwrap-col.ensures in
+    ap (λ n. find schema n) (sym c.as_str.ensures.value) ∙ sym c.find.ensures ∙ c.unwrap-col.ensures in
     let free = sym (ap (λ ch. due_in (unplaced_table schema rows) [] (edit_of ch)) c.in-Set.is) ∙ c.requires.free in
     let may = may_set schema rows i col c.in-Set.prop.now d found free in
     ap (λ rs. unplaced_table schema rs) (c.replace.ensures.new ∙ ap (λ v. set rows i (set (get_or rows i []) col v)) c.in_ok-copy-in-Set.ensures)

@@ -12,8 +12,8 @@ cell_at-requires-clause-col_in t c =
     let step = c.in-Some.step.now in
     let col = c.unwrap-col.result in
     let at : IsViewAt schema step.prop col c.in-V.inner_schema =
-        view_read schema c.as_slice.result.now step.prop c.as_str.result.now c.find.result col c.index-as_slice-col.result c.prop.inside.kind c.in-V.inner_schema
-        c.as_str.ensures.value c.find.ensures c.unwrap-col.ensures c.as_slice.ensures.value c.index-as_slice-col.is (ap (λ (a : Attribute). a.domain) c.prop.view_is) c.in-V.is in
+    view_read schema c.as_slice.result.now step.prop c.as_str.result.now c.find.result col c.index-as_slice-col.result c.prop.inside.kind c.in-V.inner_schema
+    c.as_str.ensures.value c.find.ensures c.unwrap-col.ensures c.as_slice.ensures.value c.index-as_slice-col.is (ap (λ (a : Attribute). a.domain) c.prop.view_is) c.in-V.is in
     let within = at.within in
     let long = row_long rows schema step.row c.requires.whole (omega arith) in
     omega (arith, long, within)
@@ -25,8 +25,8 @@ unreachable-requires-in_default-cell_at t c =
     let step = c.in-Some.step.now in
     let col = c.unwrap-col.result in
     let at : IsViewAt schema step.prop col c.in-V.inner_schema =
-        view_read schema c.as_slice.result.now step.prop c.as_str.result.now c.find.result col c.index-as_slice-col.result c.prop.inside.kind c.in-V.inner_schema
-        c.as_str.ensures.value c.find.ensures c.unwrap-col.ensures c.as_slice.ensures.value c.index-as_slice-col.is (ap (λ (a : Attribute). a.domain) c.prop.view_is) c.in-V.is in
+    view_read schema c.as_slice.result.now step.prop c.as_str.result.now c.find.result col c.index-as_slice-col.result c.prop.inside.kind c.in-V.inner_schema
+    c.as_str.ensures.value c.find.ensures c.unwrap-col.ensures c.as_slice.ensures.value c.index-as_slice-col.is (ap (λ (a : Attribute). a.domain) c.prop.view_is) c.in-V.is in
     let fits = subst (λ e. IsOf (cell rows step.row col) e) at.view (cell_is_of rows schema step.row col c.requires.whole (omega arith) at.within) in
     is_view c.cell_at.result.now (heading_of c.in-V.inner_schema)
     (subst (λ d. IsOf d (Domain.relation (heading_of c.in-V.inner_schema))) (sym c.cell_at.ensures) fits)
@@ -39,8 +39,8 @@ find_rows-requires t c =
     let step = c.in-Some.step.now in
     let col = c.unwrap-col.result in
     let at : IsViewAt schema step.prop col c.in-V.inner_schema =
-        view_read schema c.as_slice.result.now step.prop c.as_str.result.now c.find.result col c.index-as_slice-col.result c.prop.inside.kind c.in-V.inner_schema
-        c.as_str.ensures.value c.find.ensures c.unwrap-col.ensures c.as_slice.ensures.value c.index-as_slice-col.is (ap (λ (a : Attribute). a.domain) c.prop.view_is) c.in-V.is in
+    view_read schema c.as_slice.result.now step.prop c.as_str.result.now c.find.result col c.index-as_slice-col.result c.prop.inside.kind c.in-V.inner_schema
+    c.as_str.ensures.value c.find.ensures c.unwrap-col.ensures c.as_slice.ensures.value c.index-as_slice-col.is (ap (λ (a : Attribute). a.domain) c.prop.view_is) c.in-V.is in
     let fits = cell_is_of rows schema step.row col c.requires.whole (omega arith) at.within in
     let shorter = c.in-Some.ensures.cases.1 in (
       omega arith,
@@ -57,12 +57,12 @@ returns-clause-value t c =
     let step = c.in-Some.step.now in
     let col = c.unwrap-col.result in
     let at : IsViewAt schema step.prop col c.in-V.inner_schema =
-        view_read schema c.as_slice.result.now step.prop c.as_str.result.now c.find.result col c.index-as_slice-col.result c.prop.inside.kind c.in-V.inner_schema
-        c.as_str.ensures.value c.find.ensures c.unwrap-col.ensures c.as_slice.ensures.value c.index-as_slice-col.is (ap (λ (a : Attribute). a.domain) c.prop.view_is) c.in-V.is in
+    view_read schema c.as_slice.result.now step.prop c.as_str.result.now c.find.result col c.index-as_slice-col.result c.prop.inside.kind c.in-V.inner_schema
+    c.as_str.ensures.value c.find.ensures c.unwrap-col.ensures c.as_slice.ensures.value c.index-as_slice-col.is (ap (λ (a : Attribute). a.domain) c.prop.view_is) c.in-V.is in
     same_answer c.find_rows.result (λ r. r.now) _ _
     (ap (λ ss. rows_at ss schema rows) c.in-Some.ensures.cases.0
-        ∙ rows_at-step step c.in-Some.rest.now schema c.in-V.inner_schema rows col at.found at.view (omega arith)
-        ∙ ap (λ rs. rows_at c.in-Some.rest.now c.in-V.inner_schema rs) (rows_read c.cell_at.result.now c.in-V-cell_at.inner _ c.cell_at.ensures c.in-V-cell_at.is))
+    ∙ rows_at-step step c.in-Some.rest.now schema c.in-V.inner_schema rows col at.found at.view (omega arith)
+    ∙ ap (λ rs. rows_at c.in-Some.rest.now c.in-V.inner_schema rs) (rows_read c.cell_at.result.now c.in-V-cell_at.inner _ c.cell_at.ensures c.in-V-cell_at.is))
     c.find_rows.ensures.value
 
 pub returns-clause-whole : goal.returns-clause-whole
@@ -72,8 +72,8 @@ returns-clause-whole t c =
     let step = c.in-Some.step.now in
     let col = c.unwrap-col.result in
     let at : IsViewAt schema step.prop col c.in-V.inner_schema =
-        view_read schema c.as_slice.result.now step.prop c.as_str.result.now c.find.result col c.index-as_slice-col.result c.prop.inside.kind c.in-V.inner_schema
-        c.as_str.ensures.value c.find.ensures c.unwrap-col.ensures c.as_slice.ensures.value c.index-as_slice-col.is (ap (λ (a : Attribute). a.domain) c.prop.view_is) c.in-V.is in
+    view_read schema c.as_slice.result.now step.prop c.as_str.result.now c.find.result col c.index-as_slice-col.result c.prop.inside.kind c.in-V.inner_schema
+    c.as_str.ensures.value c.find.ensures c.unwrap-col.ensures c.as_slice.ensures.value c.index-as_slice-col.is (ap (λ (a : Attribute). a.domain) c.prop.view_is) c.in-V.is in
     IfOk-same c.find_rows.result _ _ (λ found target. AreRowsOf found.now target)
     (ap (λ ss. schema_at ss schema) c.in-Some.ensures.cases.0 ∙ schema_at-step step c.in-Some.rest.now schema c.in-V.inner_schema col at.found at.view)
     c.find_rows.ensures.whole

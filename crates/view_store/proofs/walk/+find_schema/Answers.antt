@@ -17,8 +17,8 @@ returns-in-V t c =
     let found : find schema step.prop ≡ Some col = ap (λ n. find schema n) (sym c.as_str.ensures.value) ∙ sym c.find.ensures ∙ c.in-Some-find.is in
     let read = c.index-as_slice-col.is ∙ ap (λ s. get_or s col c.index-as_slice-col.result) c.as_slice.ensures.value in
     let view : domain_at schema col ≡ Domain.relation (heading_of c.in-V.inner) =
-        domain_read schema col c.index-as_slice-col.result (domain_of c.prop.inside.kind) (place_within schema step.prop col found) read
-        (ap (λ (a : Attribute). a.domain) c.prop.view_is) ∙ ap domain_of c.in-V.is in
+    domain_read schema col c.index-as_slice-col.result (domain_of c.prop.inside.kind) (place_within schema step.prop col found) read
+    (ap (λ (a : Attribute). a.domain) c.prop.view_is) ∙ ap domain_of c.in-V.is in
     same_answer c.find_schema.result (λ s. s.now) _ _
     (ap (λ ss. schema_at ss schema) c.in-Some.ensures.cases.0 ∙ schema_at-step step c.in-Some.rest.now schema c.in-V.inner col found view)
     c.find_schema.ensures

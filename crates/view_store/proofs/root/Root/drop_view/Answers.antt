@@ -58,4 +58,4 @@ returns-clause-ok c =
 pub returns-clause-rests : goal.returns-clause-rests
 returns-clause-rests c =
     Rest-none _ _ (placed_views-named c.remove-name.new.self c.remove-table.new.self.items
-        (subst (All IsUnplaced) (sym c.remove-table.ensures.items) (All-remove IsUnplaced c.self.inside.tables.items c.in-Some.at c.self.invariant.plain)))
+    (subst (All IsUnplaced) (sym c.remove-table.ensures.items) (All-remove IsUnplaced c.self.inside.tables.items c.in-Some.at c.self.invariant.plain)))

@@ -31,7 +31,7 @@ invariant_of-self c =
     let P = λ (u : Placed). structure_length (get_or (named names tables) at no_view).name u.schema ≤ max_structure in
     root-set names tables at c.edit.new.self root within c.edit.ensures.whole c.edit.ensures.plain
     (by_answer P c.edit.result c.edit.new.self t (edited c.steps.result.now (edit_of c.args.change) t) c.edit.ensures.ok c.edit.ensures.err
-        (subst (λ s. structure_length (get_or (named names tables) at no_view).name s ≤ max_structure) (sym (edited-schema c.steps.result.now (edit_of c.args.change) t)) short) short)
+    (subst (λ s. structure_length (get_or (named names tables) at no_view).name s ≤ max_structure) (sym (edited-schema c.steps.result.now (edit_of c.args.change) t)) short) short)
 
 pub returns-clause-due : goal.returns-clause-due
 returns-clause-due c =
@@ -57,7 +57,7 @@ returns-clause-ok c =
     let t = c.index_mut-table.result.now in
     OnOk-then c.edit.result c.edit.ensures.ok
     (λ done. edited-root names tables c.args.self.now c.args.path.now (edit_of c.args.change) at t c.edit.new.self c.self.view_is root.paired place within c.index_mut-table.ensures.value
-        (done ∙ ap (λ ss. edited ss (edit_of c.args.change) t) c.steps.ensures))
+    (done ∙ ap (λ ss. edited ss (edit_of c.args.change) t) c.steps.ensures))
 
 pub returns-clause-rests : goal.returns-clause-rests
 returns-clause-rests c =
