@@ -1,0 +1,5 @@
+pub mod Cutting
+pub mod Fronts
+pub mod Literals
+pub mod Meanings
+pub mod Paths

@@ -1,0 +1,66 @@
+//! Lists of pieces.
+ghost use Rattle.std.specs.Prelude.{◌≡◌, ◌≤◌, ◌<◌, ◌++◌, ◌∷◌, [], length, map, IsOk, OnOk, OnErr};
+ghost use Rattle.tokens.specs.Meanings.{piece_of};
+
+use crate::{Piece, Sign, Token};
+use mk_value::Memory;
+use smallvec::SmallVec;
+use std::alloc::Global;
+use std::default::MadeWith;
+use std::marker::Model;
+
+/// How many pieces stand in the list itself. A text of more takes memory.
+const INLINE_PIECES: usize = 8;
+
+impl MadeWith<Global> for Piece {
+    fn made_with(_alloc: Global) -> Piece {
+        Piece {
+            place: 0,
+            token: Token::Symbol(Sign::Comma),
+        }
+    }
+}
+
+/// The pieces of a text, in order.
+#[derive(Drop)]
+pub struct Pieces {
+    items: SmallVec<Piece, INLINE_PIECES>,
+}
+
+impl Model for Pieces {
+    ghost use Rattle.std.specs.Prelude.{List, map};
+    ghost use Rattle.tokens.specs.Cutting.{Piece, pieces_code};
+    ghost use Rattle.tokens.specs.Meanings.{piece_of};
+
+    ghost Value = { List Piece };
+
+    ghost coded = { pieces_code };
+
+    ghost view = { λ p. map piece_of p.items.items };
+}
+
+impl Pieces {
+    /// No pieces.
+    pub(crate) fn new(alloc: Global) -> Pieces
+        ensures { result ≡ [] }
+    {
+        Pieces {
+            items: SmallVec::new(alloc),
+        }
+    }
+
+    /// Appends a piece.
+    pub(crate) fn push(&mut self, piece: Piece) -> Result<(), Memory>
+        ensures ok { OnOk result (self.new ≡ self.old ++ piece_of piece ∷ []) }
+        ensures err { OnErr result (self.new ≡ self.old) }
+    {
+        self.items.push(piece)?;
+        Ok(())
+    }
+
+    pub fn as_slice(&self) -> &[Piece]
+        ensures { map piece_of result.now ≡ self.now }
+    {
+        self.items.as_slice()
+    }
+}
