@@ -169,14 +169,14 @@ impl Root {
     ///
     /// The first that is due: `NoView`; `NoProp` where a property of the path is absent; `WrongKind` where a step goes into no
     /// view; `OutOfRange` with the size there, where a row of the path is not there. Else `Memory`.
-    pub fn view(&self, alloc: Global, path: &Path) -> Result<Shared, EditError>
+    pub fn view(&self, path: &Path) -> Result<Shared, EditError>
         ensures due { AnswersDue (look_due self.now path.now) result }
         ensures ok { IfOk result (λ shared. view_at self.now path.now ≡ Some shared) }
     {
         let Some(at) = place_in(&self.names, path.name()) else {
             return Err(EditError::NoView);
         };
-        self.tables[at].look(alloc, path.steps())
+        self.tables[at].look(*self.tables.allocator(), path.steps())
     }
 
     /// A root of the same names, rows and homes.
