@@ -93,7 +93,8 @@ get_or-unplaced_from (a ∷ schema) k (suc m) rows d p =
     get_or-unplaced_from schema (k + 1) m rows d (omega arith)
     ∙ ap (λ j. unplaced (domain_at schema m) (column_of rows j)) (let e : (k + 1) + m ≡ k + suc m = omega arith in e)
 
-get_or-unplaced : (schema : List Attribute) (m : ℕ) (rows : List (List Datum)) (d : Home) → m < length schema → get_or (unplaced_homes schema rows) m d ≡ unplaced (domain_at schema m) (column_of rows m)
+-- the home of the column at a place
+pub get_or-unplaced : (schema : List Attribute) (m : ℕ) (rows : List (List Datum)) (d : Home) → m < length schema → get_or (unplaced_homes schema rows) m d ≡ unplaced (domain_at schema m) (column_of rows m)
 get_or-unplaced schema m rows d p = get_or-unplaced_from schema 0 m rows d p ∙ ap (λ j. unplaced (domain_at schema m) (column_of rows j)) (zero-add m)
 
 column-set : (rows : List (List Datum)) (i j m : ℕ) (d : Datum) → i < length rows → m ≢ j → column_of (set rows i (set (get_or rows i []) j d)) m ≡ column_of rows m
