@@ -30,6 +30,14 @@ abbrev pub schema_at : List Step → List Attribute → Result (List Attribute) 
 schema_at [] schema = Ok schema
 schema_at (s ∷ steps) schema = in_property schema (find schema s.prop) (λ inner. schema_at steps inner)
 
+-- the schema of the view that a route names, or the first refusal of its name and properties; no row is looked at
+abbrev pub schema_in : Option Placed → List Step → Result (List Attribute) EditError
+schema_in None steps = Err NoView
+schema_in (Some t) steps = schema_at steps t.schema
+
+abbrev pub schema_of : List NamedTable → Route → Result (List Attribute) EditError
+schema_of views route = schema_in (table_of views route.name) route.steps
+
 -- the rows to which the steps lead, from the left: behind a row that is not there nothing is looked at
 abbrev pub rows_at : List Step → List Attribute → List (List Datum) → Result (List (List Datum)) EditError
 rows_at [] schema rows = Ok rows

@@ -1,19 +1,21 @@
 //! Views by name.
-ghost use Rattle.std.specs.Prelude.{◌≡◌, ◌↔◌, ◌<◌, ◌≤◌, [], ◌∷◌, ◌++◌, length, map, position, IsSome, IfOk, OnOk, OnErr, ◌⊎◌, None, Some, Err};
+ghost use Rattle.std.specs.Prelude.{◌≡◌, ◌↔◌, ◌<◌, ◌≤◌, [], ◌∷◌, ◌++◌, length, map, position, IsSome, IfOk, MatchResult, OnOk, OnErr, ◌⊎◌, None, Some, Ok, Err};
+ghost use Rattle.std.specs.Option.{option_map};
+ghost use Rattle.std.specs.Result.{result_err};
 ghost use Rattle.mk_value.specs.Data.{AreRowsOf};
 ghost use Rattle.mk_value.specs.Limits.{max_rows};
 ghost use Rattle.mk_value.specs.Names.{same_bytes};
 ghost use Rattle.mk_value.specs.Values.{datum_of};
 ghost use Rattle.view_store.specs.Changes.{FitsSizes, edit_of};
 ghost use Rattle.view_store.specs.Edits.{Edit, table_at};
-ghost use Rattle.view_store.specs.Refusals.{AnswersDue, due, look_due};
+ghost use Rattle.view_store.specs.Refusals.{AnswersDue, due, look_due, schema_of};
 ghost use Rattle.view_store.specs.Rests.{MayReplace, ViewsRestOn};
 ghost use Rattle.view_store.specs.Views.{AreViews, edited_views, max_structure, max_views, structure_length, table_of, view_at, view_names, with_view, without_view};
 ghost use Rattle.view_store.specs.declared.error.EditError.TheVariants as edit_error;
 
 use crate::change::Change;
 use crate::{EditError, Shared, Table};
-use mk_value::{Memory, Name, Path, Row, Sequence, Value};
+use mk_value::{Memory, Name, Path, Row, Rows, Schema, Sequence, Value};
 use std::alloc::Global;
 use std::marker::Model;
 
@@ -177,6 +179,49 @@ impl Root {
             return Err(EditError::NoView);
         };
         self.tables[at].look(*self.tables.allocator(), path.steps())
+    }
+
+    /// The schema of the view that the path names. No row is looked at, and no memory is taken.
+    ///
+    /// # Errors
+    ///
+    /// The first that is due: `NoView`; `NoProp` where a property of the path is absent; `WrongKind` where a step goes into no
+    /// view.
+    pub fn schema(&self, path: &Path) -> Result<&Schema, EditError>
+        ensures { MatchResult result (λ schema. schema_of self.now path.now ≡ Ok schema.now) (λ e. schema_of self.now path.now ≡ Err e) }
+    {
+        let Some(at) = place_in(&self.names, path.name()) else {
+            return Err(EditError::NoView);
+        };
+        self.tables[at].find_schema(path.steps())
+    }
+
+    /// The rows of the view that the path names, in order. No memory is taken.
+    ///
+    /// # Errors
+    ///
+    /// The first that is due: `NoView`; `NoProp` where a property of the path is absent; `WrongKind` where a step goes into no
+    /// view; `OutOfRange` with the size there, where a row of the path is not there.
+    pub fn rows(&self, path: &Path) -> Result<&Rows, EditError>
+        ensures due { result_err result ≡ look_due self.now path.now }
+        ensures ok { IfOk result (λ rows. option_map (λ t. t.rows) (view_at self.now path.now) ≡ Some rows.now) }
+    {
+        let Some(at) = place_in(&self.names, path.name()) else {
+            return Err(EditError::NoView);
+        };
+        self.tables[at].find_rows(path.steps())
+    }
+
+    /// The number of rows of the view that the path names, at most 16,777,216. No memory is taken.
+    ///
+    /// # Errors
+    ///
+    /// The first that is due, as of `rows`.
+    pub fn size(&self, path: &Path) -> Result<usize, EditError>
+        ensures due { result_err result ≡ look_due self.now path.now }
+        ensures ok { IfOk result (λ size. option_map (λ t. length t.rows) (view_at self.now path.now) ≡ Some size) }
+    {
+        Ok(self.rows(path)?.len())
     }
 
     /// A root of the same names, rows and homes.

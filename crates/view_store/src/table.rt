@@ -1,9 +1,10 @@
 //! Tables in memory.
-ghost use Rattle.std.specs.Prelude.{◌≡◌, ◌≤◌, [], length, IfOk, OnOk, OnErr};
+ghost use Rattle.std.specs.Prelude.{◌≡◌, ◌≤◌, [], length, IfOk, MatchResult, OnOk, OnErr, Ok, Err};
+ghost use Rattle.std.specs.Result.{result_err};
 ghost use Rattle.mk_value.specs.Data.{AreRowsOf};
 ghost use Rattle.view_store.specs.Changes.{FitsSizes, edit_of};
 ghost use Rattle.view_store.specs.Edits.{edited, table_at};
-ghost use Rattle.view_store.specs.Refusals.{AnswersDue, due_in, look_due_in};
+ghost use Rattle.view_store.specs.Refusals.{AnswersDue, due_in, look_due_in, schema_at};
 ghost use Rattle.view_store.specs.Tables.{IsTable, IsUnplaced, unplaced_table};
 
 use crate::change::Change;
@@ -99,6 +100,22 @@ impl Table {
         let rows = find_rows(&self.rows, &self.schema, steps)?;
         let table = from_rows(schema.copy()?, rows.copy()?)?;
         Ok(share(alloc, table)?)
+    }
+
+    /// The schema to which the steps lead.
+    pub(crate) fn find_schema(&self, steps: &[Step]) -> Result<&Schema, EditError>
+        ensures { MatchResult result (λ schema. schema_at steps.now self.now.schema ≡ Ok schema.now) (λ e. schema_at steps.now self.now.schema ≡ Err e) }
+    {
+        find_schema(&self.schema, steps)
+    }
+
+    /// The rows to which the steps lead.
+    pub(crate) fn find_rows(&self, steps: &[Step]) -> Result<&Rows, EditError>
+        ensures due { result_err result ≡ look_due_in self.now steps.now }
+        ensures ok { IfOk result (λ rows. (table_at steps.now self.now).rows ≡ rows.now) }
+    {
+        let _schema = find_schema(&self.schema, steps)?;
+        find_rows(&self.rows, &self.schema, steps)
     }
 
     /// An equal table, which has memory of its own.
