@@ -1,6 +1,8 @@
 //! The texts of replies.
-ghost use Rattle.std.specs.Prelude.{◌≡◌, ◌≤◌, ◌+◌, ◌++◌, length, IsOk, OnOk, OnErr};
-ghost use Rattle.cmd_text.specs.Replies.{reply_bytes};
+ghost use Rattle.std.specs.Prelude.{◌≡◌, ◌≤◌, ◌+◌, ◌++◌, length, IsOk, OnOk, OnErr, decimal, codes};
+ghost use Rattle.std.specs.List.{flat_map};
+ghost use Rattle.mk_value.specs.Appending.{Writes};
+ghost use Rattle.cmd_text.specs.Replies.{contents, lines_text, refusal_text, reply_bytes, reply_line};
 
 use crate::Refusal;
 use mk_value::{Memory, Text, Texts};
@@ -55,7 +57,141 @@ pub fn reply_text(reply: &Reply, out: &mut Text) -> Result<(), Memory>
     ensures roomy { length (reply_bytes reply.now) ≤ out.old.spare → IsOk result }
     ensures spare { out.old.spare ≤ out.new.spare + length (reply_bytes reply.now) }
 {
-    let _ = reply;
-    out.push_str("")?;
-    Err(Memory)
+    let before = out.len();
+    let appended = append_reply(reply, out);
+    if appended.is_err() {
+        out.truncate(before);
+    }
+    appended
+}
+
+/// Appends the lines of a reply, or a front of them.
+fn append_reply(reply: &Reply, out: &mut Text) -> Result<(), Memory>
+    ensures { Writes result out.old (reply_bytes reply.now) out.new }
+{
+    match reply {
+        Reply::Silent => append("", out),
+        Reply::Plain => append_line("ok", out),
+        Reply::Count(number) => append_numbered_line("ok ", *number, out),
+        Reply::Pair(first, second) => append_pair_line("ok ", *first, *second, out),
+        Reply::NotFound => append_line("ok none", out),
+        Reply::Lines(texts) => append_lines(texts, out),
+        Reply::One(text) => append_text_line("ok ", text.as_str(), out),
+        Reply::Commit(number) => append_numbered_line("ok commit ", *number, out),
+        Reply::Rollback(number) => append_numbered_line("ok rollback ", *number, out),
+        Reply::Reopen(number) => append_numbered_line("ok reopen ", *number, out),
+        Reply::Space(space) => append_space(*space, out),
+        Reply::Quit => append_line("ok quit", out),
+        Reply::Refused(refusal) => append_refusal(*refusal, out),
+    }
+}
+
+fn append_refusal(refusal: Refusal, out: &mut Text) -> Result<(), Memory>
+    ensures { Writes result out.old (reply_line (refusal_text refusal)) out.new }
+{
+    match refusal {
+        Refusal::Memory => append_line("err 1 memory", out),
+        Refusal::Syntax(place) => append_numbered_line("err 2 syntax ", place, out),
+        Refusal::NoName => append_line("err 3 noname", out),
+        Refusal::Exists => append_line("err 4 exists", out),
+        Refusal::Range(size) => append_numbered_line("err 5 range ", size, out),
+        Refusal::NoProp => append_line("err 6 noprop", out),
+        Refusal::Kind => append_line("err 7 kind", out),
+        Refusal::Limit => append_line("err 8 limit", out),
+        Refusal::Disk => append_line("err 9 disk", out),
+        Refusal::Full(end, cap) => append_pair_line("err 10 full ", end, cap, out),
+        Refusal::Shut => append_line("err 11 shut", out),
+        Refusal::LastNumber => append_line("err 12 lastnumber", out),
+        Refusal::Floating(place) => append_numbered_line("err 13 floating ", place, out),
+        Refusal::ReadOnly => append_line("err 14 readonly", out),
+        Refusal::Damaged(place) => append_numbered_line("err 15 damaged ", place, out),
+        Refusal::InUse => append_line("err 16 inuse", out),
+        Refusal::Keys(row) => append_numbered_line("err 17 keys ", row, out),
+        Refusal::Unsorted => append_line("err 18 unsorted", out),
+    }
+}
+
+/// Appends the number of the lines on a line of its own, and the lines.
+fn append_lines(texts: &Texts, out: &mut Text) -> Result<(), Memory>
+    ensures { Writes result out.old (lines_text (contents texts.now)) out.new }
+{
+    append_numbered_line("ok ", texts.len() as u64, out)?;
+    append_texts(texts.as_slice(), out)
+}
+
+/// Appends texts, each on a line of its own.
+fn append_texts(texts: &[Text], out: &mut Text) -> Result<(), Memory>
+    ensures { Writes result out.old (flat_map reply_line (contents texts.now)) out.new }
+{
+    for text in texts {
+        append_line(text.as_str(), out)?;
+    }
+    Ok(())
+}
+
+fn append_space(space: Space, out: &mut Text) -> Result<(), Memory>
+    ensures { Writes result out.old (reply_bytes (Reply.Space space)) out.new }
+{
+    append_pair("ok space ", space.number, space.end, out)?;
+    append_numbered_line(" ", space.used, out)
+}
+
+/// Appends words, two numbers with a space between them, and a newline.
+fn append_pair_line(words: &str, first: u64, second: u64, out: &mut Text) -> Result<(), Memory>
+    ensures { Writes result out.old (reply_line (words.now ++ (decimal first ++ (codes " " ++ decimal second)))) out.new }
+{
+    append_pair(words, first, second, out)?;
+    append("\n", out)
+}
+
+/// Appends words, and two numbers with a space between them.
+fn append_pair(words: &str, first: u64, second: u64, out: &mut Text) -> Result<(), Memory>
+    ensures { Writes result out.old (words.now ++ (decimal first ++ (codes " " ++ decimal second))) out.new }
+{
+    append_numbered(words, first, out)?;
+    append_numbered(" ", second, out)
+}
+
+/// Appends words, a number and a newline.
+fn append_numbered_line(words: &str, number: u64, out: &mut Text) -> Result<(), Memory>
+    ensures { Writes result out.old (reply_line (words.now ++ decimal number)) out.new }
+{
+    append_numbered(words, number, out)?;
+    append("\n", out)
+}
+
+/// Appends words, and a number in decimal.
+fn append_numbered(words: &str, number: u64, out: &mut Text) -> Result<(), Memory>
+    ensures { Writes result out.old (words.now ++ decimal number) out.new }
+{
+    append(words, out)?;
+    append_number(number, out)
+}
+
+/// Appends words, a text and a newline.
+fn append_text_line(words: &str, text: &str, out: &mut Text) -> Result<(), Memory>
+    ensures { Writes result out.old (reply_line (words.now ++ text.now)) out.new }
+{
+    append(words, out)?;
+    append_line(text, out)
+}
+
+/// Appends a text and a newline.
+fn append_line(text: &str, out: &mut Text) -> Result<(), Memory>
+    ensures { Writes result out.old (reply_line text.now) out.new }
+{
+    append(text, out)?;
+    append("\n", out)
+}
+
+fn append_number(number: u64, out: &mut Text) -> Result<(), Memory>
+    ensures { Writes result out.old (decimal number) out.new }
+{
+    out.push_integer(number)
+}
+
+fn append(text: &str, out: &mut Text) -> Result<(), Memory>
+    ensures { Writes result out.old text.now out.new }
+{
+    out.push_str(text)
 }
