@@ -391,3 +391,39 @@ fn views_have_names_until_they_are_dropped(rt: HostRuntime) -> Result<(), Fail> 
     assert!(rt; matches!(book, Err(EditError::NoView)));
     has_ages(&rt, &root, rt.alloc(), &[])
 }
+
+#[test]
+fn a_view_is_looked_at_without_a_copy(rt: HostRuntime) -> Result<(), Fail> {
+    let root = one_book(rt.alloc())?;
+    // A path, and its schema's properties and rows; then what each call answers where there are none.
+    let book = path(rt.alloc(), "book", "")?;
+    let phones = path(rt.alloc(), "book", "phones")?;
+    assert_eq!(rt; root.schema(&phones)?.len(), 2);
+    assert_eq!(rt; root.rows(&phones)?.len(), 1);
+    assert_eq!(rt; root.size(&book), Ok(1));
+    let mut second = path(rt.alloc(), "book", "")?;
+    second.push(Step {
+        row: 1,
+        prop: name("phones")?,
+    })?;
+    assert!(rt; root.schema(&second).is_ok());
+    assert_eq!(rt; root.size(&second), Err(EditError::OutOfRange(1)));
+    assert!(rt; matches!(root.rows(&second), Err(EditError::OutOfRange(1))));
+    Ok(())
+}
+
+#[test]
+fn looks_are_refused_in_order(rt: HostRuntime) -> Result<(), Fail> {
+    let root = one_book(rt.alloc())?;
+    let rows = [
+        ("nobody", "nothing", EditError::NoView),
+        ("book", "phones nothing", EditError::NoProp),
+        ("book", "name nothing", EditError::WrongKind),
+    ];
+    for (view, props, want) in rows {
+        let path = path(rt.alloc(), view, props)?;
+        assert_eq!(rt; root.size(&path), Err(want), "at {view} {props}");
+        assert_eq!(rt; root.schema(&path).err(), Some(want), "at {view} {props}");
+    }
+    Ok(())
+}
