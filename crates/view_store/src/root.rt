@@ -1,5 +1,5 @@
 //! Views by name.
-ghost use Rattle.std.specs.Prelude.{◌≡◌, ◌↔◌, ◌<◌, ◌≤◌, [], ◌∷◌, ◌++◌, length, map, position, IsSome, IfOk, MatchResult, OnOk, OnErr, ◌⊎◌, None, Some, Ok, Err};
+ghost use Rattle.std.specs.Prelude.{◌≡◌, ◌↔◌, ◌<◌, ◌≤◌, [], ◌∷◌, ◌++◌, length, map, position, IsSome, IfOk, MatchOption, MatchResult, OnOk, OnErr, ◌⊎◌, None, Some, Ok, Err};
 ghost use Rattle.std.specs.Option.{option_map};
 ghost use Rattle.std.specs.Result.{result_err};
 ghost use Rattle.mk_value.specs.Data.{AreRowsOf};
@@ -59,6 +59,23 @@ impl Root {
         ensures whole { AreViews self.now }
     {
         &self.names
+    }
+
+    /// The tables of the views, in the order of their names.
+    pub fn tables(&self) -> &[Table]
+        ensures { result.now ≡ map (λ v. v.table) self.now }
+    {
+        &self.tables
+    }
+
+    /// The table of the view of a name.
+    pub fn table(&self, name: &Name) -> Option<&Table>
+        ensures { MatchOption result (table_of self.now name.now ≡ None) (λ table. table_of self.now name.now ≡ Some table.now) }
+    {
+        match place_in(&self.names, name) {
+            Some(at) => Some(&self.tables[at]),
+            None => None,
+        }
     }
 
     /// Puts copies of a row, so many times, before the row at a place of the view that the path names. Values that are missing at

@@ -401,6 +401,12 @@ fn a_view_is_looked_at_without_a_copy(rt: HostRuntime) -> Result<(), Fail> {
     assert_eq!(rt; root.schema(&phones)?.len(), 2);
     assert_eq!(rt; root.rows(&phones)?.len(), 1);
     assert_eq!(rt; root.size(&book), Ok(1));
+    assert_eq!(rt; root.tables().len(), 1);
+    assert_eq!(rt;
+        root.table(&name("book")?).map(|table| table.size()),
+        Some(1)
+    );
+    assert!(rt; root.table(&name("nobody")?).is_none());
     let mut second = path(rt.alloc(), "book", "")?;
     second.push(Step {
         row: 1,
