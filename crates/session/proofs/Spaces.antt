@@ -4,7 +4,8 @@ use Rattle.std.specs.Str.Pattern.{FindsCharPrefix, FindsCharSuffix, CutsPrefixes
 use Rattle.std.proofs.lemmas.Str.{encode_ascii}
 use Rattle.std.proofs.lemmas.Str.Pattern.{drop_at_char}
 use Rattle.std.proofs.lemmas.List.{reverse-append, reverse-reverse, length-reverse, drop_all}
-use Rattle.session.specs.Line.{space, is_space, without_leading, without_trailing}
+use Rattle.tokens.specs.Cutting.{space}
+use Rattle.cmd_text.specs.Lines.{is_space, without_leading, without_trailing}
 
 pub without_leading-no_longer : (bytes : List ℕ) → length (without_leading bytes) ≤ length bytes
 without_leading-no_longer [] = omega arith

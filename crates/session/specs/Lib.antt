@@ -1,5 +1,10 @@
-pub mod Line
-pub mod Readings
-pub mod Replies
+pub mod Comes
+pub mod Commands
+pub mod Fitting
+pub mod Lines
+pub mod Refusals
+pub mod Saying
 pub mod Step
+pub mod Structures
+pub mod Values
 pub mod World

@@ -1,20 +1,24 @@
-//! The session: the world of named views that lines are answered in.
+//! The session: named views that lines are answered in.
 //!
-//! One line is one step: it is read, carried out or refused, and answered. A refused line changes nothing. A further
-//! command is a case of the reading (`line`), of the step (`session`) and, where it is refused in a new way, of the
-//! refusals (`refusal`).
+//! One line is one step: it is read as a command, the command is carried out or refused, and its reply is written. A refused
+//! line changes nothing. What comes of each command is one case of `outcome_of` in the definitions, and one function here; a
+//! further command is a case of both.
 //!
-//! It stands on the names and schemas of mk_value and on the structure texts of struct_text. The loop of the crate lines
-//! cuts the input, calls `answer` and says what it gave. Nothing is stored yet.
+//! It stands on the commands and replies of `cmd_text`, the views of `view_store` and the new structures of `restructure`. The loop
+//! of the crate `lines` cuts the input, calls `answer` and says what it gave. Nothing is stored yet.
 #![tactic(auto)]
 
-mod line;
-mod refusal;
-mod reply;
+mod edits;
+mod looks;
+mod refusals;
+mod replies;
+mod saying;
 mod session;
+mod structures;
 #[cfg(test)]
 mod tests;
-mod world;
+mod values;
+mod words;
 
-pub use refusal::Refusal;
+pub use edits::MAX_COPIES;
 pub use session::Session;

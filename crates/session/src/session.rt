@@ -1,23 +1,29 @@
-ghost use Rattle.std.specs.Prelude.{◌≡◌, ◌+◌, ◌≤◌, ◌↔◌, [], true, length, IfErr, OnOk, OnErr};
+ghost use Rattle.std.specs.Prelude.{◌≡◌, ◌+◌, ◌≤◌, ◌↔◌, [], true, false, length};
 ghost use Rattle.lines.specs.Lines.{max_line};
-ghost use Rattle.session.specs.Line.{reading_of};
+ghost use Rattle.session.specs.Commands.{outcome_of};
+ghost use Rattle.session.specs.Comes.{Comes};
+ghost use Rattle.session.specs.Lines.{IsOfLine, is_blank, is_quit};
+ghost use Rattle.session.specs.Saying.{KeepsRoom};
+ghost use Rattle.session.specs.Step.{Step};
 ghost use Rattle.session.specs.World.{new_world};
-ghost use Rattle.session.specs.Step.{Step, Declares, IsRefusedAs, is_leave};
 
-use crate::line::{Reading, read};
-use crate::refusal::{Refusal, of_structure};
-use crate::reply;
-use crate::world::{View, Views};
+use crate::refusals::of_reading;
+use crate::replies;
+use crate::saying::{refuse, say};
+use crate::words::{is_blank, is_quit};
+use cmd_text::{Command, Refusal, Reply, read_command};
 use host_io::Host;
 use lines::Flow;
 use mk_value::Text;
 use std::alloc::Global;
 use std::marker::Model;
+use view_store::Root;
 
-/// A session: the named views that its lines have made.
-#[derive(Debug, Drop)]
+/// A session: the named views that its lines have made and edited.
+#[derive(Drop)]
 pub struct Session {
-    views: Views,
+    pub(crate) root: Root,
+    pub(crate) alloc: Global,
 }
 
 impl Model for Session {
@@ -27,7 +33,7 @@ impl Model for Session {
 
     ghost coded = { world_code };
 
-    ghost view = { λ s. record { views = s.views } };
+    ghost view = { λ s. record { root = s.root } };
 }
 
 impl Session {
@@ -36,7 +42,8 @@ impl Session {
         ensures { result ≡ new_world }
     {
         Session {
-            views: Views::new(alloc),
+            root: Root::new(alloc),
+            alloc,
         }
     }
 
@@ -46,40 +53,62 @@ impl Session {
         requires empty { out.old.bytes ≡ [] }
         requires room { max_line + 1 ≤ out.old.spare }
         ensures step { Step self.old line.now out.new.bytes self.new }
-        ensures ends { (result ≡ Flow.Ends) ↔ (is_leave (reading_of line.now) ≡ true) }
+        ensures ends { (result ≡ Flow.Ends) ↔ (is_quit line.now ≡ true) }
         ensures room { max_line + 1 ≤ out.new.spare + length out.new.bytes }
     {
-        match read(line) {
-            Reading::Blank => Flow::Goes,
-            Reading::Quit => {
-                reply::quit(out);
-                Flow::Ends
-            }
-            Reading::Structure(start, text) => {
-                match self.declare(start, text) {
-                    Ok(()) => reply::structure(text, out),
-                    Err(refusal) => reply::refuse(refusal, out),
+        if is_blank(line) {
+            return Flow::Goes;
+        }
+        if is_quit(line) {
+            let _ = say(&Reply::Quit, out);
+            return Flow::Ends;
+        }
+        self.answer_line(line, out);
+        Flow::Goes
+    }
+
+    /// Answers a line that asks for something and goes on.
+    fn answer_line(&mut self, line: &[u8], out: &mut Text)
+        requires short { length line.now ≤ max_line }
+        requires asks { is_blank line.now ≡ false }
+        requires goes_on { is_quit line.now ≡ false }
+        requires empty { out.old.bytes ≡ [] }
+        requires room { max_line + 1 ≤ out.old.spare }
+        ensures step { Step self.old line.now out.new.bytes self.new }
+        ensures room { KeepsRoom out.old out.new }
+    {
+        match read_command(self.alloc, line) {
+            Ok(command) => {
+                let reply = self.carry_out(&command);
+                if say(&reply, out).is_err() {
+                    refuse(Refusal::Memory, out);
                 }
-                Flow::Goes
             }
-            Reading::Unknown(place) => {
-                reply::refuse(Refusal::Syntax(place), out);
-                Flow::Goes
-            }
+            Err(error) => refuse(of_reading(error), out),
         }
     }
 
-    /// Gives the view of the name that the text spells the structure that it spells. The text begins at `start` of its
-    /// line.
-    fn declare(&mut self, start: usize, text: &str) -> Result<(), Refusal>
-        requires { start + length text.now ≤ max_line }
-        ensures ok { OnOk result (Declares text.now self.old self.new) }
-        ensures causes { IfErr result (λ refusal. IsRefusedAs refusal start text.now self.old) }
-        ensures err { OnErr result (self.new ≡ self.old) }
+    /// Carries a command out, and gives the reply to it.
+    fn carry_out(&mut self, command: &Command) -> Reply
+        requires { IsOfLine command.now }
+        ensures { Comes (outcome_of self.old.root command.now) self.old result self.new }
     {
-        match struct_text::parse(self.views.allocator(), text) {
-            Ok((name, schema)) => self.views.put(View::new(name, schema)),
-            Err(error) => Err(of_structure(start, error)),
+        match command {
+            Command::Nothing => Reply::Silent,
+            Command::Getas(name, schema) => replies::text(self.getas(name, schema)),
+            Command::Drop(name) => replies::done(self.drop_view(name)),
+            Command::Struct => replies::lines(self.structures()),
+            Command::Add(path, literals) => replies::count(self.add(path, literals)),
+            Command::Insert(path, place, copies, literals) => {
+                replies::count(self.insert(path, *place, *copies, literals))
+            }
+            Command::Set(path, row, prop, literal) => {
+                replies::done(self.set(path, *row, prop, literal))
+            }
+            Command::Remove(path, place, rows) => replies::count(self.remove(path, *place, *rows)),
+            Command::Size(path) => replies::count(self.size_of(path)),
+            Command::Show(path) => replies::lines(self.rows_of(path)),
+            Command::Quit => Reply::Quit,
         }
     }
 }

@@ -1,0 +1,90 @@
+//! Looking at views: their sizes, their rows and their structures.
+ghost use Rattle.std.specs.Prelude.{◌≡◌, map, length, IfOk, None};
+ghost use Rattle.std.specs.Result.{result_err};
+ghost use Rattle.mk_value.specs.Literals.{row_text};
+ghost use Rattle.cmd_text.specs.Replies.{contents};
+ghost use Rattle.struct_text.specs.Spelling.{spelling};
+ghost use Rattle.session.specs.Refusals.{AnswersDue, by_rows};
+ghost use Rattle.session.specs.Structures.{structure_texts as texts_of, structures};
+ghost use Rattle.session.specs.Values.{rows_named, size_named};
+
+use crate::Session;
+use crate::refusals::{of_edit, of_memory};
+use cmd_text::Refusal;
+use mk_value::{Memory, Name, Path, Row, Rows, Schema, TableRead, Text, Texts, print_row};
+use std::alloc::Global;
+use view_store::Table;
+
+impl Session {
+    /// The number of rows of a view.
+    pub(crate) fn size_of(&self, path: &Path) -> Result<u64, Refusal>
+        ensures due { result_err result ≡ by_rows self.now.root path.now }
+        ensures size { IfOk result (λ size. size ≡ size_named self.now.root path.now) }
+    {
+        match self.root.size(path) {
+            Ok(size) => Ok(size as u64),
+            Err(error) => Err(of_edit(error)),
+        }
+    }
+
+    /// The texts of the rows of a view, in order.
+    pub(crate) fn rows_of(&self, path: &Path) -> Result<Texts, Refusal>
+        ensures due { AnswersDue (by_rows self.now.root path.now) result }
+        ensures texts { IfOk result (λ texts. contents texts ≡ map row_text (rows_named self.now.root path.now)) }
+    {
+        match self.root.rows(path) {
+            Ok(rows) => row_texts(self.alloc, rows).map_err(of_memory),
+            Err(error) => Err(of_edit(error)),
+        }
+    }
+
+    /// The structure texts of the views, in the order in which they were made.
+    pub(crate) fn structures(&self) -> Result<Texts, Refusal>
+        ensures due { AnswersDue None result }
+        ensures texts { IfOk result (λ texts. contents texts ≡ structures self.now.root) }
+    {
+        let names = self.root.names().as_slice();
+        structure_texts(self.alloc, names, self.root.tables()).map_err(of_memory)
+    }
+}
+
+/// The texts of rows.
+fn row_texts(alloc: Global, rows: &Rows) -> Result<Texts, Memory>
+    ensures { IfOk result (λ texts. contents texts ≡ map row_text rows.now) }
+{
+    let mut texts = Texts::new(alloc);
+    for row in rows.as_slice() {
+        texts.push(text_of_row(alloc, row)?)?;
+    }
+    Ok(texts)
+}
+
+fn text_of_row(alloc: Global, row: &Row) -> Result<Text, Memory>
+    ensures { IfOk result (λ text. text.bytes ≡ row_text row.now) }
+{
+    let mut text = Text::new(alloc);
+    print_row(row, &mut text)?;
+    Ok(text)
+}
+
+/// The structure texts of names and their tables.
+fn structure_texts(alloc: Global, names: &[Name], tables: &[Table]) -> Result<Texts, Memory>
+    requires { length names.now ≡ length tables.now }
+    ensures { IfOk result (λ texts. contents texts ≡ texts_of names.now tables.now) }
+{
+    let mut texts = Texts::new(alloc);
+    for at in 0..names.len() {
+        let text = structure_text(alloc, &names[at], tables[at].schema())?;
+        texts.push(text)?;
+    }
+    Ok(texts)
+}
+
+/// The text of a structure.
+pub(crate) fn structure_text(alloc: Global, name: &Name, schema: &Schema) -> Result<Text, Memory>
+    ensures { IfOk result (λ text. text.bytes ≡ spelling name.now schema.now) }
+{
+    let mut text = Text::new(alloc);
+    struct_text::print(name, schema, &mut text)?;
+    Ok(text)
+}

@@ -1,0 +1,84 @@
+//! Giving views structures, and dropping views.
+ghost use Rattle.std.specs.Prelude.{◌≡◌, ◌≤◌, [], IfOk, None, OnErr, OnOk};
+ghost use Rattle.struct_text.specs.Spelling.{spelling};
+ghost use Rattle.view_store.specs.Views.{max_structure, structure_length, table_of, without_view, with_view};
+ghost use Rattle.view_store.specs.Tables.{unplaced_table};
+ghost use Rattle.session.specs.Refusals.{AnswersDue, drop_due, getas_due};
+ghost use Rattle.session.specs.Structures.{structured};
+
+use crate::Session;
+use crate::looks::structure_text;
+use crate::refusals::{of_edit, of_memory};
+use cmd_text::Refusal;
+use mk_value::{Name, Schema, TableRead, Text};
+use restructure::restructure;
+use view_store::{MAX_VIEWS, empty_table};
+
+impl Session {
+    /// Gives the view of a name a structure, and gives its text.
+    ///
+    /// # Errors
+    ///
+    /// As of `declare`.
+    pub(crate) fn getas(&mut self, name: &Name, schema: &Schema) -> Result<Text, Refusal>
+        requires { structure_length name.now schema.now ≤ max_structure }
+        ensures due { AnswersDue (getas_due self.old.root name.now) result }
+        ensures text { IfOk result (λ text. text.bytes ≡ spelling name.now schema.now) }
+        ensures ok { OnOk result (self.new.root ≡ structured self.old.root name.now schema.now) }
+        ensures err { OnErr result (self.new ≡ self.old) }
+    {
+        let text = structure_text(self.alloc, name, schema).map_err(of_memory)?;
+        self.declare(name, schema)?;
+        Ok(text)
+    }
+
+    /// Gives the view of a name a structure: a view without rows is added last where none has the name, and the rows of one of another
+    /// structure are restructured.
+    ///
+    /// # Errors
+    ///
+    /// `Limit` where there are as many views as there may be, and none of the name. `Memory`.
+    fn declare(&mut self, name: &Name, schema: &Schema) -> Result<(), Refusal>
+        requires { structure_length name.now schema.now ≤ max_structure }
+        ensures due { AnswersDue (getas_due self.old.root name.now) result }
+        ensures ok { OnOk result (self.new.root ≡ structured self.old.root name.now schema.now) }
+        ensures err { OnErr result (self.new ≡ self.old) }
+    {
+        let Some(known) = self.root.table(name) else {
+            return self.add_view(name, schema);
+        };
+        if known.schema().is_same(schema) {
+            return Ok(());
+        }
+        let table = restructure(self.alloc, known, schema).map_err(of_memory)?;
+        self.root.put_view(name, table).map_err(of_memory)
+    }
+
+    /// Adds a view without rows last.
+    fn add_view(&mut self, name: &Name, schema: &Schema) -> Result<(), Refusal>
+        requires absent { table_of self.old.root name.now ≡ None }
+        requires short { structure_length name.now schema.now ≤ max_structure }
+        ensures due { AnswersDue (getas_due self.old.root name.now) result }
+        ensures ok { OnOk result (self.new.root ≡ with_view self.old.root name.now (unplaced_table schema.now [])) }
+        ensures err { OnErr result (self.new ≡ self.old) }
+    {
+        if self.root.names().len() >= MAX_VIEWS {
+            return Err(Refusal::Limit);
+        }
+        let table = empty_table(self.alloc, schema).map_err(of_memory)?;
+        self.root.put_view(name, table).map_err(of_memory)
+    }
+
+    /// Removes the view of a name.
+    ///
+    /// # Errors
+    ///
+    /// `NoName` where there is none.
+    pub(crate) fn drop_view(&mut self, name: &Name) -> Result<(), Refusal>
+        ensures due { AnswersDue (drop_due self.old.root name.now) result }
+        ensures ok { OnOk result (self.new.root ≡ without_view self.old.root name.now) }
+        ensures err { OnErr result (self.new ≡ self.old) }
+    {
+        self.root.drop_view(name).map_err(of_edit)
+    }
+}
