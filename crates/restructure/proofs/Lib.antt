@@ -1,3 +1,5 @@
 pub mod Plain
+pub mod Rows
 pub mod Same
+pub mod Texts
 pub mod Whole

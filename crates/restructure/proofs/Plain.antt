@@ -1,14 +1,13 @@
 -- Where no column of the old table has a home, none of the new has one.
-use Rattle.std.proofs.Common.{◌≡◌, ℕ, zero, suc, ◌+◌, ◌<◌, ◌≤◌, List, [], ◌∷◌, ◌++◌, length, get_or, map, pos, Option, Some, None, refl, ap, sym, subst, ◌∙◌, arith, append_assoc}
+use Rattle.std.proofs.Common.{◌≡◌, ℕ, zero, suc, ◌+◌, ◌<◌, List, [], ◌∷◌, ◌++◌, length, get_or, map, pos, Option, Some, None, refl, ap, sym, ◌∙◌, arith, append_assoc}
 use Rattle.std.proofs.lemmas.List.{length-append}
-use Rattle.std.proofs.lemmas.Simd.{map-map}
 use Rattle.mk_value.specs.Heading.{Domain, Heading, no_attributes, attribute, Attribute, attributes_of, heading_of, find}
 use Rattle.mk_value.specs.Data.{Datum, integer, relation, relation_of}
 use Rattle.mk_value.specs.Tables.{domain_at}
 use Rattle.mk_value.proofs.Headings.{heading_of-attributes_of}
 use Rattle.mk_value.proofs.Relations.{rows_of-relation_of}
-use Rattle.view_store.specs.Homes.{Home, nowhere, tables, each_of, row_homes, column_of, rows_in, unplaced, unplaced_from, unplaced_homes}
-use Rattle.view_store.specs.Tables.{Placed, unplaced_table}
+use Rattle.view_store.specs.Homes.{Home, nowhere, tables, row_homes, column_of, rows_in, unplaced, unplaced_from, unplaced_homes}
+use Rattle.view_store.specs.Tables.{Placed, IsUnplaced, unplaced_table}
 use Rattle.view_store.proofs.Lists.{each_of-row_homes}
 use Rattle.view_store.proofs.Unplaced.{get_or-unplaced}
 use Rattle.view_store.proofs.Walking.{place_within}
@@ -96,3 +95,7 @@ homes_plain g old rows = homes_plain_from g old rows (λ _. []) 0 (λ _. refl)
 pub restructured-plain : (schema new : List Attribute) (rows : List (List Datum)) → restructured (unplaced_table schema rows) new ≡ unplaced_table new (restructured_rows schema new rows)
 restructured-plain schema new rows =
     ap (λ hs. let t : Placed = record { schema = new; rows = restructured_rows schema new rows; homes = hs } in t) (homes_plain (heading_of new) schema rows)
+
+-- what is made of such a table
+pub made_plain : (t : Placed) (new : List Attribute) → IsUnplaced t → unplaced_table new (restructured_rows t.schema new t.rows) ≡ restructured t new
+made_plain t new plain = sym (restructured-plain t.schema new t.rows) ∙ ap (λ x. restructured x new) (sym plain)

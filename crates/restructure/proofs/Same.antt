@@ -1,8 +1,7 @@
 -- Under its own schema a table is as it was.
-use Rattle.std.proofs.Common.{◌≡◌, ◌≢◌, ℕ, zero, suc, ◌+◌, ◌<◌, ◌≤◌, ltb, cond, Bool, true, false, List, [], ◌∷◌, length, get_or, map, drop, All, pos, Option, Some, None, refl, ap, sym, subst, ◌∙◌, arith, add-one, drop-cons}
+use Rattle.std.proofs.Common.{◌≡◌, ◌≢◌, ℕ, zero, suc, ◌+◌, ◌<◌, ltb, cond, Bool, true, false, List, [], ◌∷◌, length, get_or, map, drop, All, pos, Some, None, refl, ap, sym, subst, ◌∙◌, arith, add-one, drop-cons}
 use Rattle.std.specs.List.{position_or_len}
 use Rattle.std.specs.Cmp.Lexicographic.{same_text, nat_list_eq_equiv}
-use Rattle.std.proofs.lemmas.Bool.{false≢true}
 use Rattle.std.proofs.lemmas.Bool.Decides.{Decides-ltb}
 use Rattle.std.proofs.lemmas.List.Sums.{position_or_len_is}
 use Rattle.std.proofs.lemmas.List.Elements.{All-head, All-tail}
@@ -13,10 +12,8 @@ use Rattle.mk_value.specs.Tables.{domain_at}
 use Rattle.mk_value.proofs.Converting.{relation_of-rows_of}
 use Rattle.mk_value.proofs.Headings.{AreAttributes-heading_of, attributes_of-heading_of}
 use Rattle.mk_value.proofs.Relations.{row_fits_length}
-use Rattle.mk_value.proofs.Walks.{same_default}
-use Rattle.view_store.specs.Tables.{Placed, IsTable, unplaced_table}
-use Rattle.restructure.specs.Restructuring.{restructured_value, row_under, value_under, restructured_row, restructured_rows, restructured}
-use Rattle.restructure.proofs.Plain.{restructured-plain}
+use Rattle.view_store.specs.Tables.{Placed, IsTable, IsUnplaced, unplaced_table}
+use Rattle.restructure.specs.Restructuring.{restructured_value, row_under, value_under, restructured_row, restructured_rows}
 use Rattle.restructure.proofs.Whole.{rows_inside, value_is_of}
 
 abbrev no_attribute : Attribute
@@ -107,6 +104,7 @@ rows_kept schema rows heading whole =
     rows whole.whole
 
 -- a whole table no column of which has a home, under its own schema
-pub restructured-same : (schema : List Attribute) (rows : List (List Datum)) → IsHeading schema → AreRowsOf rows schema → restructured (unplaced_table schema rows) schema ≡ unplaced_table schema rows
-restructured-same schema rows heading whole =
-    restructured-plain schema schema rows ∙ ap (λ rs. unplaced_table schema rs) (rows_kept schema rows heading whole)
+pub table_kept : (t : Placed) (new : List Attribute) → IsUnplaced t → IsTable t → t.schema ≡ new → unplaced_table new (restructured_rows t.schema new t.rows) ≡ t
+table_kept t new plain whole e =
+    subst (λ s. unplaced_table s (restructured_rows t.schema s t.rows) ≡ t) e
+    (ap (λ rows. unplaced_table t.schema rows) (rows_kept t.schema t.rows whole.schema whole.rows) ∙ sym plain)

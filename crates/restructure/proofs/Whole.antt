@@ -1,12 +1,10 @@
 -- What a restructuring makes is of the new schema.
-use Rattle.std.proofs.Common.{◌≡◌, ℕ, zero, suc, ◌+◌, ◌<◌, ◌≤◌, ◌^◌, ℤ, pos, negsuc, Bool, true, false, cond, leb, ◌&&◌, List, [], ◌∷◌, length, get_or, map, All, Option, Some, None, refl, ap, sym, subst, ◌∙◌, arith}
+use Rattle.std.proofs.Common.{◌≡◌, ℕ, zero, suc, ◌<◌, ◌≤◌, ◌^◌, ℤ, pos, negsuc, Bool, true, false, cond, leb, ◌&&◌, List, [], ◌∷◌, length, get_or, map, All, Option, Some, None, refl, ap, sym, subst, ◌∙◌, arith}
 use Rattle.std.specs.Int.{w32, w64}
 use Rattle.std.specs.Prelude.{FitsSigned}
-use Rattle.std.specs.Str.{is_utf8}
-use Rattle.std.specs.List.{list_all}
 use Rattle.std.proofs.lemmas.List.{length-map}
 use Rattle.std.proofs.lemmas.List.Elements.{All-head, All-tail, All-nil}
-use Rattle.mk_value.specs.Limits.{max_bytes, max_rows}
+use Rattle.mk_value.specs.Limits.{max_bytes}
 use Rattle.mk_value.specs.Heading.{Domain, Heading, no_attributes, attribute, Attribute, attributes_of, heading_of, find}
 use Rattle.mk_value.specs.Data.{Datum, integer, long, text, bytes, relation, tuple_of, rows_of, relation_of, IsText, IsOf, IsTupleOf, AreTuplesOf, IsRowOf, AreRowsOf}
 use Rattle.mk_value.specs.Tables.{domain_at}
