@@ -1,3 +1,4 @@
+pub mod Back
 pub mod Plain
 pub mod Rows
 pub mod Same

@@ -66,7 +66,7 @@ drop_at (y ∷ ys) (suc k) x rest d e =
     record { within = let p = found.within in omega arith; here = found.here; next = subst (λ m. drop m (y ∷ ys) ≡ rest) (let n : suc (k + 1) ≡ suc k + 1 = omega arith in n) found.next }
 
 mutual
-  value_same : (e : Domain) (d : Datum) → IsDomain e → IsOf d e → restructured_value e e d ≡ d
+  pub value_same : (e : Domain) (d : Datum) → IsDomain e → IsOf d e → restructured_value e e d ≡ d
   value_same Domain.integer (integer z) whole h = refl
   value_same Domain.long (long z) whole h = refl
   value_same Domain.text (text content) whole h = refl

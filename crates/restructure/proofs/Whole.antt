@@ -114,7 +114,7 @@ cell_fits e old None row each within = default_is_of e
 cell_fits e old (Some k) row each within = each k (within k refl)
 
 mutual
-  value_fits : (new old : Domain) (d : Datum) → IsOf d old → IsOf (restructured_value old new d) new
+  pub value_fits : (new old : Domain) (d : Datum) → IsOf d old → IsOf (restructured_value old new d) new
   value_fits Domain.integer old d h = converted_fits Domain.integer d (value_of d old h)
   value_fits Domain.long old d h = converted_fits Domain.long d (value_of d old h)
   value_fits Domain.text old d h = converted_fits Domain.text d (value_of d old h)

@@ -8,8 +8,10 @@
 #![tactic(auto)]
 
 mod conversion;
+mod laws;
 mod restructuring;
 #[cfg(test)]
 mod tests;
 
+pub use laws::{by_name, there_and_back};
 pub use restructuring::restructure;

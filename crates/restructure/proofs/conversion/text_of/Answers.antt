@@ -14,12 +14,12 @@ returns-in-Ok c =
 pub returns-in_default : goal.returns-in_default
 returns-in_default c =
     elim c.in_default.branch [
-      in_default-via-in-Ok+else-is_text w ↦
-        let content : w.in-Ok.text.now ≡ c.args.bytes.now.bytes = w.in-Ok.ensures.cases.0 ∙ c.as_slice.ensures in
-        c.new.ensures ∙ sym (text_lost c.args.bytes.now.bytes (λ text.
-        let yes : w.is_text.result ≡ true = w.is_text.ensures.1 (subst IsText (sym content) text) in
-        let other = w.if-is_text.false in
-        absurd (let e : false ≡ true = sym other ∙ yes in cc)))
-    | in_default-via-in_default w ↦
-        c.new.ensures ∙ sym (text_lost c.args.bytes.now.bytes (λ text. w.in_default.ensures.cases.0 (let utf8 = text.utf8 in rw c.as_slice.ensures utf8)))
+      | in_default-via-in-Ok+else-is_text w ↦
+          let content : w.in-Ok.text.now ≡ c.args.bytes.now.bytes = w.in-Ok.ensures.cases.0 ∙ c.as_slice.ensures in
+          c.new.ensures ∙ sym (text_lost c.args.bytes.now.bytes (λ text.
+          let yes : w.is_text.result ≡ true = w.is_text.ensures.1 (subst IsText (sym content) text) in
+          let other = w.if-is_text.false in
+          absurd (let e : false ≡ true = sym other ∙ yes in cc)))
+      | in_default-via-in_default w ↦
+          c.new.ensures ∙ sym (text_lost c.args.bytes.now.bytes (λ text. w.in_default.ensures.cases.0 (let utf8 = text.utf8 in rw c.as_slice.ensures utf8)))
     ]
