@@ -1,1 +1,5 @@
+pub mod Decoding
+pub mod Parts
+pub mod Taking
+pub mod Refusals
 pub mod Texts

@@ -1,3 +1,5 @@
+pub mod Forms
 pub mod Grammar
 pub mod Lines
+pub mod Readers
 pub mod Replies

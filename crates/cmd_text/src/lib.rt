@@ -8,9 +8,11 @@
 
 mod command;
 mod error;
+mod reader;
 mod reading;
 mod refusal;
 mod reply;
+mod verb;
 
 pub use command::Command;
 pub use error::CmdError;

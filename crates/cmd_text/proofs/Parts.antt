@@ -1,0 +1,180 @@
+-- Parts and forms: with what they begin, and that what is read from the front is read in one way.
+use Rattle.std.proofs.Common.{rules, true, ◌≡◌, ◌⊎◌, inl, inr, ℕ, pos, ◌<◌, List, [], ◌∷◌, ◌++◌, refl, sym, ap, subst, ◌∙◌, append_assoc, append-nil, arith, lit<, lit≤}
+use Rattle.std.specs.List.{flat_map}
+use Rattle.std.proofs.lemmas.List.Elements.{All-nil, All-cons}
+use Rattle.mk_value.specs.Data.{Datum}
+use Rattle.mk_value.specs.Literals.{tokens_of}
+use Rattle.mk_value.specs.Names.{IsName, is_name_byte}
+use Rattle.mk_value.specs.Tokens.{Token, word, number as number_token, sign}
+use Rattle.tokens.specs.Fronts.{Language, IsFront}
+use Rattle.tokens.specs.Literals.{SpellsLiteral}
+use Rattle.tokens.specs.Paths.{step_tokens, path_tokens, SpellsPath, slash}
+use Rattle.cmd_text.specs.Grammar.{count, literals_tokens}
+use Rattle.cmd_text.specs.Forms.{Part, name, number, path, literal, Form, nothing, values, next, IsPart, IsOfForm}
+use Rattle.cmd_text.proofs.Decoding.{literal_begins, begins_otherwise, literal_begins_with, behind_literal, behind_steps}
+
+-- the first of the tokens is one of those
+abbrev pub BeginsWith : (Token → Type 0) → List Token → Type 0
+BeginsWith may [] = ⊥
+BeginsWith may (t ∷ tokens) = may t
+
+pub BeginsWith-append : (may : Token → Type 0) (a b : List Token) → BeginsWith may a → BeginsWith may (a ++ b)
+BeginsWith-append may [] b h = absurd h
+BeginsWith-append may (t ∷ a) b h = h
+
+-- a token with which a part that is whole may go on
+abbrev pub GoesOn : Part → Token → Type 0
+GoesOn path t = t ≡ sign slash
+GoesOn name t = ⊥
+GoesOn number t = ⊥
+GoesOn literal t = ⊥
+
+-- a part has a first token, which is no slash
+pub record PartBegins (tokens : List Token) : Type 0 where
+  pub first : Token
+  pub rest : List Token
+  pub is : tokens ≡ first ∷ rest
+  pub no_slash : first ≡ sign slash → ⊥
+
+slash_is_no_brace : ◌≡◌ {A = ℕ} slash 123 → ⊥
+slash_is_no_brace e = cc
+
+pub part_begins : (part : Part) (tokens : List Token) → IsPart part tokens → PartBegins tokens
+part_begins name tokens (text, (named, is)) = record { first = word text; rest = []; is = is; no_slash = λ e. cc }
+part_begins number tokens (n, (few, is)) = record { first = count n; rest = []; is = is; no_slash = λ e. cc }
+part_begins path tokens (route, spells) =
+    record { first = word route.name; rest = flat_map step_tokens route.steps; is = spells.is; no_slash = λ e. cc }
+part_begins literal tokens (d, spells) =
+    let begins = literal_begins d in
+    record { first = begins.first; rest = begins.rest; is = spells.is ∙ begins.is; no_slash = λ e. begins_otherwise begins.first slash slash_is_no_brace begins.may e }
+
+pub no_part : (part : Part) → IsPart part [] → ⊥
+no_part part h = let begins = part_begins part [] h in absurd_first begins.first begins.rest begins.is
+  where
+    absurd_first : (t : Token) (rest : List Token) → [] ≡ t ∷ rest → ⊥
+    absurd_first t rest e = cc
+
+-- nothing of a form begins with a slash
+pub form_no_slash : (form : Form) (tokens : List Token) → IsOfForm form tokens → BeginsWith (λ t. t ≡ sign slash) tokens → ⊥
+form_no_slash form [] h b = b
+form_no_slash nothing (t ∷ tokens) h b = cc
+form_no_slash values (t ∷ tokens) ([], (whole, is)) b = cc
+form_no_slash values (t ∷ tokens) (d ∷ literals, (whole, is)) b =
+    literal_begins_with d slash (literals_tokens literals) tokens slash_is_no_brace (sym (ap (λ x. x ∷ tokens) b) ∙ is)
+form_no_slash (next part form) (t ∷ tokens) h b =
+    let begins = part_begins part h.front h.in_front in
+    let f : t ∷ tokens ≡ begins.first ∷ (begins.rest ++ h.rest) = h.is ∙ ap (λ x. x ++ h.rest) begins.is in
+    let same : begins.first ≡ t = cc in
+    begins.no_slash (same ∙ b)
+
+-- nor with a token with which a part before it may go on
+pub form_goes_on : (part : Part) (form : Form) (tokens : List Token) → IsOfForm form tokens → BeginsWith (GoesOn part) tokens → ⊥
+form_goes_on path form tokens h b = form_no_slash form tokens h b
+form_goes_on name form (t ∷ tokens) h b = b
+form_goes_on number form (t ∷ tokens) h b = b
+form_goes_on literal form (t ∷ tokens) h b = b
+form_goes_on name form [] h b = b
+form_goes_on number form [] h b = b
+form_goes_on literal form [] h b = b
+
+one_longer : (t u : Token) (tokens more : List Token) → tokens ≡ t ∷ [] → tokens ++ more ≡ u ∷ [] → more ≡ []
+one_longer t u tokens more e f =
+    let g : t ∷ more ≡ u ∷ [] = sym (ap (λ x. x ++ more) e) ∙ f in
+    cc
+
+-- a part that is whole is no proper front of another, but a path of one that goes on with a slash
+pub part_longer : (part : Part) (tokens more : List Token) → IsPart part tokens → IsPart part (tokens ++ more) → (more ≡ []) ⊎ BeginsWith (GoesOn part) more
+part_longer name tokens more (a, (_, is)) (b, (_, longer)) = inl (one_longer (word a) (word b) tokens more is longer)
+part_longer number tokens more (a, (_, is)) (b, (_, longer)) = inl (one_longer (count a) (count b) tokens more is longer)
+part_longer path tokens more (a, is) (b, longer) =
+    let e : path_tokens a ++ more ≡ path_tokens b = sym (ap (λ x. x ++ more) is.is) ∙ longer.is in
+    let tail : flat_map step_tokens a.steps ++ more ≡ flat_map step_tokens b.steps = cc in
+    elim (behind_steps a.steps b.steps more tail) [ inl none ↦ inl none | inr some ↦ inr (subst (BeginsWith (λ t. t ≡ sign slash)) (sym some.1) refl) ]
+part_longer literal tokens more (a, is) (b, longer) =
+    inl (behind_literal a b more [] (sym (ap (λ x. x ++ more) is.is) ∙ longer.is ∙ sym (append-nil (tokens_of b))))
+
+-- two ways to cut one list in two: the second cut is in the second half of the first, or the first in the second half of the second
+pub record CutsBehind (a b c d : List Token) : Type 0 where
+  pub between : List Token
+  pub first : c ≡ a ++ between
+  pub second : b ≡ between ++ d
+
+pub two_cuts : (a b c d : List Token) → a ++ b ≡ c ++ d → CutsBehind a b c d ⊎ CutsBehind c d a b
+two_cuts [] b c d e = inl (record { between = c; first = refl; second = e })
+two_cuts (x ∷ a) b [] d e = inr (record { between = x ∷ a; first = refl; second = sym e })
+two_cuts (x ∷ a) b (y ∷ c) d e =
+    let same : x ≡ y = cc in
+    let tail : a ++ b ≡ c ++ d = cc in
+    elim (two_cuts a b c d tail) [
+      | inl h ↦ inl (record { between = h.between; first = ap (λ t. t ∷ c) (sym same) ∙ ap (λ rest. x ∷ rest) h.first; second = h.second })
+      | inr h ↦ inr (record { between = h.between; first = ap (λ t. t ∷ a) same ∙ ap (λ rest. y ∷ rest) h.first; second = h.second })
+    ]
+
+nothing_more : (a b : List Token) → a ++ b ≡ [] → a ≡ []
+nothing_more [] b e = refl
+nothing_more (x ∷ a) b e = absurd (cc)
+
+-- behind a part that is whole stands what is of the form behind it, or a token with which the part goes on
+pub behind_part : (part : Part) (form : Form) (front rest : List Token) → IsPart part front → IsOfForm (next part form) (front ++ rest)
+    → IsOfForm form rest ⊎ BeginsWith (GoesOn part) rest
+behind_part part form front rest whole joins =
+    elim (two_cuts front rest joins.front joins.rest joins.is) [
+      | inl h ↦ elim (part_longer part front h.between whole (subst (IsPart part) h.first joins.in_front)) [
+        | inl none ↦ inl (subst (IsOfForm form) (sym (h.second ∙ ap (λ x. x ++ joins.rest) none)) joins.behind)
+        | inr some ↦ inr (subst (BeginsWith (GoesOn part)) (sym h.second) (BeginsWith-append (GoesOn part) h.between joins.rest some))
+      ]
+      | inr h ↦ elim (part_longer part joins.front h.between joins.in_front (subst (IsPart part) h.first whole)) [
+        | inl none ↦ inl (subst (IsOfForm form) (h.second ∙ ap (λ x. x ++ rest) none) joins.behind)
+        | inr some ↦ absurd (form_goes_on part form joins.rest joins.behind (subst (BeginsWith (GoesOn part)) (sym h.second) (BeginsWith-append (GoesOn part) h.between rest some)))
+      ]
+    ]
+
+pub before_form : (part : Part) (form : Form) (front rest : List Token) → IsPart part front → IsOfForm form rest → IsOfForm (next part form) (front ++ rest)
+before_form part form front rest whole others = record { front = front; rest = rest; in_front = whole; behind = others; is = refl }
+
+-- Tokens are a front of a part, but no whole one. What is of a form that begins with the part, and begins with these tokens, goes on with more of the part.
+pub record GoesOnInPart (part : Part) (front rest : List Token) : Type 0 where
+  pub more : List Token
+  pub others : List Token
+  pub whole : IsPart part (front ++ more)
+  pub is : rest ≡ more ++ others
+
+inside : (part : Part) (form : Form) (front rest more a b between : List Token) → (IsPart part front → ⊥) → IsPart part a → IsOfForm form b
+    → front ≡ a ++ between → b ≡ between ++ rest → BeginsWith (GoesOn part) (between ++ more) → ⊥
+inside part form front rest more a b [] unfinished first others f g some = unfinished (subst (IsPart part) (sym (f ∙ append-nil a)) first)
+inside part form front rest more a b (t ∷ between) unfinished first others f g some =
+    form_goes_on part form b others (subst (BeginsWith (GoesOn part)) (sym g) some)
+
+not_before : (part : Part) (form : Form) (front rest more a b between : List Token) → IsPart part (front ++ more) → (IsPart part front → ⊥)
+    → IsPart part a → IsOfForm form b → front ≡ a ++ between → b ≡ between ++ rest → ⊥
+not_before part form front rest more a b between longer unfinished first others f g =
+    elim (part_longer part a (between ++ more) first (subst (IsPart part) (ap (λ x. x ++ more) f ∙ append_assoc a between more) longer)) [
+      | inl none ↦ unfinished (subst (IsPart part) (sym (f ∙ ap (λ x. a ++ x) (nothing_more between more none) ∙ append-nil a)) first)
+      | inr some ↦ inside part form front rest more a b between unfinished first others f g some
+    ]
+
+pub in_part : (part : Part) (form : Form) (front rest : List Token) → IsFront (IsPart part) front → (IsPart part front → ⊥)
+    → IsOfForm (next part form) (front ++ rest) → GoesOnInPart part front rest
+in_part part form front rest (more, longer) unfinished joins =
+    elim (two_cuts front rest joins.front joins.rest joins.is) [
+      | inl h ↦ record { more = h.between; others = joins.rest; whole = subst (IsPart part) h.first joins.in_front; is = h.second }
+      | inr h ↦ absurd (not_before part form front rest more joins.front joins.rest h.between longer unfinished joins.in_front joins.behind h.first h.second)
+    ]
+
+-- there is a part and a form of each kind
+short_name : IsName (97 ∷ [])
+short_name = record { not_empty = lit< tt; short = lit≤ tt; characters = All-cons (λ b. is_name_byte b ≡ true) 97 [] refl (All-nil _); begins = refl }
+
+pub some_part : (part : Part) → (tokens : List Token) × IsPart part tokens
+some_part name = (word (97 ∷ []) ∷ [], (97 ∷ [], (short_name, refl)))
+some_part number = (count 0 ∷ [], (0, (lit< tt, refl)))
+some_part path = (word (97 ∷ []) ∷ [], (record { name = 97 ∷ []; steps = [] }, record { whole = record { name = short_name; steps = All-nil _ }; is = refl }))
+some_part literal = (number_token (pos 0) ∷ [], (Datum.long (pos 0), record { whole = search rules; is = refl }))
+
+pub some_form : (form : Form) → (tokens : List Token) × IsOfForm form tokens
+some_form nothing = ([], refl)
+some_form values = ([], ([], (All-nil _, refl)))
+some_form (next part form) = (
+  (some_part part).0 ++ (some_form form).0,
+  before_form part form (some_part part).0 (some_form form).0 (some_part part).1 (some_form form).1,
+)

@@ -1,0 +1,131 @@
+//! Reading the parts of a command from the pieces of its line.
+ghost use Rattle.std.specs.Prelude.{◌≡◌, ◌↔◌, ◌<◌, ◌^◌, ◌∷◌, [], ℕ, drop, IfOk, IfErr, OnOk, IfSome, IsNone};
+ghost use Rattle.mk_value.specs.LiteralValues.{literal_of};
+ghost use Rattle.mk_value.specs.Literals.{tokens_of};
+ghost use Rattle.mk_value.specs.Names.{IsName};
+ghost use Rattle.mk_value.specs.Tokens.{word};
+ghost use Rattle.tokens.specs.Fronts.{tokens_in};
+ghost use Rattle.tokens.specs.Meanings.{token_of};
+ghost use Rattle.tokens.specs.Paths.{path_tokens};
+ghost use Rattle.cmd_text.specs.Forms.{Form, NameTokens, NumberTokens, Takes, Refuses, nothing, values, next, name as a_name, number as a_number, path as a_path, literal as a_literal};
+ghost use Rattle.cmd_text.specs.Grammar.{IsCount, AreLiterals, count as count_token, literals_tokens};
+
+use crate::CmdError;
+use mk_value::{Literal, Literals, Name, Path};
+use std::alloc::Global;
+use tokens::{PartError, Piece, Token, literal_at, path_at};
+
+/// The pieces of a line that are left to read, and the line's length.
+pub(crate) struct Reader<'a> {
+    pub(crate) alloc: Global,
+    pub(crate) rest: &'a [Piece],
+    pub(crate) end: usize,
+}
+
+impl<'a> Reader<'a> {
+    ghost use Rattle.cmd_text.specs.Readers.{rest_of, place_behind as place_of};
+
+    /// Reads a name.
+    pub(crate) fn name(&mut self) -> Result<Name, CmdError>
+        ensures takes { IfOk result (λ name. Takes a_name (word name ∷ []) (rest_of self.old) (rest_of self.new)) }
+        ensures refused { IfErr result (λ error. (form : Form) → Refuses (next a_name form) (rest_of self.old) error) }
+    {
+        let Some((first, rest)) = self.rest.split_first() else {
+            return Err(CmdError::Syntax(self.end));
+        };
+        let Some(name) = name_of(&first.token) else {
+            return Err(CmdError::Syntax(first.place));
+        };
+        self.rest = rest;
+        Ok(name)
+    }
+
+    /// Reads a number without a sign.
+    pub(crate) fn number(&mut self) -> Result<u64, CmdError>
+        ensures takes { IfOk result (λ n. Takes a_number (count_token n ∷ []) (rest_of self.old) (rest_of self.new)) }
+        ensures refused { IfErr result (λ error. (form : Form) → Refuses (next a_number form) (rest_of self.old) error) }
+    {
+        let Some((first, rest)) = self.rest.split_first() else {
+            return Err(CmdError::Syntax(self.end));
+        };
+        let Some(number) = number_of(&first.token) else {
+            return Err(CmdError::Syntax(first.place));
+        };
+        self.rest = rest;
+        Ok(number)
+    }
+
+    /// Reads a path.
+    pub(crate) fn path(&mut self) -> Result<Path, CmdError>
+        ensures takes { IfOk result (λ path. Takes a_path (path_tokens path) (rest_of self.old) (rest_of self.new)) }
+        ensures refused { IfErr result (λ error. (form : Form) → Refuses (next a_path form) (rest_of self.old) error) }
+    {
+        match path_at(self.alloc, self.rest) {
+            Ok((path, taken)) => {
+                self.rest = &self.rest[taken..];
+                Ok(path)
+            }
+            Err(PartError::Stuck(count)) => Err(CmdError::Syntax(self.place_behind(count))),
+            Err(PartError::Memory) => Err(CmdError::Memory),
+        }
+    }
+
+    /// Reads a literal.
+    pub(crate) fn literal(&mut self) -> Result<Literal, CmdError>
+        ensures takes { IfOk result (λ literal. Takes a_literal (tokens_of (literal_of literal)) (rest_of self.old) (rest_of self.new)) }
+        ensures refused { IfErr result (λ error. (form : Form) → Refuses (next a_literal form) (rest_of self.old) error) }
+    {
+        match literal_at(self.alloc, self.rest) {
+            Ok((literal, taken)) => {
+                self.rest = &self.rest[taken..];
+                Ok(literal)
+            }
+            Err(PartError::Stuck(count)) => Err(CmdError::Syntax(self.place_behind(count))),
+            Err(PartError::Memory) => Err(CmdError::Memory),
+        }
+    }
+
+    /// Tests that nothing is left.
+    pub(crate) fn over(&self) -> Result<(), CmdError>
+        ensures over { OnOk result (tokens_in (rest_of self.now).pieces ≡ []) }
+        ensures refused { IfErr result (λ error. Refuses nothing (rest_of self.now) error) }
+    {
+        match self.rest.split_first() {
+            Some((first, _)) => Err(CmdError::Syntax(first.place)),
+            None => Ok(()),
+        }
+    }
+
+    /// The place of the piece behind so many, or the line's length where there is none.
+    fn place_behind(&self, count: usize) -> usize
+        ensures { result ≡ place_of count self.now }
+    {
+        if count < self.rest.len() {
+            self.rest[count].place
+        } else {
+            self.end
+        }
+    }
+}
+
+/// The name that a token is.
+fn name_of(token: &Token) -> Option<Name>
+    ensures some { IfSome result (λ name. (token_of token.now ≡ word name) × IsName name) }
+    ensures none { IsNone result → NameTokens (token_of token.now ∷ []) → ⊥ }
+{
+    let Token::Word(name) = token else {
+        return None;
+    };
+    Name::from_bytes(name.as_bytes())
+}
+
+/// The number without a sign that a token is.
+fn number_of(token: &Token) -> Option<u64>
+    ensures some { IfSome result (λ n. (token_of token.now ≡ count_token n) × IsCount n) }
+    ensures none { IsNone result → NumberTokens (token_of token.now ∷ []) → ⊥ }
+{
+    let Token::Number(number) = token else {
+        return None;
+    };
+    u64::try_from(*number).ok()
+}
