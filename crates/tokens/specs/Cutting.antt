@@ -119,3 +119,15 @@ FlawFrom place content (p ∷ pieces) flaw = (rest : List ℕ) × Leads place co
 -- the place of the first piece of the text that is no token
 abbrev pub IsFirstFlaw : List ℕ → ℕ → Type 0
 IsFirstFlaw content flaw = (pieces : List Piece) × FlawFrom 0 content pieces flaw
+
+-- how many pieces stand in a list of them itself
+abbrev pub inline_pieces : ℕ
+inline_pieces = 8
+
+-- a token that is held where it stands: any but a text and a byte string
+abbrev pub IsInPlace : Token → Type 0
+IsInPlace (word name) = Unit {0}
+IsInPlace (number z) = Unit {0}
+IsInPlace (text content) = ⊥
+IsInPlace (bytes content) = ⊥
+IsInPlace (sign s) = Unit {0}

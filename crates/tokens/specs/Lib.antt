@@ -1,5 +1,7 @@
 pub mod Cutting
+pub mod Finding
 pub mod Fronts
 pub mod Literals
 pub mod Meanings
 pub mod Paths
+pub mod Standing

@@ -1,5 +1,5 @@
 -- Which tokens are a path.
-use Rattle.std.specs.Prelude.{◌≡◌, ℕ, ◌<◌, ◌^◌, pos, List, [], ◌∷◌, All}
+use Rattle.std.specs.Prelude.{◌≡◌, ℕ, ◌+◌, ◌<◌, ◌≤◌, ◌^◌, pos, List, [], ◌∷◌, ◌++◌, length, drop, All}
 use Rattle.std.specs.List.{flat_map}
 use Rattle.mk_value.specs.Names.{IsName}
 use Rattle.mk_value.specs.Paths.{Route}
@@ -34,3 +34,17 @@ PathTokens tokens = (route : Route) × SpellsPath tokens route
 -- a slash is the first of the tokens
 abbrev pub GoesOnWithSlash : List Token → Type 0
 GoesOnWithSlash tokens = (rest : List Token) × (tokens ≡ sign slash ∷ rest)
+
+-- a row is a number of 63 bits, and a property a name
+abbrev pub IsStep : Step → Type 0
+IsStep step = (step.row < 2 ^ 63) × IsName step.prop
+
+-- the tokens of steps alone
+abbrev pub StepTokens : Language
+StepTokens tokens = (steps : List Step) × All IsStep steps × (tokens ≡ flat_map step_tokens steps)
+
+-- the step stands at a place
+pub record StandsStep (tokens : List Token) (at : ℕ) (step : Step) : Type 0 where
+  pub within : at + 4 ≤ length tokens
+  pub whole : IsStep step
+  pub is : drop at tokens ≡ step_tokens step ++ drop (at + 4) tokens

@@ -35,3 +35,33 @@ pub enum ReadError {
     #[error("out of memory")]
     Memory,
 }
+
+impl From<Memory> for CutError {
+    ghost use Rattle.tokens.specs.declared.error.CutError.TheVariants as reason;
+
+    ghost from_gives = { λ _ error. error ≡ reason.Memory };
+
+    fn from(_error: Memory) -> CutError {
+        CutError::Memory
+    }
+}
+
+impl From<Memory> for PartError {
+    ghost use Rattle.tokens.specs.declared.error.PartError.TheVariants as reason;
+
+    ghost from_gives = { λ _ error. error ≡ reason.Memory };
+
+    fn from(_error: Memory) -> PartError {
+        PartError::Memory
+    }
+}
+
+impl From<Memory> for ReadError {
+    ghost use Rattle.tokens.specs.declared.error.ReadError.TheVariants as reason;
+
+    ghost from_gives = { λ _ error. error ≡ reason.Memory };
+
+    fn from(_error: Memory) -> ReadError {
+        ReadError::Memory
+    }
+}

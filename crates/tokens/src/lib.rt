@@ -9,13 +9,19 @@
 
 mod cutting;
 mod error;
+mod form;
+mod laws;
 mod literal;
 mod path;
 mod pieces;
+mod quoted;
+mod run;
+mod standing;
 mod token;
 
 pub use cutting::cut;
 pub use error::{CutError, PartError, ReadError};
+pub use laws::one_cutting;
 pub use literal::{literal_at, read_literal};
 pub use path::path_at;
 pub use pieces::Pieces;

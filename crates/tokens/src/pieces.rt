@@ -1,5 +1,6 @@
 //! Lists of pieces.
 ghost use Rattle.std.specs.Prelude.{◌≡◌, ◌≤◌, ◌<◌, ◌++◌, ◌∷◌, [], length, map, IsOk, OnOk, OnErr};
+ghost use Rattle.tokens.specs.Cutting.{inline_pieces};
 ghost use Rattle.tokens.specs.Meanings.{piece_of};
 
 use crate::{Piece, Sign, Token};
@@ -28,7 +29,8 @@ pub struct Pieces {
 }
 
 impl Model for Pieces {
-    ghost use Rattle.std.specs.Prelude.{List, map};
+    ghost use Rattle.std.specs.Prelude.{List, map, ◌≤◌};
+    ghost use Rattle.tokens.specs.Cutting.{inline_pieces};
     ghost use Rattle.tokens.specs.Cutting.{Piece, pieces_code};
     ghost use Rattle.tokens.specs.Meanings.{piece_of};
 
@@ -37,6 +39,9 @@ impl Model for Pieces {
     ghost coded = { pieces_code };
 
     ghost view = { λ p. map piece_of p.items.items };
+
+    // no list has less room than stands in it
+    ghost invariant = { λ p. inline_pieces ≤ p.items.capacity };
 }
 
 impl Pieces {
@@ -53,6 +58,7 @@ impl Pieces {
     pub(crate) fn push(&mut self, piece: Piece) -> Result<(), Memory>
         ensures ok { OnOk result (self.new ≡ self.old ++ piece_of piece ∷ []) }
         ensures err { OnErr result (self.new ≡ self.old) }
+        ensures in_place { length self.old < inline_pieces → IsOk result }
     {
         self.items.push(piece)?;
         Ok(())
