@@ -1,7 +1,7 @@
 -- What a reader reads, by the pieces of the program.
-use Rattle.std.proofs.Common.{◌≡◌, ◌⊎◌, inl, inr, ◌<◌, ◌≤◌, ◌-◌, zero, suc, length, length-drop, get_or, arith, ℕ, List, [], ◌∷◌, ◌++◌, map, take, drop, refl, sym, ap, subst, ◌∙◌, take-append-drop}
+use Rattle.std.proofs.Common.{◌≡◌, ◌⊎◌, ◌+◌, inl, inr, ◌<◌, ◌≤◌, ◌-◌, zero, suc, length, length-drop, get_or, arith, ℕ, List, [], ◌∷◌, ◌++◌, map, take, drop, refl, sym, ap, subst, ◌∙◌, take-append-drop}
 use Rattle.std.specs.List.{take-map, drop-map}
-use Rattle.std.proofs.lemmas.List.{take_all}
+use Rattle.std.proofs.lemmas.List.{take_all, length-map, length-append}
 use Rattle.mk_value.specs.Data.{Datum}
 use Rattle.mk_value.specs.Literals.{tokens_of}
 use Rattle.mk_value.specs.Names.{IsName}
@@ -19,7 +19,7 @@ use Rattle.cmd_text.specs.Forms.{Form, IsPart, NameTokens, NumberTokens, Part, R
 use Rattle.cmd_text.specs.Grammar.{IsCount, count}
 use Rattle.cmd_text.specs.Readers.{place_of_first}
 use Rattle.cmd_text.specs.declared.error.CmdError.TheVariants.{Syntax}
-use Rattle.cmd_text.proofs.Parts.{BeginsWith, GoesOn}
+use Rattle.cmd_text.proofs.Parts.{BeginsWith, GoesOn, part_begins}
 use Rattle.cmd_text.proofs.Refusals.{no_name_first, no_number_first, refused_at_end, refused_at_stop, refused_at_token, refused_more, takes_part}
 
 pub tokens_in-pieces_of : (pieces : List Piece) → tokens_in (pieces_of pieces) ≡ tokens_of_pieces pieces
@@ -128,3 +128,11 @@ refuses_stuck part pieces end n error is (inl memory) form = absurd (cc)
 refuses_stuck part pieces end n error is (inr stuck) form =
     let same : stuck.0 ≡ n = cc in
     refuses_stop part pieces end n (subst (Stops (IsPart part) (tokens_of_pieces pieces)) same stuck.2) form
+
+-- what is left is less
+pub takes_less : (part : Part) (front : List Token) (old new : List Piece) (end rest : ℕ) → Takes part front (rest_at end old) (rest_at rest new) → length new < length old
+takes_less part front old new end rest takes =
+    let begins = part_begins part front takes.whole in
+    let long : length (tokens_in (pieces_of old)) ≡ length front + length (tokens_in (pieces_of new)) = ap length takes.split ∙ length-append front (tokens_in (pieces_of new)) in
+    let some : length front ≡ suc (length begins.rest) = ap length begins.is in
+    omega (arith, length-map (pieces_of old) (λ p. p.token), length-map (pieces_of new) (λ p. p.token), length-map old piece_of, length-map new piece_of)

@@ -1,5 +1,7 @@
 ghost use Rattle.std.specs.Prelude.{◌≡◌};
+ghost use Rattle.cmd_text.specs.declared.error.CmdError.TheVariants.{Memory as want_of_memory};
 
+use mk_value::Memory;
 use thiserror::Error;
 
 /// Why a line was not read as a command. Each place is a byte offset from the line's start.
@@ -21,4 +23,12 @@ pub enum CmdError {
     /// An allocation was refused.
     #[error("out of memory")]
     Memory,
+}
+
+impl From<Memory> for CmdError {
+    ghost from_gives = { λ _ error. error ≡ want_of_memory };
+
+    fn from(_error: Memory) -> CmdError {
+        CmdError::Memory
+    }
 }

@@ -6,6 +6,7 @@
 //! It stands on the tokens, literals and paths of tokens and the structures of struct_text. It knows nothing of what a command does.
 #![tactic(auto)]
 
+mod arguments;
 mod command;
 mod error;
 mod reader;

@@ -6,7 +6,8 @@ ghost use Rattle.mk_value.specs.Names.{IsName};
 ghost use Rattle.mk_value.specs.Tokens.{word};
 ghost use Rattle.tokens.specs.Fronts.{tokens_in};
 ghost use Rattle.tokens.specs.Meanings.{token_of};
-ghost use Rattle.tokens.specs.Paths.{path_tokens};
+ghost use Rattle.tokens.specs.Literals.{IsLiteral, max_braces};
+ghost use Rattle.tokens.specs.Paths.{IsPath, path_tokens};
 ghost use Rattle.cmd_text.specs.Forms.{Form, NameTokens, NumberTokens, Takes, Refuses, nothing, values, next, name as a_name, number as a_number, path as a_path, literal as a_literal};
 ghost use Rattle.cmd_text.specs.Grammar.{IsCount, AreLiterals, count as count_token, literals_tokens};
 
@@ -27,6 +28,7 @@ impl<'a> Reader<'a> {
 
     /// Reads a name.
     pub(crate) fn name(&mut self) -> Result<Name, CmdError>
+        ensures named { IfOk result IsName }
         ensures takes { IfOk result (λ name. Takes a_name (word name ∷ []) (rest_of self.old) (rest_of self.new)) }
         ensures refused { IfErr result (λ error. (form : Form) → Refuses (next a_name form) (rest_of self.old) error) }
     {
@@ -42,6 +44,7 @@ impl<'a> Reader<'a> {
 
     /// Reads a number without a sign.
     pub(crate) fn number(&mut self) -> Result<u64, CmdError>
+        ensures few { IfOk result IsCount }
         ensures takes { IfOk result (λ n. Takes a_number (count_token n ∷ []) (rest_of self.old) (rest_of self.new)) }
         ensures refused { IfErr result (λ error. (form : Form) → Refuses (next a_number form) (rest_of self.old) error) }
     {
@@ -57,6 +60,7 @@ impl<'a> Reader<'a> {
 
     /// Reads a path.
     pub(crate) fn path(&mut self) -> Result<Path, CmdError>
+        ensures whole { IfOk result IsPath }
         ensures takes { IfOk result (λ path. Takes a_path (path_tokens path) (rest_of self.old) (rest_of self.new)) }
         ensures refused { IfErr result (λ error. (form : Form) → Refuses (next a_path form) (rest_of self.old) error) }
     {
@@ -72,6 +76,7 @@ impl<'a> Reader<'a> {
 
     /// Reads a literal.
     pub(crate) fn literal(&mut self) -> Result<Literal, CmdError>
+        ensures whole { IfOk result (λ literal. IsLiteral max_braces (literal_of literal)) }
         ensures takes { IfOk result (λ literal. Takes a_literal (tokens_of (literal_of literal)) (rest_of self.old) (rest_of self.new)) }
         ensures refused { IfErr result (λ error. (form : Form) → Refuses (next a_literal form) (rest_of self.old) error) }
     {
@@ -83,6 +88,20 @@ impl<'a> Reader<'a> {
             Err(PartError::Stuck(count)) => Err(CmdError::Syntax(self.place_behind(count))),
             Err(PartError::Memory) => Err(CmdError::Memory),
         }
+    }
+
+    /// Reads literals, as many as are left.
+    pub(crate) fn values(&mut self) -> Result<Literals, CmdError>
+        ensures whole { IfOk result AreLiterals }
+        ensures spelled { IfOk result (λ literals. tokens_in (rest_of self.old).pieces ≡ literals_tokens literals) }
+        ensures refused { IfErr result (λ error. Refuses values (rest_of self.old) error) }
+    {
+        let mut literals = Literals::new(self.alloc);
+        while !self.rest.is_empty() {
+            let literal = self.literal()?;
+            literals.push(literal)?;
+        }
+        Ok(literals)
     }
 
     /// Tests that nothing is left.
