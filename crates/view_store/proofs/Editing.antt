@@ -1,8 +1,7 @@
 -- An edit that nothing refuses: what is known of it, and what it leaves.
-use Rattle.std.proofs.Common.{◌≡◌, ℕ, zero, suc, ◌+◌, ◌-◌, ◌<◌, ◌≤◌, Bool, true, false, cond, ltb, List, [], ◌∷◌, ◌++◌, length, get_or, set, take, drop, map, replicate, pos, Option, Some, None, Result, Ok, Err, OnOk, OnErr, All, min, refl, ap, sym, subst, ◌∙◌, arith}
+use Rattle.std.proofs.Common.{◌≡◌, ℕ, zero, suc, ◌+◌, ◌<◌, ◌≤◌, Bool, true, false, cond, ltb, List, [], ◌∷◌, ◌++◌, length, get_or, set, take, drop, map, replicate, pos, Option, Some, None, Result, Ok, Err, OnOk, OnErr, refl, ap, sym, subst, ◌∙◌, arith}
 use Rattle.std.specs.Prelude.{IfOk, IsOk}
 use Rattle.std.specs.Option.{option_or}
-use Rattle.std.proofs.lemmas.Bool.{false≢true}
 use Rattle.std.proofs.lemmas.Bool.Decides.{nat_tests}
 use Rattle.std.proofs.lemmas.List.{length-append, length-take, length-drop, length-map, length-replicate, length-set, set-set, set-get_or, get_or-set_same}
 use Rattle.std.proofs.lemmas.List.Elements.{All-append, All-take, All-drop, All-replicate, All-set}
@@ -12,11 +11,11 @@ use Rattle.mk_value.specs.Heading.{Domain, Attribute, heading_of, find}
 use Rattle.mk_value.specs.Data.{Datum, integer, relation, relation_of, cell, default_of, IsOf, IsRowOf, AreRowsOf}
 use Rattle.mk_value.specs.Tables.{domain_at}
 use Rattle.view_store.specs.declared.error.EditError.{EditError}
-use Rattle.view_store.specs.declared.error.EditError.TheVariants.{NoProp, WrongKind, OutOfRange, TooMany}
+use Rattle.view_store.specs.declared.error.EditError.TheVariants.{NoProp, WrongKind, OutOfRange}
 use Rattle.view_store.specs.Homes.{rows_in, unplaced_in}
-use Rattle.view_store.specs.Tables.{Placed, place_of, inner_table, with_value, with_inner, unplaced_table}
+use Rattle.view_store.specs.Tables.{inner_table, with_value, with_inner, unplaced_table}
 use Rattle.view_store.specs.Fitting.{is_of, are_of}
-use Rattle.view_store.specs.Edits.{Edit, completed, edited, edited_here, with_rows_inserted}
+use Rattle.view_store.specs.Edits.{Edit, completed, edited, edited_here}
 use Rattle.view_store.specs.Refusals.{schema_at, rows_at, or_at_end, kind_refusal, value_refusal, range_refusal, due_in}
 use Rattle.view_store.proofs.Fitting.{is_of_tells, completed_fits}
 use Rattle.view_store.proofs.Unplaced.{unplaced_table-inserted, unplaced_table-with_value, unplaced_table-with_inner, inner_table-unplaced}

@@ -1,7 +1,7 @@
 -- The test whether a value is of a domain tells just that.
-use Rattle.std.proofs.Common.{◌≡◌, ◌≢◌, ◌↔◌, ℕ, zero, suc, ◌+◌, ◌<◌, ◌≤◌, ◌^◌, ℤ, pos, negsuc, Bool, true, false, not, cond, leb, eqb, IsTrue, List, [], ◌∷◌, ◌++◌, length, map, drop, All, Option, Some, None, refl, ap, sym, subst, ◌∙◌, arith, ◌&&◌}
+use Rattle.std.proofs.Common.{◌≡◌, ◌≢◌, ◌↔◌, ℕ, ◌+◌, ◌≤◌, ◌^◌, ℤ, pos, negsuc, Bool, true, false, not, cond, leb, eqb, IsTrue, List, [], ◌∷◌, length, map, drop, All, Some, None, refl, ap, sym, ◌∙◌, arith, ◌&&◌}
 use Rattle.std.specs.Bool.{Decides}
-use Rattle.std.specs.Int.{Width, w32, w64}
+use Rattle.std.specs.Int.{w32, w64}
 use Rattle.std.specs.Prelude.{FitsSigned}
 use Rattle.std.specs.List.{list_all}
 use Rattle.std.specs.Str.{IsUtf8, is_utf8}
@@ -13,7 +13,6 @@ use Rattle.mk_value.specs.Limits.{max_bytes, max_rows}
 use Rattle.mk_value.specs.Heading.{Domain, Heading, no_attributes, attribute, Attribute, find}
 use Rattle.mk_value.specs.Data.{Datum, integer, long, text, bytes, relation, Tuple, no_values, value, Relation, no_tuples, tuple, rows_of, default_of, IsText, IsOf, IsTupleOf, AreTuplesOf, IsRowOf}
 use Rattle.mk_value.specs.Tables.{domain_at}
-use Rattle.view_store.specs.declared.error.EditError.{EditError}
 use Rattle.view_store.specs.declared.error.EditError.TheVariants.{WrongKind}
 use Rattle.view_store.specs.Fitting.{is_within, is_of, is_tuple_of, are_tuples_of, are_of}
 use Rattle.view_store.specs.Edits.{completed}

@@ -1,15 +1,13 @@
 -- What has no homes rests on everything.
-use Rattle.std.proofs.Common.{◌≡◌, ℕ, zero, suc, ◌+◌, ◌<◌, List, [], ◌∷◌, ◌++◌, drop, map, length, All, refl, ap, sym, subst, ◌∙◌, arith}
+use Rattle.std.proofs.Common.{◌≡◌, ℕ, ◌+◌, List, [], ◌∷◌, ◌++◌, drop, map, All, refl, ap, sym, subst, ◌∙◌, arith}
 use Rattle.std.specs.Prelude.{Contains}
-use Rattle.std.specs.List.{AllPairs}
 use Rattle.std.proofs.lemmas.List.Elements.{All-head, All-tail, All-nil}
 use Rattle.mk_value.specs.Heading.{Domain, Heading, no_attributes, attribute, Attribute, heading_of}
 use Rattle.mk_value.specs.Data.{Datum}
-use Rattle.free_space.specs.Extents.{AreApart, Meets}
-use Rattle.view_store.specs.Homes.{Home, tables, column_homes, row_homes, column_of, rows_in, unplaced, unplaced_from}
-use Rattle.view_store.specs.Tables.{Placed, IsUnplaced, unplaced_table}
-use Rattle.view_store.specs.Views.{NamedTable, named}
-use Rattle.view_store.specs.Rests.{Column, placed_in, placed_rows, placed_from, placed_columns, placed_views, blocks, Rest}
+use Rattle.view_store.specs.Homes.{Home, column_homes, row_homes, column_of, rows_in, unplaced, unplaced_from}
+use Rattle.view_store.specs.Tables.{Placed, IsUnplaced}
+use Rattle.view_store.specs.Views.{named}
+use Rattle.view_store.specs.Rests.{Column, placed_in, placed_rows, placed_from, placed_columns, placed_views, Rest}
 
 placed_rows-none : (f : Datum → List Home) → ((d : Datum) (schema : List Attribute) (k : ℕ) (rows : List (List Datum)) → placed_from (column_homes (f d)) schema k rows ≡ [])
     → (values : List Datum) (e : Domain) (column : List Datum) → placed_rows (row_homes (map f values)) e column ≡ []
@@ -18,7 +16,7 @@ placed_rows-none f none (d ∷ values) e column =
     ap (λ cs. cs ++ placed_rows (row_homes (map f values)) e (drop 1 column)) (none d _ 0 _) ∙ placed_rows-none f none values e (drop 1 column)
 
 mutual
-  placed_in-unplaced : (d : Domain) (values : List Datum) (e : Domain) (column : List Datum) → placed_in (unplaced d values) e column ≡ []
+  pub placed_in-unplaced : (d : Domain) (values : List Datum) (e : Domain) (column : List Datum) → placed_in (unplaced d values) e column ≡ []
   placed_in-unplaced Domain.integer values e column = refl
   placed_in-unplaced Domain.long values e column = refl
   placed_in-unplaced Domain.text values e column = refl

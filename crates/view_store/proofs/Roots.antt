@@ -1,5 +1,5 @@
 -- Roots of plain rows: what each call leaves of one.
-use Rattle.std.proofs.Common.{◌≡◌, ◌≢◌, ℕ, zero, suc, ◌+◌, ◌<◌, ◌≤◌, Bool, true, false, List, [], ◌∷◌, ◌++◌, length, get_or, set, take, drop, map, Option, Some, None, Result, Ok, Err, OnOk, OnErr, All, ⊎_elim, refl, ap, sym, subst, ◌∙◌, arith}
+use Rattle.std.proofs.Common.{◌≡◌, ◌≢◌, ℕ, zero, suc, ◌<◌, ◌≤◌, true, false, List, [], ◌∷◌, ◌++◌, length, get_or, set, take, drop, Some, None, Result, Ok, Err, OnOk, OnErr, All, ⊎_elim, refl, ap, sym, subst, ◌∙◌, arith}
 use Rattle.std.specs.Prelude.{remove, IsSome, ◌⊎◌}
 use Rattle.std.specs.Option.{option_map}
 use Rattle.std.specs.List.{AllPairs}
@@ -10,7 +10,7 @@ use Rattle.std.proofs.lemmas.List.Edits.{length-remove}
 use Rattle.std.proofs.lemmas.List.Elements.{All-set, All-append, All-take, All-drop, All-push}
 use Rattle.std.proofs.lemmas.List.Quantifiers.{all_pairs_push, all_pairs_remove}
 use Rattle.mk_value.specs.declared.path.Step.{Step}
-use Rattle.mk_value.specs.Names.{IsName, same_bytes}
+use Rattle.mk_value.specs.Names.{same_bytes}
 use Rattle.mk_value.specs.Heading.{Attribute, IsHeading}
 use Rattle.mk_value.specs.Data.{Datum, AreRowsOf}
 use Rattle.mk_value.specs.Paths.{Route}
@@ -19,7 +19,7 @@ use Rattle.view_store.specs.declared.error.EditError.TheVariants.{NoView}
 use Rattle.view_store.specs.Refusals.{AnswersDue, at_view, due, due_in, look_due, look_due_in}
 use Rattle.view_store.specs.Tables.{Placed, IsTable, IsUnplaced, unplaced_table}
 use Rattle.view_store.specs.Edits.{Edit, edited, table_at}
-use Rattle.view_store.specs.Views.{NamedTable, IsView, AreViews, IsPlainRoot, view_names, named, table_of, with_view, without_view, edited_views, view_at, structure_length, max_structure, max_views}
+use Rattle.view_store.specs.Views.{NamedTable, IsView, IsPlainRoot, view_names, named, table_of, with_view, without_view, edited_views, view_at, structure_length, max_structure, max_views}
 use Rattle.view_store.proofs.Named.{IsPlace, IsAbsent, no_view, retabled, table_of-place, table_of-absent, with_view-place, with_view-absent, without_view-place, edited_views-place, view_names-named, length-named, named-set, named-remove, named-push, get_or-named}
 
 -- names with the same bytes are one

@@ -1,14 +1,13 @@
 -- Tables no column of which has a home: what an edit leaves of one is again such a table, of the edited rows.
-use Rattle.std.proofs.Common.{◌≡◌, ◌≢◌, ℕ, zero, suc, ◌+◌, ◌<◌, ◌≤◌, ◌⊎◌, ⊎_elim, inl, inr, List, [], ◌∷◌, ◌++◌, length, get_or, set, take, drop, map, replicate, pos, refl, ap, sym, subst, ◌∙◌, arith, add-one, add-zero, zero-add, drop-cons}
+use Rattle.std.proofs.Common.{◌≡◌, ◌≢◌, ℕ, zero, suc, ◌+◌, ◌<◌, ◌≤◌, ◌⊎◌, ⊎_elim, inl, inr, List, [], ◌∷◌, ◌++◌, length, get_or, set, take, drop, map, replicate, pos, refl, ap, sym, ◌∙◌, arith, add-one, add-zero, zero-add, drop-cons}
 use Rattle.std.proofs.lemmas.List.{take-append-drop, get_or-map, get_or-set_same, get_or-set_other, set-get_or, map-set, length-map, length-set, same_lists}
 use Rattle.std.proofs.lemmas.Bool.{cases_lt}
-use Rattle.mk_value.specs.Heading.{Domain, Attribute, Heading, heading_of, attributes_of}
-use Rattle.mk_value.specs.Data.{Datum, integer, relation, relation_of, rows_of, cell}
+use Rattle.mk_value.specs.Heading.{Domain, Attribute, heading_of}
+use Rattle.mk_value.specs.Data.{Datum, integer, relation, relation_of, cell}
 use Rattle.mk_value.specs.Tables.{domain_at}
 use Rattle.mk_value.proofs.Headings.{attributes_of-heading_of}
 use Rattle.mk_value.proofs.Relations.{rows_of-relation_of}
-use Rattle.mk_value.proofs.Walks.{same_default}
-use Rattle.view_store.specs.Homes.{Home, nowhere, tables, each_of, row_homes, column_of, rows_in, unplaced, unplaced_from, unplaced_homes, unplaced_in}
+use Rattle.view_store.specs.Homes.{Home, nowhere, tables, row_homes, column_of, rows_in, unplaced, unplaced_from, unplaced_homes, unplaced_in}
 use Rattle.view_store.specs.Tables.{Placed, inner_schema, inner_table, home_with, with_value, with_inner, unplaced_table, homes_in}
 use Rattle.view_store.specs.Edits.{inserted, removed, home_inserted, homes_inserted, home_removed, with_rows_inserted, with_rows_removed}
 use Rattle.view_store.proofs.Lists.{map-inserted, map-removed, each_of-row_homes}

@@ -1,10 +1,7 @@
 -- What is known along a path that no refusal ends, and one step of the walks.
-use Rattle.std.proofs.Common.{◌≡◌, ℕ, zero, suc, ◌+◌, ◌<◌, ◌≤◌, Bool, true, false, cond, ltb, List, [], ◌∷◌, length, get_or, Option, Some, None, Result, Ok, Err, MatchResult, unwrap_or, refl, ap, sym, subst, ◌∙◌, pos, arith}
+use Rattle.std.proofs.Common.{◌≡◌, ℕ, zero, suc, ◌<◌, ◌≤◌, Bool, true, false, cond, ltb, List, [], ◌∷◌, length, get_or, Option, Some, None, Result, Ok, Err, MatchResult, unwrap_or, refl, ap, sym, subst, ◌∙◌, pos, arith}
 use Rattle.std.specs.Prelude.{IfOk, IsOk}
-use Rattle.std.specs.Option.{option_or}
-use Rattle.std.proofs.lemmas.Option.{none-some, same_Some}
 use Rattle.std.proofs.lemmas.List.Quantifiers.{position-Some}
-use Rattle.std.proofs.lemmas.Bool.{false≢true}
 use Rattle.std.proofs.lemmas.Bool.Decides.{nat_tests, Decides-ltb}
 use Rattle.mk_value.specs.declared.path.Step.{Step}
 use Rattle.mk_value.specs.Heading.{Domain, Heading, Attribute, attributes_of, heading_of, find}
@@ -21,12 +18,12 @@ use Rattle.mk_value.proofs.Walks.{same_default}
 use Rattle.mk_value.specs.Tables.{domain_at}
 use Rattle.mk_value.proofs.Headings.{attributes_of-heading_of, heading_of-attributes_of}
 use Rattle.view_store.specs.declared.error.EditError.{EditError}
-use Rattle.view_store.specs.declared.error.EditError.TheVariants.{NoProp, WrongKind, OutOfRange}
+use Rattle.view_store.specs.declared.error.EditError.TheVariants.{OutOfRange}
 use Rattle.view_store.specs.Homes.{rows_in}
 use Rattle.view_store.specs.Tables.{place_of, inner_schema, inner_table, unplaced_table}
-use Rattle.view_store.specs.Edits.{Edit, table_at}
+use Rattle.view_store.specs.Edits.{table_at}
 use Rattle.view_store.proofs.Unplaced.{inner_table-unplaced}
-use Rattle.view_store.specs.Refusals.{in_view, in_property, schema_at, rows_at, or_at_end, kind_refusal, range_refusal}
+use Rattle.view_store.specs.Refusals.{in_view, in_property, schema_at, rows_at}
 
 -- one step further in the schema: the property is there and is a view of the inner schema
 pub schema_at-step : (s : Step) (steps : List Step) (schema inner : List Attribute) (k : ℕ) → find schema s.prop ≡ Some k → domain_at schema k ≡ Domain.relation (heading_of inner)

@@ -1,5 +1,5 @@
 -- What an edit of the program means.
-use Rattle.std.specs.Prelude.{ℕ, ◌≤◌, ◌<◌, ◌^◌}
+use Rattle.std.specs.Prelude.{◌≤◌}
 use Rattle.mk_value.specs.Limits.{max_rows}
 use Rattle.mk_value.specs.Values.{datum_of}
 use Rattle.view_store.specs.declared.change.Change.{Change}

@@ -1,10 +1,8 @@
-use Rattle.std.proofs.Common.{◌≡◌, ◌↔◌, IsTrue, Some, None, ap, sym, ◌∙◌, get_or, cond}
-use Rattle.mk_value.specs.Heading.{Domain, Attribute, find}
+use Rattle.std.proofs.Common.{◌≡◌, Some, None, ap, sym, ◌∙◌, get_or, cond}
+use Rattle.mk_value.specs.Heading.{Attribute, find}
 use Rattle.mk_value.specs.Kinds.{domain_of}
-use Rattle.mk_value.specs.Tables.{domain_at}
 use Rattle.mk_value.specs.Values.{datum_of}
 use Rattle.view_store.specs.declared.error.EditError.TheVariants.{WrongKind}
-use Rattle.view_store.specs.Refusals.{value_refusal}
 use Rattle.view_store.proofs.Fitting.{value_refusal-found}
 use Rattle.view_store.proofs.Walking.{domain_read, place_within}
 use Rattle.view_store.proofs.check.check_value.Goals as goal

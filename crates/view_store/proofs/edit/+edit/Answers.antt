@@ -1,7 +1,6 @@
-use Rattle.std.proofs.Common.{◌≡◌, List, [], ◌∷◌, Some, None, length, get_or, set, ap, sym, subst, ◌∙◌, arith}
+use Rattle.std.proofs.Common.{[], get_or, set, ap, sym, subst, ◌∙◌, arith}
 use Rattle.mk_value.specs.Heading.{Domain, Attribute, heading_of}
 use Rattle.mk_value.specs.Data.{relation, relation_of, cell, IsOf, AreRowsOf}
-use Rattle.mk_value.specs.Tables.{domain_at}
 use Rattle.mk_value.specs.Values.{datum_of}
 use Rattle.mk_value.proofs.Relations.{IsOf-relation}
 use Rattle.view_store.specs.Changes.{edit_of}

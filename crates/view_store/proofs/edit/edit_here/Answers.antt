@@ -1,9 +1,9 @@
-use Rattle.std.proofs.Common.{◌≡◌, ◌+◌, ◌++◌, List, [], Some, None, OnOk, length, get_or, set, take, drop, replicate, ap, sym, subst, ◌∙◌, arith}
+use Rattle.std.proofs.Common.{◌≡◌, ◌++◌, [], Some, get_or, set, take, drop, replicate, ap, sym, subst, ◌∙◌, arith}
 use Rattle.mk_value.specs.Heading.{find}
-use Rattle.mk_value.specs.Data.{Datum, AreRowsOf}
+use Rattle.mk_value.specs.Data.{AreRowsOf}
 use Rattle.mk_value.specs.Values.{datum_of}
 use Rattle.view_store.specs.Changes.{edit_of}
-use Rattle.view_store.specs.Edits.{Edit, completed, edited_here}
+use Rattle.view_store.specs.Edits.{edited_here}
 use Rattle.view_store.specs.Tables.{unplaced_table}
 use Rattle.view_store.specs.Refusals.{due_in}
 use Rattle.view_store.proofs.Editing.{may_insert, insert_whole, insert_done, may_set, set_whole, set_done, by_answer, OnOk-then}

@@ -1,4 +1,4 @@
-use Rattle.std.proofs.Common.{◌≡◌, ◌+◌, ◌<◌, ◌≤◌, length, MatchOption, drop, ap, sym, subst, arith}
+use Rattle.std.proofs.Common.{◌≡◌, ◌+◌, ◌<◌, length, MatchOption, drop, ap, sym, subst, arith}
 use Rattle.mk_value.specs.Heading.{Attribute, heading_of, domain_weight, attributes_weight}
 use Rattle.mk_value.specs.Kinds.{domain_of}
 use Rattle.mk_value.proofs.Headings.{weight_read, heading_weight-heading_of}

@@ -1,4 +1,4 @@
-use Rattle.std.proofs.Common.{◌≡◌, List, length, ap, sym, subst, ◌∙◌, arith}
+use Rattle.std.proofs.Common.{ap, sym, subst, ◌∙◌, arith}
 use Rattle.mk_value.specs.Heading.{Domain, Attribute, heading_of}
 use Rattle.mk_value.specs.Data.{cell, IsOf, AreRowsOf}
 use Rattle.view_store.specs.Refusals.{schema_at, rows_at}

@@ -1,9 +1,9 @@
-use Rattle.std.proofs.Common.{◌≡◌, ◌<◌, List, length, get_or, Some, None, Ok, Err, All, ap, sym, subst, ◌∙◌, arith, refl}
+use Rattle.std.proofs.Common.{◌≡◌, ◌<◌, length, get_or, Some, None, All, ap, sym, subst, ◌∙◌, arith, refl}
 use Rattle.std.specs.Prelude.{remove}
 use Rattle.std.proofs.lemmas.List.{get_or_default}
 use Rattle.view_store.specs.Rests.{placed_views}
-use Rattle.view_store.specs.Tables.{Placed, IsUnplaced}
-use Rattle.view_store.specs.Views.{IsPlainRoot, named, table_of}
+use Rattle.view_store.specs.Tables.{IsUnplaced}
+use Rattle.view_store.specs.Views.{IsPlainRoot, named}
 use Rattle.view_store.proofs.Named.{IsPlace-position, IsAbsent-position, no_view}
 use Rattle.view_store.proofs.Resting.{Rest-none, placed_views-named}
 use Rattle.view_store.proofs.Roots.{root-remove, All-remove, dropped-root, found_table, absent_table}

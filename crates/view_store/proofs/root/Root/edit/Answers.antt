@@ -1,4 +1,4 @@
-use Rattle.std.proofs.Common.{◌≡◌, ◌<◌, ◌≤◌, length, get_or, position, OnOk, Err, All, ap, sym, subst, ◌∙◌, arith, refl}
+use Rattle.std.proofs.Common.{◌<◌, ◌≤◌, length, get_or, position, ap, sym, subst, ◌∙◌, arith, refl}
 use Rattle.std.proofs.lemmas.List.Elements.{All-set}
 use Rattle.mk_value.specs.Names.{same_bytes}
 use Rattle.view_store.specs.Changes.{edit_of}

@@ -1,4 +1,4 @@
-use Rattle.std.proofs.Common.{◌≡◌, ◌<◌, length, get_or, position, Some, Err, ap, sym, subst, ◌∙◌, arith, refl}
+use Rattle.std.proofs.Common.{◌<◌, length, position, Some, ap, sym, subst, ◌∙◌, arith, refl}
 use Rattle.mk_value.specs.Names.{same_bytes}
 use Rattle.view_store.specs.Edits.{table_at}
 use Rattle.view_store.specs.Refusals.{AnswersDue, look_due_in}

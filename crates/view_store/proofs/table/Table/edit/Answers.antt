@@ -1,5 +1,3 @@
-use Rattle.std.proofs.Common.{◌≡◌}
-use Rattle.view_store.specs.Tables.{Placed, IsTable}
 use Rattle.view_store.proofs.table.Table.edit.Goals as goal
 
 pub returns-in_err-check-clause-whole : goal.returns-in_err-check-clause-whole
