@@ -1,5 +1,5 @@
 -- The definitions in the words of the rule.
-use Rattle.std.proofs.Common.{◌≡◌, ◌^◌, ℤ, pos, true, cond, List, [], ◌∷◌, map, refl, ap}
+use Rattle.std.proofs.Common.{◌≡◌, pos, cond, List, [], ◌∷◌, map, refl, ap}
 use Rattle.mk_value.specs.Heading.{Domain, Attribute, find}
 use Rattle.mk_value.specs.Data.{Datum, integer, long, text, bytes, relation, IsOf}
 use Rattle.view_store.proofs.Fitting.{is_of_tells}

@@ -1,4 +1,6 @@
+pub mod Apart
 pub mod Back
+pub mod Placing
 pub mod Plain
 pub mod Rows
 pub mod Same

@@ -17,7 +17,7 @@ use Rattle.std.specs.Option.{option_map}
 use Rattle.mk_value.specs.Data.{default_of}
 
 -- the home of the column of a property that has this place in the old schema, or none
-abbrev home_under : List Attribute → Option ℕ → Domain → List Home → List (List Datum) → Home
+abbrev pub home_under : List Attribute → Option ℕ → Domain → List Home → List (List Datum) → Home
 home_under old place new homes rows =
     unwrap_or (option_map (λ k. restructured_home (domain_at old k) new (get_or homes k nowhere) (column_of rows k)) place) (unplaced new (map (λ _. default_of new) rows))
 
@@ -29,11 +29,11 @@ zip_with-map : {X Y Z : Type 0} (f : Y → X → Z) (g : X → Y) (xs : List X) 
 zip_with-map f g [] = refl
 zip_with-map f g (x ∷ xs) = ap (λ zs. f (g x) x ∷ zs) (zip_with-map f g xs)
 
-map_twice : {X Y Z : Type 0} (f : Y → Z) (g : X → Y) (xs : List X) → map f (map g xs) ≡ map (λ x. f (g x)) xs
+pub map_twice : {X Y Z : Type 0} (f : Y → Z) (g : X → Y) (xs : List X) → map f (map g xs) ≡ map (λ x. f (g x)) xs
 map_twice f g [] = refl
 map_twice f g (x ∷ xs) = ap (λ zs. f (g x) ∷ zs) (map_twice f g xs)
 
-behind : {X : Type 0} (xs : List X) (x : X) (rest : List X) (k : ℕ) (d : X) → length xs ≡ k → get_or (xs ++ (x ∷ rest)) k d ≡ x
+pub behind : {X : Type 0} (xs : List X) (x : X) (rest : List X) (k : ℕ) (d : X) → length xs ≡ k → get_or (xs ++ (x ∷ rest)) k d ≡ x
 behind [] x rest zero d e = refl
 behind [] x rest (suc k) d e = absurd (omega arith)
 behind (y ∷ ys) x rest zero d e = absurd (omega arith)

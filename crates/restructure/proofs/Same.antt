@@ -16,7 +16,7 @@ use Rattle.view_store.specs.Tables.{Placed, IsTable, IsUnplaced, unplaced_table}
 use Rattle.restructure.specs.Restructuring.{restructured_value, row_under, value_under, restructured_row, restructured_rows}
 use Rattle.restructure.proofs.Whole.{rows_inside, value_is_of}
 
-abbrev no_attribute : Attribute
+abbrev pub no_attribute : Attribute
 no_attribute = record { name = []; domain = Domain.integer }
 
 -- a test of two names that are not the same fails
@@ -52,12 +52,12 @@ drop_none (x ∷ xs) (y ∷ ys) zero e f = absurd (let g : ◌≡◌ {A = List _
 drop_none (x ∷ xs) (y ∷ ys) (suc k) e f = drop_none xs ys k (omega arith) f
 
 -- what stands at a place, where the rest from there on is known
-record At {X : Type 0} (xs : List X) (k : ℕ) (x : X) (rest : List X) (d : X) : Type 0 where
-  within : k < length xs
-  here : get_or xs k d ≡ x
-  next : drop (k + 1) xs ≡ rest
+pub record At {X : Type 0} (xs : List X) (k : ℕ) (x : X) (rest : List X) (d : X) : Type 0 where
+  pub within : k < length xs
+  pub here : get_or xs k d ≡ x
+  pub next : drop (k + 1) xs ≡ rest
 
-drop_at : {X : Type 0} (xs : List X) (k : ℕ) (x : X) (rest : List X) (d : X) → drop k xs ≡ x ∷ rest → At xs k x rest d
+pub drop_at : {X : Type 0} (xs : List X) (k : ℕ) (x : X) (rest : List X) (d : X) → drop k xs ≡ x ∷ rest → At xs k x rest d
 drop_at [] zero x rest d e = absurd (let g : ◌≡◌ {A = List _} [] (x ∷ rest) = e in cc)
 drop_at [] (suc k) x rest d e = absurd (let g : ◌≡◌ {A = List _} [] (x ∷ rest) = e in cc)
 drop_at (y ∷ ys) zero x rest d e = let g : ◌≡◌ {A = List _} (y ∷ ys) (x ∷ rest) = e in record { within = omega arith; here = cc; next = cc }

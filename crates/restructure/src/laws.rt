@@ -1,8 +1,10 @@
 //! Laws of restructuring: what the definitions that the contracts cite say of every schema, row and value.
 ghost use Rattle.std.specs.Prelude.{◌≡◌, List, map};
 ghost use Rattle.mk_value.specs.Data.{Datum, IsOf};
-ghost use Rattle.mk_value.specs.Heading.{Attribute, Domain, IsDomain, find};
-ghost use Rattle.restructure.specs.Restructuring.{restructured_row, restructured_value, value_under};
+ghost use Rattle.mk_value.specs.Heading.{Attribute, Domain, IsDomain, IsHeading, find};
+ghost use Rattle.view_store.specs.Rests.{RestsOn};
+ghost use Rattle.view_store.specs.Tables.{IsTable, Placed};
+ghost use Rattle.restructure.specs.Restructuring.{restructured, restructured_row, restructured_value, value_under};
 
 /// A law of rows: a row has for each property of the new schema, in order, what the old value of that name becomes.
 pub fn by_name()
@@ -16,4 +18,10 @@ pub fn there_and_back()
     ensures same { (e : Domain) (d : Datum) → IsDomain e → IsOf d e → restructured_value e e d ≡ d }
     ensures number { (d : Datum) → IsOf d Domain.integer → restructured_value Domain.long Domain.integer (restructured_value Domain.integer Domain.long d) ≡ d }
     ensures text { (d : Datum) → IsOf d Domain.text → restructured_value Domain.bytes Domain.text (restructured_value Domain.text Domain.bytes d) ≡ d }
+{}
+
+/// A law of homes: under any whole schema a table rests on what it was, whatever homes its columns have. Each home that is left is
+/// that of an old column of the same kind and values, and where the extents of the old homes do not meet, neither do these.
+pub fn rests_on_what_it_was()
+    ensures { (t : Placed) (new : List Attribute) → IsTable t → IsHeading new → RestsOn (restructured t new) t }
 {}

@@ -13,5 +13,5 @@ mod restructuring;
 #[cfg(test)]
 mod tests;
 
-pub use laws::{by_name, there_and_back};
+pub use laws::{by_name, rests_on_what_it_was, there_and_back};
 pub use restructuring::restructure;
