@@ -1,6 +1,10 @@
 pub mod Behind
+pub mod Commands
 pub mod Decoding
+pub mod Lines
 pub mod Parts
+pub mod Spaces
+pub mod Structures
 pub mod Taking
 pub mod Refusals
 pub mod Texts

@@ -1,14 +1,13 @@
 -- Parts and forms: with what they begin, and that what is read from the front is read in one way.
-use Rattle.std.proofs.Common.{rules, true, ◌≡◌, ◌⊎◌, inl, inr, ℕ, pos, ◌<◌, List, [], ◌∷◌, ◌++◌, refl, sym, ap, subst, ◌∙◌, append_assoc, append-nil, arith, lit<, lit≤}
+use Rattle.std.proofs.Common.{rules, true, ◌≡◌, ◌⊎◌, inl, inr, ℕ, pos, List, [], ◌∷◌, ◌++◌, refl, sym, ap, subst, ◌∙◌, append_assoc, append-nil, lit<, lit≤}
 use Rattle.std.specs.List.{flat_map}
 use Rattle.std.proofs.lemmas.List.Elements.{All-nil, All-cons}
 use Rattle.mk_value.specs.Data.{Datum}
 use Rattle.mk_value.specs.Literals.{tokens_of}
 use Rattle.mk_value.specs.Names.{IsName, is_name_byte}
 use Rattle.mk_value.specs.Tokens.{Token, word, number as number_token, sign}
-use Rattle.tokens.specs.Fronts.{Language, IsFront}
-use Rattle.tokens.specs.Literals.{SpellsLiteral}
-use Rattle.tokens.specs.Paths.{step_tokens, path_tokens, SpellsPath, slash}
+use Rattle.tokens.specs.Fronts.{IsFront}
+use Rattle.tokens.specs.Paths.{step_tokens, path_tokens, slash}
 use Rattle.cmd_text.specs.Grammar.{count, literals_tokens}
 use Rattle.cmd_text.specs.Forms.{Part, name, number, path, literal, Form, nothing, values, next, IsPart, IsOfForm}
 use Rattle.cmd_text.proofs.Decoding.{literal_begins, begins_otherwise, literal_begins_with, behind_literal, behind_steps}

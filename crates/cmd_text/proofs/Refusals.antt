@@ -1,14 +1,14 @@
 -- Where the rest of a line is refused, by where a part of it is.
-use Rattle.std.proofs.Common.{◌≡◌, ◌⊎◌, inl, inr, ℕ, zero, suc, ◌+◌, ◌<◌, ◌≤◌, List, [], ◌∷◌, ◌++◌, length, map, take, drop, refl, sym, ap, subst, ◌∙◌, append_assoc, append-nil, arith, add-one, take-append-drop}
+use Rattle.std.proofs.Common.{◌≡◌, ◌⊎◌, inl, inr, ℕ, zero, suc, ◌+◌, ◌<◌, List, [], ◌∷◌, ◌++◌, length, take, drop, refl, sym, ap, subst, ◌∙◌, append_assoc, append-nil, arith, add-one}
 use Rattle.std.proofs.lemmas.List.Elements.{All-cons, All-head, All-tail}
-use Rattle.std.proofs.lemmas.List.{map-append, take-map, length-map, drop_all, take_all}
+use Rattle.std.proofs.lemmas.List.{map-append, take-map, length-map}
 use Rattle.mk_value.specs.Literals.{tokens_of}
 use Rattle.mk_value.specs.Tokens.{Token, word}
 use Rattle.tokens.specs.Cutting.{Piece}
 use Rattle.tokens.specs.Fronts.{Language, IsFront, IsFirstWrong, EndsEarly, Stops, tokens_in}
 use Rattle.tokens.specs.Literals.{IsLiteral, max_braces}
 use Rattle.cmd_text.specs.declared.error.CmdError.{CmdError}
-use Rattle.cmd_text.specs.Forms.{Part, literal, Form, NameTokens, NumberTokens, nothing, values, next, Takes, IsPart, IsOfForm, Rest, IsWrongAt, Refuses}
+use Rattle.cmd_text.specs.Forms.{Part, literal, Form, NameTokens, NumberTokens, nothing, values, next, Takes, IsPart, IsOfForm, IsWrongAt, Refuses}
 use Rattle.cmd_text.specs.Grammar.{count, literals_tokens}
 use Rattle.cmd_text.specs.Readers.{place_of_first}
 use Rattle.cmd_text.proofs.Parts.{BeginsWith, GoesOn, behind_part, before_form, in_part, no_part, some_form, some_part}

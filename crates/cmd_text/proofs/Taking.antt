@@ -1,5 +1,5 @@
 -- What a reader reads, by the pieces of the program.
-use Rattle.std.proofs.Common.{◌≡◌, ◌⊎◌, ◌+◌, inl, inr, ◌<◌, ◌≤◌, ◌-◌, zero, suc, length, length-drop, get_or, arith, ℕ, List, [], ◌∷◌, ◌++◌, map, take, drop, refl, sym, ap, subst, ◌∙◌, take-append-drop}
+use Rattle.std.proofs.Common.{◌≡◌, ◌⊎◌, ◌+◌, inl, inr, ◌<◌, ◌≤◌, ◌-◌, zero, suc, length, length-drop, get_or, arith, ℕ, List, [], ◌∷◌, ◌++◌, take, drop, refl, sym, ap, subst, ◌∙◌, take-append-drop}
 use Rattle.std.specs.List.{take-map, drop-map}
 use Rattle.std.proofs.lemmas.List.{take_all, length-map, length-append}
 use Rattle.mk_value.specs.Data.{Datum}
@@ -7,11 +7,10 @@ use Rattle.mk_value.specs.Literals.{tokens_of}
 use Rattle.mk_value.specs.Names.{IsName}
 use Rattle.mk_value.specs.Paths.{Route}
 use Rattle.mk_value.specs.Tokens.{Token, word, sign}
-use Rattle.tokens.specs.Cutting as cutting
 use Rattle.tokens.specs.Fronts.{Stops, tokens_in}
-use Rattle.tokens.specs.Literals.{LiteralTokens, SpellsLiteral}
+use Rattle.tokens.specs.Literals.{SpellsLiteral}
 use Rattle.tokens.specs.Meanings.{piece_of, pieces_of, token_of, tokens_of_pieces}
-use Rattle.tokens.specs.Paths.{GoesOnWithSlash, PathTokens, SpellsPath, path_tokens, slash}
+use Rattle.tokens.specs.Paths.{GoesOnWithSlash, SpellsPath, path_tokens, slash}
 use Rattle.tokens.specs.declared.error.PartError.{PartError}
 use Rattle.tokens.specs.declared.error.PartError.TheVariants as errors
 use Rattle.tokens.specs.declared.token.Piece.{Piece}

@@ -1,6 +1,5 @@
 -- Literals read one after another.
-use Rattle.std.proofs.Common.{◌≡◌, ◌<◌, inl, inr, ℕ, List, [], ◌∷◌, ◌++◌, length, refl, sym, ap, ◌∙◌, append_assoc, append-nil, arith}
-use Rattle.std.specs.List.{flat_map}
+use Rattle.std.proofs.Common.{◌≡◌, ◌<◌, ℕ, List, [], ◌∷◌, ◌++◌, length, refl, sym, ap, ◌∙◌, append_assoc, append-nil, arith}
 use Rattle.std.proofs.lemmas.Grind.{flat_map-append}
 use Rattle.std.proofs.lemmas.List.Elements.{All-nil, All-push}
 use Rattle.mk_value.specs.Data.{Datum}
@@ -12,7 +11,6 @@ use Rattle.tokens.specs.declared.token.Piece.{Piece}
 use Rattle.cmd_text.specs.Forms.{Refuses, Rest, Takes, literal, next, values}
 use Rattle.cmd_text.specs.Grammar.{AreLiterals, literals_tokens}
 use Rattle.cmd_text.specs.declared.error.CmdError.{CmdError}
-use Rattle.cmd_text.specs.declared.error.CmdError.TheVariants.{Memory}
 use Rattle.cmd_text.proofs.Refusals.{refuses_values}
 use Rattle.cmd_text.proofs.Taking.{rest_at}
 

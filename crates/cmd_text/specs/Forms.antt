@@ -7,7 +7,7 @@ use Rattle.tokens.specs.Cutting.{Piece}
 use Rattle.tokens.specs.Fronts.{Language, IsFirstWrong, EndsEarly, tokens_in}
 use Rattle.tokens.specs.Literals.{LiteralTokens}
 use Rattle.tokens.specs.Paths.{PathTokens}
-use Rattle.cmd_text.specs.Grammar.{AreLiterals, IsCount, count, literals_tokens}
+use Rattle.cmd_text.specs.Grammar.{AreLiterals, CommandTokens, IsCount, count, literals_tokens}
 use Rattle.cmd_text.specs.declared.error.CmdError.{CmdError}
 use Rattle.cmd_text.specs.declared.error.CmdError.TheVariants.{Syntax, Memory}
 use Rattle.cmd_text.specs.declared.verb.Verb.{Verb}
@@ -97,3 +97,7 @@ pub record Takes (part : Part) (front : List Token) (old new : Rest) : Type 0 wh
   pub whole : IsPart part front
   pub split : tokens_in old.pieces ≡ front ++ tokens_in new.pieces
   pub refuses : (form : Form) (error : CmdError) → Refuses form new error → Refuses (next part form) old error
+
+-- The pieces of a line are refused so for want of a command.
+abbrev pub RefusesCommand : Rest → CmdError → Type 0
+RefusesCommand rest error = (error ≡ Memory) ⊎ ((place : ℕ) × ((error ≡ Syntax place) × IsWrongAt CommandTokens rest place))

@@ -1,5 +1,7 @@
+pub mod Cutting
 pub mod Forms
 pub mod Grammar
 pub mod Lines
 pub mod Readers
 pub mod Replies
+pub mod Structures

@@ -17,6 +17,7 @@ use std::alloc::Global;
 use tokens::{PartError, Piece, Token, literal_at, path_at};
 
 /// The pieces of a line that are left to read, and the line's length.
+#[derive(Drop)]
 pub(crate) struct Reader<'a> {
     pub(crate) alloc: Global,
     pub(crate) rest: &'a [Piece],

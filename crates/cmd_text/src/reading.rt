@@ -1,9 +1,31 @@
 //! Reading command lines.
-ghost use Rattle.std.specs.Prelude.{◌≡◌, ◌⊎◌, IfOk, IfErr};
-ghost use Rattle.cmd_text.specs.Lines.{IsRefusedAs, Reads};
+ghost use Rattle.std.specs.Prelude.{◌≡◌, ◌⊎◌, ◌≤◌, ◌+◌, ◌-◌, ◌<◌, ◌^◌, ◌∷◌, ◌↔◌, ◌++◌, [], ℕ, List, true, false, length, codes, IsTrue, IfOk, IfErr, IfSome, IsNone};
+ghost use Rattle.std.specs.Str.{IsUtf8, bytes_eq};
+ghost use Rattle.mk_value.specs.Names.{is_name_byte as name_byte};
+ghost use Rattle.struct_text.specs.Offences.{place_of};
+ghost use Rattle.tokens.specs.Cutting.{Piece as CutPiece, Cuts, begins_with};
+ghost use Rattle.tokens.specs.Fronts.{IsFirstOffence, tokens_in};
+ghost use Rattle.tokens.specs.Meanings.{pieces_of, token_of};
+ghost use Rattle.cmd_text.specs.Forms.{RefusesCommand, word_of};
+ghost use Rattle.cmd_text.specs.Grammar.{CommandTokens, SpellsCommand, keyword};
+ghost use Rattle.cmd_text.specs.Lines.{IsRefusedAs, Reads, ReadsStructure, RefusesStructure, error_of, gives_structure, is_space, without_leading, without_trailing};
+ghost use Rattle.cmd_text.specs.Structures.{IsBehindGetas};
+ghost use Rattle.cmd_text.specs.declared.error.CmdError.TheVariants.{Memory as want_of_memory, Syntax};
+ghost use Rattle.cmd_text.specs.declared.verb.Verb.{Verb as TheVerb};
 
+use crate::arguments::read_arguments;
+use crate::reader::Reader;
+use crate::verb::Verb;
 use crate::{CmdError, Command};
 use std::alloc::Global;
+use struct_text::{StructError, parse};
+use tokens::{Piece, Token, cut};
+
+/// The one byte that parts words.
+const SPACE: char = ' ';
+
+/// The first word of a line that gives a structure.
+const GETAS: &str = "getas";
 
 /// Reads a line, its newline left aside. A line of one word takes no memory.
 ///
@@ -12,7 +34,145 @@ use std::alloc::Global;
 /// The first offence of the line: `Syntax`, `Floating`, `Repeated`, `TooLarge`. `Memory`.
 pub fn read_command(alloc: Global, line: &[u8]) -> Result<Command, CmdError>
     ensures reads { IfOk result (λ command. Reads line.now command) }
-    ensures refused { IfErr result (λ error. (error ≡ CmdError.Memory) ⊎ IsRefusedAs line.now error) }
+    ensures refused { IfErr result (λ error. (error ≡ want_of_memory) ⊎ IsRefusedAs line.now error) }
 {
-    Err(CmdError::Memory)
+    match str::from_utf8(line) {
+        Ok(text) => read_text(alloc, text),
+        Err(error) => Err(CmdError::Syntax(error.valid_up_to())),
+    }
+}
+
+/// Reads what stands from a line's first byte on that is no space.
+fn read_text(alloc: Global, line: &str) -> Result<Command, CmdError>
+    ensures reads { IfOk result (λ command. Reads line.now command) }
+    ensures refused { IfErr result (λ error. (error ≡ want_of_memory) ⊎ IsRefusedAs line.now error) }
+{
+    let rest = without_leading_spaces(line);
+    match behind_getas(rest) {
+        Some(behind) => read_structure(alloc, line, rest, behind),
+        None => read_tokens(alloc, line),
+    }
+}
+
+/// What stands behind the word `getas` at the front, where that run of letters ends there.
+fn behind_getas(rest: &str) -> Option<&str>
+    ensures some { IfSome result (λ behind. (rest.now ≡ codes "getas" ++ behind.now) × (begins_with name_byte behind.now ≡ false)) }
+    ensures none { IsNone result → (behind : List ℕ) → rest.now ≡ codes "getas" ++ behind → begins_with name_byte behind ≡ false → ⊥ }
+{
+    let behind = rest.strip_prefix(GETAS)?;
+    if begins_with_name_byte(behind.as_bytes()) {
+        return None;
+    }
+    Some(behind)
+}
+
+/// Whether the first of the bytes may stand in a name.
+fn begins_with_name_byte(bytes: &[u8]) -> bool
+    ensures { result ≡ begins_with name_byte bytes.now }
+{
+    match bytes.first() {
+        Some(byte) => byte.is_ascii_alphanumeric() || *byte == b'_',
+        None => false,
+    }
+}
+
+fn without_leading_spaces(text: &str) -> &str
+    ensures value { result.now ≡ without_leading text.now }
+    ensures short { length result.now ≤ length text.now }
+{
+    text.trim_start_matches(SPACE)
+}
+
+fn without_trailing_spaces(text: &str) -> &str
+    ensures value { result.now ≡ without_trailing text.now }
+    ensures short { length result.now ≤ length text.now }
+{
+    text.trim_end_matches(SPACE)
+}
+
+/// Whether a word that these bytes stand behind stands alone.
+fn ends_word(behind: &[u8]) -> bool
+    ensures { IsTrue result ↔ ((behind.now ≡ []) ⊎ (begins_with is_space behind.now ≡ true)) }
+{
+    match behind.first() {
+        Some(byte) => *byte == b' ',
+        None => true,
+    }
+}
+
+/// Reads the structure that stands behind `getas`.
+fn read_structure(alloc: Global, line: &str, rest: &str, behind: &str) -> Result<Command, CmdError>
+    requires rest { rest.now ≡ without_leading line.now }
+    requires behind { IsBehindGetas line.now behind.now }
+    ensures reads { IfOk result (ReadsStructure line.now) }
+    ensures refused { IfErr result (λ error. (error ≡ want_of_memory) ⊎ RefusesStructure line.now error) }
+{
+    if !ends_word(behind.as_bytes()) {
+        return Err(CmdError::Syntax(line.len() - rest.len()));
+    }
+    let text = without_leading_spaces(behind);
+    match parse(alloc, without_trailing_spaces(text)) {
+        Ok((name, schema)) => Ok(Command::Getas(name, schema)),
+        Err(error) => Err(of_structure(line.len() - text.len(), error)),
+    }
+}
+
+/// How an offence in a structure text that begins at `start` of its line is refused.
+fn of_structure(start: usize, error: StructError) -> CmdError
+    requires { start + place_of error < 2 ^ 64 }
+    ensures { result ≡ error_of start error }
+{
+    match error {
+        StructError::Syntax(place) => CmdError::Syntax(start + place),
+        StructError::Floating(place) => CmdError::Floating(start + place),
+        StructError::Repeated(_) => CmdError::Repeated,
+        StructError::TooDeep(_) | StructError::TooMany(_) | StructError::TooLong(_) => {
+            CmdError::TooLarge
+        }
+        StructError::Memory => CmdError::Memory,
+    }
+}
+
+/// Reads a line by its tokens.
+fn read_tokens(alloc: Global, line: &str) -> Result<Command, CmdError>
+    ensures reads { IfOk result (λ command. (pieces : List CutPiece) × (Cuts line.now pieces × SpellsCommand (tokens_in pieces) command)) }
+    ensures refused { IfErr result (λ error. (error ≡ want_of_memory) ⊎ ((place : ℕ) × (IsFirstOffence CommandTokens line.now place × (error ≡ Syntax place)))) }
+{
+    let pieces = cut(alloc, line)?;
+    read_pieces(alloc, pieces.as_slice(), line.len())
+}
+
+/// Reads the pieces of a line of so many bytes.
+fn read_pieces(alloc: Global, pieces: &[Piece], end: usize) -> Result<Command, CmdError>
+    ensures reads { IfOk result (SpellsCommand (tokens_in (pieces_of pieces.now))) }
+    ensures refused { IfErr result (RefusesCommand (record { pieces = pieces_of pieces.now; end = end })) }
+{
+    let Some((first, rest)) = pieces.split_first() else {
+        return Ok(Command::Nothing);
+    };
+    let verb = first_verb(first)?;
+    let mut reader = Reader { alloc, rest, end };
+    read_arguments(verb, &mut reader)
+}
+
+/// The command whose first word a piece is.
+fn first_verb(first: &Piece) -> Result<Verb, CmdError>
+    ensures known { IfOk result (λ verb. token_of first.now.token ≡ keyword (word_of verb)) }
+    ensures unknown { IfErr result (λ error. (error ≡ Syntax first.now.place) × ((verb : TheVerb) → token_of first.now.token ≡ keyword (word_of verb) → ⊥)) }
+{
+    match verb_of(&first.token) {
+        Some(verb) => Ok(verb),
+        None => Err(CmdError::Syntax(first.place)),
+    }
+}
+
+/// The command whose first word a token is.
+fn verb_of(token: &Token) -> Option<Verb>
+    ensures some { IfSome result (λ verb. token_of token.now ≡ keyword (word_of verb)) }
+    ensures none { IsNone result → (verb : TheVerb) → token_of token.now ≡ keyword (word_of verb) → ⊥ }
+{
+    let Token::Word(name) = token else {
+        return None;
+    };
+    Verb::of(name.as_str())
 }
