@@ -1,5 +1,5 @@
 //! Edits of the rows of views.
-ghost use Rattle.std.specs.Prelude.{◌≡◌, ◌+◌, ◌-◌, ◌≤◌, [], ◌∷◌, All, IfOk, None, OnErr, OnOk, true};
+ghost use Rattle.std.specs.Prelude.{◌≡◌, ◌+◌, ◌-◌, ◌≤◌, [], ◌∷◌, All, IfErr, IfOk, None, OnErr, OnOk, true};
 ghost use Rattle.std.specs.Result.{result_err};
 ghost use Rattle.mk_value.specs.Conversions.{IsProper, becomes};
 ghost use Rattle.mk_value.specs.Data.{IsOf};
@@ -8,7 +8,9 @@ ghost use Rattle.mk_value.specs.Limits.{max_rows};
 ghost use Rattle.mk_value.specs.LiteralValues.{literal_of};
 ghost use Rattle.mk_value.specs.Values.{datum_of};
 ghost use Rattle.view_store.specs.Fitting.{are_of};
-ghost use Rattle.view_store.specs.Refusals.{schema_of};
+ghost use Rattle.view_store.specs.Edits.{Edit};
+ghost use Rattle.view_store.specs.Refusals.{due, schema_of};
+ghost use Rattle.view_store.specs.Views.{edited_views};
 ghost use Rattle.session.specs.Commands.{changed, inserted, removed};
 ghost use Rattle.session.specs.Fitting.{all_short, is_short};
 ghost use Rattle.session.specs.Refusals.{AnswersDue, add_due, by_rows, by_schema, copies_refusal, first_of, insert_due, literal_refusal, literals_refusal, max_copies, place_refusal, remove_due, row_refusal, rows_refusal, set_due, unless};
@@ -75,9 +77,7 @@ impl Session {
         let size = self.size_of(path)?;
         check_row(size, row)?;
         let value = self.value_of(path, prop, literal)?;
-        self.root
-            .set(path, row as usize, prop, &value)
-            .map_err(of_edit)
+        self.set_value(path, row as usize, prop, &value)
     }
 
     /// Removes so many rows of a view from a place on, and gives the new size.
@@ -89,9 +89,7 @@ impl Session {
     {
         let size = self.size_of(path)?;
         let left = check_rows(size, place, rows)?;
-        self.root
-            .remove_rows(path, place as usize, rows as usize)
-            .map_err(of_edit)?;
+        self.remove_rows(path, place as usize, rows as usize)?;
         Ok(left)
     }
 
@@ -116,10 +114,53 @@ impl Session {
     {
         let after = check_copies(size, copies)?;
         let row = self.row_of(path, literals)?;
-        self.root
-            .insert_rows(path, place as usize, &row, copies as usize)
-            .map_err(of_edit)?;
+        self.insert_rows(path, place as usize, &row, copies as usize)?;
         Ok(after)
+    }
+
+    /// Puts copies of a row in, where no refusal is due.
+    fn insert_rows(
+        &mut self,
+        path: &Path,
+        place: usize,
+        row: &Row,
+        copies: usize,
+    ) -> Result<(), Refusal>
+        requires few { copies ≤ max_rows }
+        requires due { due self.old.root path.now (Edit.insert place row.now copies) ≡ None }
+        ensures memory { IfErr result (λ e. e ≡ Refusal.Memory) }
+        ensures ok { OnOk result (self.new.root ≡ edited_views self.old.root path.now (Edit.insert place row.now copies)) }
+        ensures err { OnErr result (self.new ≡ self.old) }
+    {
+        self.root
+            .insert_rows(path, place, row, copies)
+            .map_err(of_edit)
+    }
+
+    /// Gives a property of a row another value, where no refusal is due.
+    fn set_value(
+        &mut self,
+        path: &Path,
+        row: usize,
+        prop: &Name,
+        value: &Value,
+    ) -> Result<(), Refusal>
+        requires { due self.old.root path.now (Edit.set row prop.now (datum_of value.now)) ≡ None }
+        ensures memory { IfErr result (λ e. e ≡ Refusal.Memory) }
+        ensures ok { OnOk result (self.new.root ≡ edited_views self.old.root path.now (Edit.set row prop.now (datum_of value.now))) }
+        ensures err { OnErr result (self.new ≡ self.old) }
+    {
+        self.root.set(path, row, prop, value).map_err(of_edit)
+    }
+
+    /// Removes rows, where no refusal is due.
+    fn remove_rows(&mut self, path: &Path, place: usize, rows: usize) -> Result<(), Refusal>
+        requires { due self.old.root path.now (Edit.remove place rows) ≡ None }
+        ensures memory { IfErr result (λ e. e ≡ Refusal.Memory) }
+        ensures ok { OnOk result (self.new.root ≡ edited_views self.old.root path.now (Edit.remove place rows)) }
+        ensures err { OnErr result (self.new ≡ self.old) }
+    {
+        self.root.remove_rows(path, place, rows).map_err(of_edit)
     }
 
     /// Answers the refusal of a row of literals that the names of the path and the schema of its view give alone.

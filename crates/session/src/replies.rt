@@ -1,46 +1,71 @@
-//! The reply to what the function of a command gave.
-ghost use Rattle.std.specs.Prelude.{◌≡◌};
+//! The reply to what the function of a command gave. Each but one of lines is no longer than a line.
+ghost use Rattle.std.specs.Prelude.{◌≡◌, ◌⊎◌, ◌+◌, ◌≤◌, length, IfOk};
+ghost use Rattle.cmd_text.specs.Replies.{reply_bytes};
+ghost use Rattle.lines.specs.Lines.{max_line};
 ghost use Rattle.session.specs.Comes.{reply_of};
+ghost use Rattle.session.specs.Saying.{HasLines};
 
+use crate::saying::{is_short_number, is_short_refusal};
 use cmd_text::{Refusal, Reply};
 use mk_value::{Text, Texts};
 
 /// Nothing but that it was done, or the refusal.
 pub fn done(answer: Result<(), Refusal>) -> Reply
-    ensures { result ≡ reply_of (λ _. Reply.Plain) answer }
+    ensures value { result ≡ reply_of (λ _. Reply.Plain) answer }
+    ensures short { length (reply_bytes result) ≤ max_line }
 {
     match answer {
         Ok(()) => Reply::Plain,
-        Err(refusal) => Reply::Refused(refusal),
+        Err(refusal) => refused(refusal),
     }
 }
 
 /// A number, or the refusal.
 pub fn count(answer: Result<u64, Refusal>) -> Reply
-    ensures { result ≡ reply_of (λ number. Reply.Count number) answer }
+    ensures value { result ≡ reply_of (λ number. Reply.Count number) answer }
+    ensures short { length (reply_bytes result) ≤ max_line }
 {
     match answer {
-        Ok(number) => Reply::Count(number),
-        Err(refusal) => Reply::Refused(refusal),
+        Ok(number) => counted(number),
+        Err(refusal) => refused(refusal),
     }
 }
 
 /// A text, or the refusal.
 pub fn text(answer: Result<Text, Refusal>) -> Reply
-    ensures { result ≡ reply_of (λ text. Reply.One text) answer }
+    requires { IfOk answer (λ text. length text.bytes + 4 ≤ max_line) }
+    ensures value { result ≡ reply_of (λ text. Reply.One text) answer }
+    ensures short { length (reply_bytes result) ≤ max_line }
 {
     match answer {
         Ok(text) => Reply::One(text),
-        Err(refusal) => Reply::Refused(refusal),
+        Err(refusal) => refused(refusal),
     }
 }
 
 /// Lines, or the refusal.
 pub fn lines(answer: Result<Texts, Refusal>) -> Reply
-    ensures { result ≡ reply_of (λ texts. Reply.Lines texts) answer }
+    ensures value { result ≡ reply_of (λ texts. Reply.Lines texts) answer }
+    ensures short { HasLines result ⊎ (length (reply_bytes result) ≤ max_line) }
 {
     match answer {
         Ok(texts) => Reply::Lines(texts),
-        Err(refusal) => Reply::Refused(refusal),
+        Err(refusal) => refused(refusal),
     }
+}
+
+fn counted(number: u64) -> Reply
+    ensures value { result ≡ Reply.Count number }
+    ensures short { length (reply_bytes result) ≤ max_line }
+{
+    is_short_number(number);
+    Reply::Count(number)
+}
+
+fn refused(refusal: Refusal) -> Reply
+    ensures value { result ≡ Reply.Refused refusal }
+    ensures short { length (reply_bytes result) ≤ max_line }
+{
+    is_short_refusal(refusal);
+    Reply::Refused(refusal)
 }

@@ -1,5 +1,5 @@
 //! Writing replies into the room that was made for them.
-ghost use Rattle.std.specs.Prelude.{◌≡◌, ◌⊎◌, ◌≤◌, ◌++◌, length, IsOk, MatchOption, OnErr, OnOk};
+ghost use Rattle.std.specs.Prelude.{◌≡◌, ◌⊎◌, ◌≤◌, ◌++◌, decimal, length, IsOk, MatchOption, OnErr, OnOk};
 ghost use Rattle.cmd_text.specs.Replies.{contents, lines_text, reply_bytes};
 ghost use Rattle.session.specs.Saying.{FitsIn, HasLines, KeepsRoom};
 
@@ -15,8 +15,32 @@ pub fn refuse(refusal: Refusal, out: &mut Text)
     ensures bytes { out.new.bytes ≡ out.old.bytes ++ reply_bytes (Reply.Refused refusal) }
     ensures room { KeepsRoom out.old out.new }
 {
+    is_short_refusal(refusal);
     let _ = reply_text(&Reply::Refused(refusal), out);
 }
+
+/// A refusal's reply has at most 60 bytes, since its numbers have 64 bits.
+pub fn is_short_refusal(refusal: Refusal)
+    ensures { length (reply_bytes (Reply.Refused refusal)) ≤ MAX_REFUSAL }
+{
+    match refusal {
+        Refusal::Syntax(number) => is_short_number(number),
+        Refusal::Range(number) => is_short_number(number),
+        Refusal::Floating(number) => is_short_number(number),
+        Refusal::Damaged(number) => is_short_number(number),
+        Refusal::Keys(number) => is_short_number(number),
+        Refusal::Full(end, cap) => {
+            is_short_number(end);
+            is_short_number(cap);
+        }
+        _ => {}
+    }
+}
+
+/// A number of 64 bits has at most 20 digits.
+pub fn is_short_number(number: u64)
+    ensures { length (decimal number) ≤ 20 }
+{}
 
 /// Appends a reply. Only one of lines may want memory; then the room is as it was.
 pub fn say(reply: &Reply, out: &mut Text) -> Result<(), Memory>
@@ -51,6 +75,7 @@ fn make_room(reply: &Reply, out: &mut Text) -> Result<(), Memory>
 fn lines_size(lines: &Texts) -> Option<usize>
     ensures { MatchOption result (Unit {0}) (λ size. length (lines_text (contents lines.now)) ≤ size) }
 {
+    is_short_number(lines.len() as u64);
     let mut size = 24usize;
     for line in lines.as_slice() {
         size = size.checked_add(line.len())?.checked_add(1)?;

@@ -1,5 +1,5 @@
 //! Literals against the properties of a schema, and the values that they become.
-ghost use Rattle.std.specs.Prelude.{◌≡◌, ◌≤◌, length, All, IfOk, None, true};
+ghost use Rattle.std.specs.Prelude.{◌≡◌, ◌≤◌, [], ◌∷◌, ◌++◌, length, All, IfErr, IfOk, None, OnOk, true};
 ghost use Rattle.std.specs.Result.{result_err};
 ghost use Rattle.mk_value.specs.Conversions.{IsProper, becomes};
 ghost use Rattle.mk_value.specs.Data.{IsOf};
@@ -81,9 +81,17 @@ pub fn make_row(alloc: Global, literals: &Literals, schema: &Schema) -> Result<R
     for at in 0..values.len() {
         let prop = &props[at];
         let value = make_value(alloc, &values[at], &prop.kind)?;
-        row.push(value).map_err(of_memory)?;
+        append(&mut row, value)?;
     }
     Ok(row)
+}
+
+/// Appends a value to a row.
+fn append(row: &mut Row, value: Value) -> Result<(), Refusal>
+    ensures ok { OnOk result (row.new ≡ row.old ++ datum_of value ∷ []) }
+    ensures memory { IfErr result (λ e. e ≡ Refusal.Memory) }
+{
+    row.push(value).map_err(of_memory)
 }
 
 /// The value that a literal becomes under the property of a name, which it fits.
