@@ -1,7 +1,12 @@
 pub mod Beginnings
+pub mod Braces
 pub mod Chains
 pub mod Findings
+pub mod Levels
+pub mod Listing
 pub mod Quotes
 pub mod Routes
 pub mod Runs
 pub mod Stopping
+pub mod Unambiguous
+pub mod Wholes
