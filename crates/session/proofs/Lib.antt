@@ -1,5 +1,6 @@
 pub mod Dues
 pub mod Fitted
+pub mod Lengths
+pub mod Readings
 pub mod Ready
-pub mod Spaces
 pub mod Walked

@@ -1,5 +1,5 @@
 -- What can be told of a line without reading it as a command, and what a line gives a command.
-use Rattle.std.specs.Prelude.{ℕ, ◌+◌, ◌≤◌, Bool, ◌&&◌, List, All, codes}
+use Rattle.std.specs.Prelude.{ℕ, ◌+◌, ◌≤◌, Bool, ◌&&◌, List, All, codes, length}
 use Rattle.std.specs.List.{list_all}
 use Rattle.std.specs.Str.{bytes_eq, is_utf8}
 use Rattle.mk_value.specs.Conversions.{IsProper}
@@ -7,7 +7,8 @@ use Rattle.mk_value.specs.LiteralValues.{literal_of}
 use Rattle.cmd_text.specs.Lines.{is_space, without_leading, without_trailing}
 use Rattle.cmd_text.specs.declared.command.Command.{Command}
 use Rattle.cmd_text.specs.declared.command.Command.TheVariants.{Getas, Add, Insert, Set}
-use Rattle.view_store.specs.Views.{max_structure, structure_length}
+use Rattle.lines.specs.Lines.{max_line}
+use Rattle.struct_text.specs.Spelling.{spelling}
 
 -- a line that asks for nothing: it is all spaces, or empty
 abbrev pub is_blank : List ℕ → Bool
@@ -19,7 +20,7 @@ is_quit line = is_utf8 line && bytes_eq (without_trailing (without_leading line)
 
 -- What the command of a line keeps: a structure is shorter than the line by the word before it, and literals are proper values.
 abbrev pub IsOfLine : Command → Type 0
-IsOfLine (Getas name schema) = structure_length name schema + 5 ≤ max_structure
+IsOfLine (Getas name schema) = length (spelling name schema) + 5 ≤ max_line
 IsOfLine (Add route literals) = All IsProper literals
 IsOfLine (Insert route place copies literals) = All IsProper literals
 IsOfLine (Set route row prop literal) = IsProper (literal_of literal)

@@ -1,10 +1,10 @@
-ghost use Rattle.std.specs.Prelude.{◌≡◌, ◌+◌, ◌≤◌, ◌↔◌, [], true, false, length};
+ghost use Rattle.std.specs.Prelude.{◌≡◌, ◌⊎◌, ◌+◌, ◌≤◌, ◌↔◌, [], true, false, length};
 ghost use Rattle.lines.specs.Lines.{max_line};
 ghost use Rattle.session.specs.Commands.{outcome_of};
 ghost use Rattle.session.specs.Comes.{Comes};
 ghost use Rattle.session.specs.Lines.{IsOfLine, is_blank, is_quit};
 ghost use Rattle.session.specs.Saying.{KeepsRoom};
-ghost use Rattle.session.specs.Step.{Step};
+ghost use Rattle.session.specs.Step.{Answers, Refuses, Step};
 ghost use Rattle.session.specs.World.{new_world};
 
 use crate::refusals::of_reading;
@@ -14,7 +14,7 @@ use crate::words::{is_blank, is_quit};
 use cmd_text::{Command, Refusal, Reply, read_command};
 use host_io::Host;
 use lines::Flow;
-use mk_value::Text;
+use mk_value::{Memory, Text};
 use std::alloc::Global;
 use std::marker::Model;
 use view_store::Root;
@@ -78,13 +78,24 @@ impl Session {
         ensures room { KeepsRoom out.old out.new }
     {
         match read_command(self.alloc, line) {
-            Ok(command) => {
-                let reply = self.carry_out(&command);
-                if say(&reply, out).is_err() {
-                    refuse(Refusal::Memory, out);
-                }
-            }
+            Ok(command) => self.answer_command(&command, out),
             Err(error) => refuse(of_reading(error), out),
+        }
+    }
+
+    /// Carries a command out, and writes the reply to it.
+    fn answer_command(&mut self, command: &Command, out: &mut Text)
+        requires line { IsOfLine command.now }
+        requires empty { out.old.bytes ≡ [] }
+        requires room { max_line + 1 ≤ out.old.spare }
+        ensures answers { Answers (outcome_of self.old.root command.now) self.old out.new.bytes self.new
+            ⊎ Refuses Refusal.Memory self.old out.new.bytes self.new }
+        ensures room { KeepsRoom out.old out.new }
+    {
+        let reply = self.carry_out(command);
+        match say(&reply, out) {
+            Ok(()) => {}
+            Err(Memory) => refuse(Refusal::Memory, out),
         }
     }
 

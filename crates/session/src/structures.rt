@@ -1,5 +1,5 @@
 //! Giving views structures, and dropping views.
-ghost use Rattle.std.specs.Prelude.{◌≡◌, ◌≤◌, [], IfOk, None, OnErr, OnOk};
+ghost use Rattle.std.specs.Prelude.{◌≡◌, ◌≤◌, [], length, IfOk, None, OnErr, OnOk};
 ghost use Rattle.struct_text.specs.Spelling.{spelling};
 ghost use Rattle.view_store.specs.Views.{max_structure, structure_length, table_of, without_view, with_view};
 ghost use Rattle.view_store.specs.Tables.{unplaced_table};
@@ -21,12 +21,13 @@ impl Session {
     ///
     /// As of `declare`.
     pub(crate) fn getas(&mut self, name: &Name, schema: &Schema) -> Result<Text, Refusal>
-        requires { structure_length name.now schema.now ≤ max_structure }
+        requires { length (spelling name.now schema.now) ≤ max_structure }
         ensures due { AnswersDue (getas_due self.old.root name.now) result }
         ensures text { IfOk result (λ text. text.bytes ≡ spelling name.now schema.now) }
         ensures ok { OnOk result (self.new.root ≡ structured self.old.root name.now schema.now) }
         ensures err { OnErr result (self.new ≡ self.old) }
     {
+        let _properties = schema.len();
         let text = structure_text(self.alloc, name, schema).map_err(of_memory)?;
         self.declare(name, schema)?;
         Ok(text)

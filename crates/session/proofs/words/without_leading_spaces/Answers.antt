@@ -1,4 +1,4 @@
-use Rattle.session.proofs.Spaces.{trimmed_start}
+use Rattle.cmd_text.proofs.Spaces.{trimmed_start}
 use Rattle.session.proofs.words.without_leading_spaces.Goals as goal
 
 pub returns : goal.returns

@@ -1,6 +1,6 @@
 use Rattle.std.proofs.Common.{ap, ◌∙◌}
 use Rattle.cmd_text.specs.Lines.{without_trailing}
-use Rattle.session.proofs.Spaces.{trimmed_end}
+use Rattle.cmd_text.proofs.Spaces.{trimmed_end}
 use Rattle.session.proofs.words.without_spaces.Goals as goal
 
 pub returns : goal.returns
