@@ -252,7 +252,7 @@ verb_named-word_of Size = refl
 verb_named-word_of Show = refl
 verb_named-word_of Quit = refl
 
-one_verb : (a b : Verb) → word_of a ≡ word_of b → a ≡ b
+pub one_verb : (a b : Verb) → word_of a ≡ word_of b → a ≡ b
 one_verb a b e = sym (verb_named-word_of a) ∙ ap verb_named e ∙ verb_named-word_of b
 
 same_word : (a b : List ℕ) (x y : List Token) → word a ∷ x ≡ word b ∷ y → a ≡ b

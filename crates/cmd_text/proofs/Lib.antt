@@ -9,3 +9,4 @@ pub mod Taking
 pub mod Refusals
 pub mod Texts
 pub mod Values
+pub mod Words

@@ -11,13 +11,10 @@ use Rattle.cmd_text.specs.Cutting.{error_of_cut}
 use Rattle.cmd_text.specs.Forms.{RefusesCommand}
 use Rattle.cmd_text.specs.Grammar.{CommandTokens, SpellsCommand}
 use Rattle.cmd_text.specs.Lines.{IsRefusedAs, Reads, gives_structure}
+use Rattle.cmd_text.specs.OneWord.{ReadsPieces}
 use Rattle.cmd_text.specs.declared.command.Command.{Command}
 use Rattle.cmd_text.specs.declared.error.CmdError.{CmdError}
 use Rattle.cmd_text.specs.declared.error.CmdError.TheVariants.{Memory, Syntax}
-
--- the line is the command that its tokens spell
-abbrev pub ReadsPieces : List ℕ → Command → Type 0
-ReadsPieces line command = (pieces : List Piece) × (Cuts line pieces × SpellsCommand (tokens_in pieces) command)
 
 -- the line is refused by its tokens
 abbrev pub RefusedAt : List ℕ → CmdError → Type 0

@@ -2,6 +2,7 @@ pub mod Cutting
 pub mod Forms
 pub mod Grammar
 pub mod Lines
+pub mod OneWord
 pub mod Readers
 pub mod Replies
 pub mod Structures

@@ -1,7 +1,7 @@
 //! Reading what stands behind a command's first word.
-ghost use Rattle.std.specs.Prelude.{◌∷◌, IfOk, IfErr};
+ghost use Rattle.std.specs.Prelude.{◌≡◌, ◌∷◌, [], IfOk, IfErr, IsOk};
 ghost use Rattle.tokens.specs.Fronts.{tokens_in};
-ghost use Rattle.cmd_text.specs.Forms.{Refuses, form_of, word_of};
+ghost use Rattle.cmd_text.specs.Forms.{Refuses, nothing, form_of, word_of};
 ghost use Rattle.cmd_text.specs.Grammar.{SpellsCommand, keyword};
 ghost use Rattle.cmd_text.specs.Readers.{rest_of};
 ghost use Rattle.cmd_text.specs.declared.verb.Verb.TheVariants as verbs;
@@ -14,6 +14,7 @@ use crate::{CmdError, Command};
 pub(crate) fn read_arguments(verb: Verb, reader: &mut Reader<'_>) -> Result<Command, CmdError>
     ensures reads { IfOk result (λ command. SpellsCommand (keyword (word_of verb) ∷ tokens_in (rest_of reader.old).pieces) command) }
     ensures refused { IfErr result (λ error. Refuses (form_of verb) (rest_of reader.old) error) }
+    ensures in_place { form_of verb ≡ nothing → tokens_in (rest_of reader.old).pieces ≡ [] → IsOk result }
 {
     match verb {
         Verb::Drop => read_drop(reader),
@@ -40,6 +41,7 @@ fn read_drop(reader: &mut Reader<'_>) -> Result<Command, CmdError>
 fn read_struct(reader: &mut Reader<'_>) -> Result<Command, CmdError>
     ensures reads { IfOk result (λ command. SpellsCommand (keyword (word_of verbs.Struct) ∷ tokens_in (rest_of reader.old).pieces) command) }
     ensures refused { IfErr result (λ error. Refuses (form_of verbs.Struct) (rest_of reader.old) error) }
+    ensures in_place { tokens_in (rest_of reader.old).pieces ≡ [] → IsOk result }
 {
     reader.over()?;
     Ok(Command::Struct)
@@ -109,6 +111,7 @@ fn read_show(reader: &mut Reader<'_>) -> Result<Command, CmdError>
 fn read_quit(reader: &mut Reader<'_>) -> Result<Command, CmdError>
     ensures reads { IfOk result (λ command. SpellsCommand (keyword (word_of verbs.Quit) ∷ tokens_in (rest_of reader.old).pieces) command) }
     ensures refused { IfErr result (λ error. Refuses (form_of verbs.Quit) (rest_of reader.old) error) }
+    ensures in_place { tokens_in (rest_of reader.old).pieces ≡ [] → IsOk result }
 {
     reader.over()?;
     Ok(Command::Quit)

@@ -1,5 +1,5 @@
 //! Reading the parts of a command from the pieces of its line.
-ghost use Rattle.std.specs.Prelude.{◌≡◌, ◌↔◌, ◌<◌, ◌^◌, ◌∷◌, [], ℕ, drop, IfOk, IfErr, OnOk, IfSome, IsNone};
+ghost use Rattle.std.specs.Prelude.{◌≡◌, ◌↔◌, ◌<◌, ◌^◌, ◌∷◌, [], ℕ, drop, IfOk, IfErr, IsOk, OnOk, IfSome, IsNone};
 ghost use Rattle.mk_value.specs.LiteralValues.{literal_of};
 ghost use Rattle.mk_value.specs.Literals.{tokens_of};
 ghost use Rattle.mk_value.specs.Names.{IsName};
@@ -109,6 +109,7 @@ impl<'a> Reader<'a> {
     pub(crate) fn over(&self) -> Result<(), CmdError>
         ensures over { OnOk result (tokens_in (rest_of self.now).pieces ≡ []) }
         ensures refused { IfErr result (λ error. Refuses nothing (rest_of self.now) error) }
+        ensures in_place { tokens_in (rest_of self.now).pieces ≡ [] → IsOk result }
     {
         match self.rest.split_first() {
             Some((first, _)) => Err(CmdError::Syntax(first.place)),

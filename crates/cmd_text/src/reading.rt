@@ -1,15 +1,17 @@
 //! Reading command lines.
-ghost use Rattle.std.specs.Prelude.{◌≡◌, ◌⊎◌, ◌≤◌, ◌+◌, ◌-◌, ◌<◌, ◌^◌, ◌∷◌, ◌↔◌, ◌++◌, [], ℕ, List, true, false, length, codes, IsTrue, IfOk, IfErr, IfSome, IsNone};
+ghost use Rattle.std.specs.Prelude.{◌≡◌, ◌⊎◌, ◌≤◌, ◌+◌, ◌-◌, ◌<◌, ◌^◌, ◌∷◌, ◌↔◌, ◌++◌, [], ℕ, List, true, false, length, codes, IsTrue, IfOk, IfErr, IsOk, IfSome, IsNone};
 ghost use Rattle.std.specs.Str.{IsUtf8, bytes_eq};
 ghost use Rattle.mk_value.specs.Names.{is_name_byte as name_byte};
 ghost use Rattle.struct_text.specs.Offences.{place_of};
-ghost use Rattle.tokens.specs.Cutting.{Piece as CutPiece, Cuts, begins_with};
+ghost use Rattle.tokens.specs.Cutting.{begins_with};
 ghost use Rattle.tokens.specs.Fronts.{IsFirstOffence, tokens_in};
 ghost use Rattle.tokens.specs.Meanings.{pieces_of, token_of};
 ghost use Rattle.cmd_text.specs.Forms.{RefusesCommand, word_of};
 ghost use Rattle.cmd_text.specs.Grammar.{CommandTokens, SpellsCommand, keyword};
 ghost use Rattle.cmd_text.specs.Lines.{IsRefusedAs, Reads, ReadsStructure, RefusesStructure, error_of, gives_structure, is_space, without_leading, without_trailing};
+ghost use Rattle.cmd_text.specs.OneWord.{IsOneWord, ReadsPieces};
 ghost use Rattle.cmd_text.specs.Structures.{IsBehindGetas};
+ghost use Rattle.cmd_text.specs.declared.command.Command.{Command as TheCommand};
 ghost use Rattle.cmd_text.specs.declared.error.CmdError.TheVariants.{Memory as want_of_memory, Syntax};
 ghost use Rattle.cmd_text.specs.declared.verb.Verb.{Verb as TheVerb};
 
@@ -35,6 +37,7 @@ const GETAS: &str = "getas";
 pub fn read_command(alloc: Global, line: &[u8]) -> Result<Command, CmdError>
     ensures reads { IfOk result (λ command. Reads line.now command) }
     ensures refused { IfErr result (λ error. (error ≡ want_of_memory) ⊎ IsRefusedAs line.now error) }
+    ensures in_place { (command : TheCommand) → IsOneWord command → Reads line.now command → IsOk result }
 {
     match str::from_utf8(line) {
         Ok(text) => read_text(alloc, text),
@@ -46,6 +49,7 @@ pub fn read_command(alloc: Global, line: &[u8]) -> Result<Command, CmdError>
 fn read_text(alloc: Global, line: &str) -> Result<Command, CmdError>
     ensures reads { IfOk result (λ command. Reads line.now command) }
     ensures refused { IfErr result (λ error. (error ≡ want_of_memory) ⊎ IsRefusedAs line.now error) }
+    ensures in_place { (command : TheCommand) → IsOneWord command → Reads line.now command → IsOk result }
 {
     let rest = without_leading_spaces(line);
     match behind_getas(rest) {
@@ -135,8 +139,9 @@ fn of_structure(start: usize, error: StructError) -> CmdError
 
 /// Reads a line by its tokens.
 fn read_tokens(alloc: Global, line: &str) -> Result<Command, CmdError>
-    ensures reads { IfOk result (λ command. (pieces : List CutPiece) × (Cuts line.now pieces × SpellsCommand (tokens_in pieces) command)) }
+    ensures reads { IfOk result (ReadsPieces line.now) }
     ensures refused { IfErr result (λ error. (error ≡ want_of_memory) ⊎ ((place : ℕ) × (IsFirstOffence CommandTokens line.now place × (error ≡ Syntax place)))) }
+    ensures in_place { (command : TheCommand) → IsOneWord command → ReadsPieces line.now command → IsOk result }
 {
     let pieces = cut(alloc, line)?;
     read_pieces(alloc, pieces.as_slice(), line.len())
@@ -146,6 +151,7 @@ fn read_tokens(alloc: Global, line: &str) -> Result<Command, CmdError>
 fn read_pieces(alloc: Global, pieces: &[Piece], end: usize) -> Result<Command, CmdError>
     ensures reads { IfOk result (SpellsCommand (tokens_in (pieces_of pieces.now))) }
     ensures refused { IfErr result (RefusesCommand (record { pieces = pieces_of pieces.now; end = end })) }
+    ensures in_place { (command : TheCommand) → IsOneWord command → SpellsCommand (tokens_in (pieces_of pieces.now)) command → IsOk result }
 {
     let Some((first, rest)) = pieces.split_first() else {
         return Ok(Command::Nothing);

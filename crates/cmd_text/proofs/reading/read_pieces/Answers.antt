@@ -4,6 +4,7 @@ use Rattle.tokens.specs.Meanings.{piece_of, pieces_of}
 use Rattle.cmd_text.specs.Forms.{RefusesCommand}
 use Rattle.cmd_text.specs.declared.error.CmdError.TheVariants.{Syntax}
 use Rattle.cmd_text.proofs.Commands.{refuses_command, refuses_first}
+use Rattle.cmd_text.proofs.Words.{is_a_verb, is_alone, is_bare}
 use Rattle.cmd_text.proofs.reading.read_pieces.Goals as goal
 
 pub returns-in_err-verb-clause-refused : goal.returns-in_err-verb-clause-refused
@@ -19,3 +20,13 @@ returns-clause-refused c =
     MatchResult-weaker c.read_arguments.result c.read_arguments.ensures.refused (λ x h. h)
     (λ error refused. subst (λ all. RefusesCommand (record { pieces = all; end = c.args.end }) error) (ap pieces_of (sym c.in-Some.ensures.cases.0))
     (refuses_command _ (piece_of c.in-Some.first.now) (pieces_of c.in-Some.rest.now) c.args.end error c.in_ok-verb.ensures.known refused))
+
+pub returns-in_err-verb-clause-in_place : goal.returns-in_err-verb-clause-in_place
+returns-in_err-verb-clause-in_place c =
+    λ command one spells. absurd (is_a_verb _ _ _ command c.in-Some.ensures.cases.0 c.in_err-verb.ensures.unknown.1 one spells)
+
+pub returns-clause-in_place : goal.returns-clause-in_place
+returns-clause-in_place c =
+    λ command one spells. c.read_arguments.ensures.in_place
+    (is_bare _ _ _ command _ c.in-Some.ensures.cases.0 c.in_ok-verb.ensures.known one spells)
+    (is_alone _ _ _ command c.in-Some.ensures.cases.0 one spells)

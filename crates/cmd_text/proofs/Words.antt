@@ -1,0 +1,110 @@
+-- Lines of one word at most: what their pieces are.
+use Rattle.std.proofs.Common.{◌≡◌, ◌⊎◌, inl, inr, ℕ, ◌≤◌, true, false, List, [], ◌∷◌, length, refl, sym, ap, subst, ◌∙◌, All, true≢false, arith}
+use Rattle.std.proofs.lemmas.List.Elements.{All-nil, All-cons}
+use Rattle.mk_value.specs.Tokens.{Token, word}
+use Rattle.tokens.specs.Cutting.{Cuts, IsInPlace, inline_pieces}
+use Rattle.tokens.specs.Cutting as cutting
+use Rattle.tokens.specs.Fronts.{tokens_in}
+use Rattle.tokens.specs.Meanings.{pieces_of, token_of}
+use Rattle.tokens.specs.declared.token.Piece.{Piece}
+use Rattle.tokens.proofs.Chains.{cut_once}
+use Rattle.cmd_text.specs.Forms.{form_of, nothing, word_of}
+use Rattle.cmd_text.specs.Grammar.{SpellsCommand, keyword}
+use Rattle.cmd_text.specs.Lines.{Reads, ReadsStructure, ReadsTokens, gives_structure}
+use Rattle.cmd_text.specs.OneWord.{IsOneWord, ReadsPieces}
+use Rattle.cmd_text.specs.declared.command.Command.{Command}
+use Rattle.cmd_text.specs.declared.command.Command.TheVariants as commands
+use Rattle.cmd_text.specs.declared.verb.Verb.{Verb}
+use Rattle.cmd_text.specs.declared.verb.Verb.TheVariants as verbs
+use Rattle.cmd_text.proofs.Commands.{one_verb}
+
+-- the tokens are the one word of a command
+record IsWord (tokens : List Token) : Type 0 where
+  pub verb : Verb
+  pub bare : form_of verb ≡ nothing
+  pub is : tokens ≡ keyword (word_of verb) ∷ []
+
+one_word : (command : Command) (tokens : List Token) → IsOneWord command → SpellsCommand tokens command → (tokens ≡ []) ⊎ IsWord tokens
+one_word commands.Nothing tokens one spells = inl spells.is
+one_word commands.Struct tokens one spells = inr (record { verb = verbs.Struct; bare = refl; is = spells.is })
+one_word commands.Quit tokens one spells = inr (record { verb = verbs.Quit; bare = refl; is = spells.is })
+one_word (commands.Getas name schema) tokens one spells = absurd one
+one_word (commands.Drop name) tokens one spells = absurd one
+one_word (commands.Add path values) tokens one spells = absurd one
+one_word (commands.Insert path place copies values) tokens one spells = absurd one
+one_word (commands.Set path row prop value) tokens one spells = absurd one
+one_word (commands.Remove path place rows) tokens one spells = absurd one
+one_word (commands.Size path) tokens one spells = absurd one
+one_word (commands.Show path) tokens one spells = absurd one
+
+no_first : (t : Token) (tokens : List Token) → t ∷ tokens ≡ [] → ⊥
+no_first t tokens e = cc
+
+first_of : (t u : Token) (x y : List Token) → t ∷ x ≡ u ∷ y → t ≡ u
+first_of t u x y e = cc
+
+rest_of_it : (t u : Token) (x y : List Token) → t ∷ x ≡ u ∷ y → x ≡ y
+rest_of_it t u x y e = cc
+
+same_word : (a b : List ℕ) → word a ≡ word b → a ≡ b
+same_word a b e = cc
+
+-- of such a line the first piece is the word, and nothing stands behind it
+word_first : (first : Piece) (rest : List Piece) (command : Command) → IsOneWord command → SpellsCommand (tokens_in (pieces_of (first ∷ rest))) command → IsWord (tokens_in (pieces_of (first ∷ rest)))
+word_first first rest command one spells = elim (one_word command (tokens_in (pieces_of (first ∷ rest))) one spells) [
+  | inl none ↦ absurd (no_first (token_of first.token) (tokens_in (pieces_of rest)) none)
+  | inr some ↦ some
+]
+
+pub is_a_verb : (all : List Piece) (first : Piece) (rest : List Piece) (command : Command) → all ≡ first ∷ rest → ((verb : Verb) → token_of first.token ≡ keyword (word_of verb) → ⊥)
+    → IsOneWord command → SpellsCommand (tokens_in (pieces_of all)) command → ⊥
+is_a_verb all first rest command e other one spells =
+    let found = word_first first rest command one (subst (λ ps. SpellsCommand (tokens_in (pieces_of ps)) command) e spells) in
+    other found.verb (first_of (token_of first.token) (keyword (word_of found.verb)) (tokens_in (pieces_of rest)) [] found.is)
+
+pub is_bare : (all : List Piece) (first : Piece) (rest : List Piece) (command : Command) (verb : Verb) → all ≡ first ∷ rest → token_of first.token ≡ keyword (word_of verb)
+    → IsOneWord command → SpellsCommand (tokens_in (pieces_of all)) command → form_of verb ≡ nothing
+is_bare all first rest command verb e is one spells =
+    let found = word_first first rest command one (subst (λ ps. SpellsCommand (tokens_in (pieces_of ps)) command) e spells) in
+    let same = sym is ∙ first_of (token_of first.token) (keyword (word_of found.verb)) (tokens_in (pieces_of rest)) [] found.is in
+    ap form_of (one_verb verb found.verb (same_word (word_of verb) (word_of found.verb) same)) ∙ found.bare
+
+pub is_alone : (all : List Piece) (first : Piece) (rest : List Piece) (command : Command) → all ≡ first ∷ rest
+    → IsOneWord command → SpellsCommand (tokens_in (pieces_of all)) command → tokens_in (pieces_of rest) ≡ []
+is_alone all first rest command e one spells =
+    let found = word_first first rest command one (subst (λ ps. SpellsCommand (tokens_in (pieces_of ps)) command) e spells) in
+    rest_of_it (token_of first.token) (keyword (word_of found.verb)) (tokens_in (pieces_of rest)) [] found.is
+
+-- such a line is cut in place
+few_pieces : (pieces : List cutting.Piece) → (tokens_in pieces ≡ []) ⊎ IsWord (tokens_in pieces) → (length pieces ≤ inline_pieces) × All (λ p. IsInPlace p.token) pieces
+few_pieces [] h = (omega arith, All-nil (λ p. IsInPlace p.token))
+few_pieces (p ∷ []) (inl none) = absurd (no_first p.token [] none)
+few_pieces (p ∷ []) (inr some) =
+    (omega arith, All-cons (λ q. IsInPlace q.token) p [] (subst IsInPlace (sym (first_of p.token (keyword (word_of some.verb)) [] [] some.is)) tt) (All-nil (λ q. IsInPlace q.token)))
+few_pieces (p ∷ q ∷ pieces) (inl none) = absurd (no_first p.token (tokens_in (q ∷ pieces)) none)
+few_pieces (p ∷ q ∷ pieces) (inr some) =
+    absurd (no_first q.token (tokens_in pieces) (rest_of_it p.token (keyword (word_of some.verb)) (tokens_in (q ∷ pieces)) [] some.is))
+
+pub cut_in_place : (line : List ℕ) (command : Command) → IsOneWord command → ReadsPieces line command
+    → (pieces : List cutting.Piece) × (Cuts line pieces × ((length pieces ≤ inline_pieces) × All (λ p. IsInPlace p.token) pieces))
+cut_in_place line command one (pieces, (cuts, spells)) = (pieces, (cuts, few_pieces pieces (one_word command (tokens_in pieces) one spells)))
+
+pub spells_cut : (line : List ℕ) (command : Command) (pieces all : List cutting.Piece) → all ≡ pieces → Cuts line pieces → ReadsPieces line command → SpellsCommand (tokens_in all) command
+spells_cut line command pieces all same cuts (read, (others, spells)) =
+    subst (λ ps. SpellsCommand (tokens_in ps) command) (cut_once 0 line read pieces others cuts ∙ sym same) spells
+
+-- it gives no structure
+no_structure : (line : List ℕ) (command : Command) → IsOneWord command → ReadsStructure line command → ⊥
+no_structure line command one reads = subst IsOneWord reads.spells.1.1.0 one
+
+pub one_word_other : (line : List ℕ) (command : Command) → IsOneWord command → Reads line command → gives_structure line ≡ true → ⊥
+one_word_other line command one reads gives = elim reads.reads [
+  | inl structure ↦ no_structure line command one structure
+  | inr pieces ↦ true≢false (sym gives ∙ pieces.other)
+]
+
+pub one_word_pieces : (line : List ℕ) (command : Command) → IsOneWord command → Reads line command → ReadsPieces line command
+one_word_pieces line command one reads = elim reads.reads [
+  | inl structure ↦ absurd (no_structure line command one structure)
+  | inr pieces ↦ (pieces.pieces, (pieces.cuts, pieces.spells))
+]
