@@ -4,7 +4,9 @@ pub mod Chains
 pub mod Findings
 pub mod Levels
 pub mod Listing
+pub mod Offending
 pub mod Quotes
+pub mod ReadBack
 pub mod Routes
 pub mod Runs
 pub mod Stopping

@@ -17,11 +17,13 @@ mod pieces;
 mod quoted;
 mod run;
 mod standing;
+#[cfg(test)]
+mod tests;
 mod token;
 
 pub use cutting::cut;
 pub use error::{CutError, PartError, ReadError};
-pub use laws::one_cutting;
+pub use laws::{one_cutting, one_reading, printed_reads_back};
 pub use literal::{literal_at, read_literal};
 pub use path::path_at;
 pub use pieces::Pieces;
