@@ -2,6 +2,7 @@ pub mod Beginnings
 pub mod Braces
 pub mod Chains
 pub mod Findings
+pub mod Languages
 pub mod Levels
 pub mod Listing
 pub mod Offending

@@ -38,7 +38,7 @@ is_a_name = record {
 }
 
 -- the step that one may always go on with
-one_step : (row : ℕ) (prop : List ℕ) → row < 2 ^ 63 → IsName prop → StepTokens (sign slash ∷ number (pos row) ∷ sign slash ∷ word prop ∷ [])
+pub one_step : (row : ℕ) (prop : List ℕ) → row < 2 ^ 63 → IsName prop → StepTokens (sign slash ∷ number (pos row) ∷ sign slash ∷ word prop ∷ [])
 one_step row prop r p = (step row prop ∷ [], All-cons IsStep (step row prop) [] (r, p) (All-nil IsStep), refl)
   where
     step : ℕ → List ℕ → Step
@@ -143,7 +143,7 @@ module _ (tokens : List Token) (at : ℕ) (opens : Stands tokens at (sign slash)
           }
 
 -- paths
-path_then : (route : Route) → IsPath route → (x : List Token) → StepTokens x → PathTokens (path_tokens route ++ x)
+pub path_then : (route : Route) → IsPath route → (x : List Token) → StepTokens x → PathTokens (path_tokens route ++ x)
 path_then route whole x steps = (
   record { name = route.name; steps = route.steps ++ steps.0 },
   record {
@@ -152,7 +152,7 @@ path_then route whole x steps = (
   },
 )
 
-path_behind : (route : Route) → (x : List Token) → PathTokens (path_tokens route ++ x) → StepTokens x
+pub path_behind : (route : Route) → (x : List Token) → PathTokens (path_tokens route ++ x) → StepTokens x
 path_behind route x whole =
     let other = whole.0 in
     let e : word route.name ∷ (flat_map step_tokens route.steps ++ x) ≡ word other.name ∷ flat_map step_tokens other.steps = whole.1.is in
