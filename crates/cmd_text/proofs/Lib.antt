@@ -1,8 +1,11 @@
 pub mod Behind
 pub mod Commands
+pub mod Cuts
 pub mod Decoding
 pub mod Lines
+pub mod Offences
 pub mod Parts
+pub mod Proper
 pub mod Spaces
 pub mod Structures
 pub mod Taking

@@ -10,6 +10,7 @@ use Rattle.tokens.specs.Fronts.{IsFront}
 use Rattle.tokens.specs.Paths.{step_tokens, path_tokens, slash}
 use Rattle.cmd_text.specs.Grammar.{count, literals_tokens}
 use Rattle.cmd_text.specs.Forms.{Part, name, number, path, literal, Form, nothing, values, next, IsPart, IsOfForm}
+use Rattle.cmd_text.proofs.Cuts.{CutsBehind, two_cuts}
 use Rattle.cmd_text.proofs.Decoding.{literal_begins, begins_otherwise, literal_begins_with, behind_literal, behind_steps}
 
 -- the first of the tokens is one of those
@@ -91,23 +92,6 @@ part_longer path tokens more (a, is) (b, longer) =
     elim (behind_steps a.steps b.steps more tail) [ inl none ↦ inl none | inr some ↦ inr (subst (BeginsWith (λ t. t ≡ sign slash)) (sym some.1) refl) ]
 part_longer literal tokens more (a, is) (b, longer) =
     inl (behind_literal a b more [] (sym (ap (λ x. x ++ more) is.is) ∙ longer.is ∙ sym (append-nil (tokens_of b))))
-
--- two ways to cut one list in two: the second cut is in the second half of the first, or the first in the second half of the second
-pub record CutsBehind (a b c d : List Token) : Type 0 where
-  pub between : List Token
-  pub first : c ≡ a ++ between
-  pub second : b ≡ between ++ d
-
-pub two_cuts : (a b c d : List Token) → a ++ b ≡ c ++ d → CutsBehind a b c d ⊎ CutsBehind c d a b
-two_cuts [] b c d e = inl (record { between = c; first = refl; second = e })
-two_cuts (x ∷ a) b [] d e = inr (record { between = x ∷ a; first = refl; second = sym e })
-two_cuts (x ∷ a) b (y ∷ c) d e =
-    let same : x ≡ y = cc in
-    let tail : a ++ b ≡ c ++ d = cc in
-    elim (two_cuts a b c d tail) [
-      | inl h ↦ inl (record { between = h.between; first = ap (λ t. t ∷ c) (sym same) ∙ ap (λ rest. x ∷ rest) h.first; second = h.second })
-      | inr h ↦ inr (record { between = h.between; first = ap (λ t. t ∷ a) same ∙ ap (λ rest. y ∷ rest) h.first; second = h.second })
-    ]
 
 nothing_more : (a b : List Token) → a ++ b ≡ [] → a ≡ []
 nothing_more [] b e = refl

@@ -1,6 +1,7 @@
 pub mod Cutting
 pub mod Forms
 pub mod Grammar
+pub mod Laws
 pub mod Lines
 pub mod OneWord
 pub mod Readers

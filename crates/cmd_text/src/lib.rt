@@ -9,6 +9,7 @@
 mod arguments;
 mod command;
 mod error;
+mod laws;
 mod reader;
 mod reading;
 mod refusal;
@@ -17,6 +18,7 @@ mod verb;
 
 pub use command::Command;
 pub use error::CmdError;
+pub use laws::{literals_are_proper, one_offence, structure_is_short};
 pub use reading::read_command;
 pub use refusal::Refusal;
 pub use reply::{Reply, Space, reply_text};
