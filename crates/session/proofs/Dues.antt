@@ -9,7 +9,7 @@ use Rattle.mk_value.specs.Limits.{max_rows}
 use Rattle.mk_value.specs.Paths.{Route}
 use Rattle.mk_value.specs.Tables.{domain_at}
 use Rattle.cmd_text.specs.declared.refusal.Refusal.{Refusal}
-use Rattle.cmd_text.specs.declared.refusal.Refusal.TheVariants.{NoProp}
+use Rattle.cmd_text.specs.declared.refusal.Refusal.TheVariants.{NoProp, Range}
 use Rattle.std.specs.Result.{result_unwrap_or}
 use Rattle.view_store.specs.declared.error.EditError.TheVariants as edits
 use Rattle.view_store.specs.declared.error.EditError.{EditError}
@@ -21,7 +21,8 @@ use Rattle.view_store.specs.Refusals.{at_view, due, due_in, kind_refusal, look_d
 use Rattle.view_store.specs.Tables.{Placed, inner_schema, inner_table, place_of}
 use Rattle.view_store.specs.Views.{NamedTable, table_of, view_at}
 use Rattle.view_store.proofs.Fitting.{is_of_tells}
-use Rattle.session.specs.Refusals.{by_rows, by_schema, literal_refusal, refusal_of_edit}
+use Rattle.session.specs.Refusals.{by_rows, by_schema, literal_refusal, refusal_of_edit, row_refusal, rows_refusal}
+use Rattle.session.proofs.Fitted.{unless_none}
 use Rattle.session.specs.Values.{domain_named, rows_named, schema_named, size_named, values_for}
 
 some_none : {X : Type 0} (x : X) → Some x ≡ None → ⊥
@@ -129,3 +130,10 @@ set-none root route row size prop d literal rows is within fit whole =
     sym (ap (λ s. by_schema s (λ schema. literal_refusal literal schema (find schema prop))) named) ∙ fit in
     due-none root route (Edit.set row prop d) rows (value_fits schema (find schema prop) d literal asked whole)
     (ap (λ n. range_refusal n (Edit.set row prop d)) (sym is) ∙ ap (λ b. cond b None (Some (OutOfRange size))) (below row size within))
+
+-- what the tests of rows and places let through
+pub rows_within : (size place rows : ℕ) → rows_refusal size place rows ≡ None → place + rows ≤ size
+rows_within size place rows e = let t = unless_none (leb (place + rows) size) (Range size) e in grind (arith, nat_tests)
+
+pub row_within : (size row : ℕ) → row_refusal size row ≡ None → row < size
+row_within size row e = let t = unless_none (ltb row size) (Range size) e in grind (arith, nat_tests)

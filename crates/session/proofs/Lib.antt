@@ -3,4 +3,6 @@ pub mod Fitted
 pub mod Lengths
 pub mod Readings
 pub mod Ready
+pub mod Stepped
+pub mod Structured
 pub mod Walked

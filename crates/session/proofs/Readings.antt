@@ -25,21 +25,22 @@ use Rattle.cmd_text.specs.declared.command.Command.TheVariants as commands
 use Rattle.cmd_text.proofs.Spaces.{without_leading-no_longer, without_trailing-no_longer}
 use Rattle.lines.specs.Lines.{max_line}
 use Rattle.struct_text.specs.Spelling.{spelling}
+use Rattle.struct_text.proofs.Moves.{run-yes}
 use Rattle.session.specs.Lines.{IsOfLine, is_blank, is_quit}
 use Rattle.session.proofs.Fitted.{both_true}
 use Rattle.session.proofs.Lengths.{spelling_some}
 
 -- bytes that are all spaces
 abbrev Blank : List ℕ → Type 0
-Blank bytes = list_all is_space bytes ≡ true
+Blank bs = list_all is_space bs ≡ true
 
-blank_all : (bytes : List ℕ) → Blank bytes → All (λ b. b ≡ space) bytes
-blank_all bytes h = λ k d p. eqb-true (get_or bytes k d) space (AllPass-from_list_all is_space bytes h k d p)
+blank_all : (bs : List ℕ) → Blank bs → All (λ b. b ≡ space) bs
+blank_all bs h = λ k d p. eqb-true (get_or bs k d) space (AllPass-from_list_all is_space bs h k d p)
 
-all_blank : (bytes : List ℕ) → All (λ b. b ≡ space) bytes → Blank bytes
-all_blank bytes h = list_all-from_AllPass is_space bytes (λ k d p. ap is_space (h k d p))
+all_blank : (bs : List ℕ) → All (λ b. b ≡ space) bs → Blank bs
+all_blank bs h = list_all-from_AllPass is_space bs (λ k d p. ap is_space (h k d p))
 
-blank_reverse : (bytes : List ℕ) → Blank bytes → Blank (reverse bytes)
+blank_reverse : (bs : List ℕ) → Blank bs → Blank (reverse bs)
 blank_reverse [] h = refl
 blank_reverse (b ∷ rest) h =
     let both = both_true (is_space b) (list_all is_space rest) h in
@@ -55,17 +56,17 @@ leading_gap (b ∷ gap) rest h =
     let both = both_true (is_space b) (list_all is_space gap) h in
     ap (λ t. cond t (without_leading (gap ++ rest)) (b ∷ (gap ++ rest))) both.0 ∙ leading_gap gap rest both.1
 
-trailing_gap : (bytes gap : List ℕ) → Blank gap → without_trailing (bytes ++ gap) ≡ without_trailing bytes
-trailing_gap bytes gap h =
-    ap (λ xs. reverse (without_leading xs)) (reverse-append bytes gap) ∙ ap reverse (leading_gap (reverse gap) (reverse bytes) (blank_reverse gap h))
+trailing_gap : (bs gap : List ℕ) → Blank gap → without_trailing (bs ++ gap) ≡ without_trailing bs
+trailing_gap bs gap h =
+    ap (λ xs. reverse (without_leading xs)) (reverse-append bs gap) ∙ ap reverse (leading_gap (reverse gap) (reverse bs) (blank_reverse gap h))
 
 -- bytes are what they are without the spaces in front, or behind, and those
-record Front (bytes : List ℕ) : Type 0 where
+record Front (bs : List ℕ) : Type 0 where
   gap : List ℕ
   blank : Blank gap
-  whole : bytes ≡ gap ++ without_leading bytes
+  whole : bs ≡ gap ++ without_leading bs
 
-front : (bytes : List ℕ) → Front bytes
+front : (bs : List ℕ) → Front bs
 front [] = record { gap = []; blank = refl; whole = refl }
 front (b ∷ rest) =
     elim (is_space b) as (λ t. is_space b ≡ t → Front (b ∷ rest)) [
@@ -77,17 +78,17 @@ front (b ∷ rest) =
       | false ↦ λ e. record { gap = []; blank = refl; whole = ap (λ t. cond t (without_leading rest) (b ∷ rest)) (sym e) }
     ] refl
 
-record Back (bytes : List ℕ) : Type 0 where
+record Back (bs : List ℕ) : Type 0 where
   gap : List ℕ
   blank : Blank gap
-  whole : bytes ≡ without_trailing bytes ++ gap
+  whole : bs ≡ without_trailing bs ++ gap
 
-back : (bytes : List ℕ) → Back bytes
-back bytes =
-    let f = front (reverse bytes) in record {
+back : (bs : List ℕ) → Back bs
+back bs =
+    let f = front (reverse bs) in record {
       gap = reverse f.gap;
       blank = blank_reverse f.gap f.blank;
-      whole = sym (reverse-reverse bytes) ∙ ap reverse f.whole ∙ reverse-append f.gap (without_leading (reverse bytes));
+      whole = sym (reverse-reverse bs) ∙ ap reverse f.whole ∙ reverse-append f.gap (without_leading (reverse bs));
     }
 
 abbrev quit : List ℕ
@@ -101,7 +102,7 @@ no_name_first [] h = refl
 no_name_first (b ∷ rest) h = ap is_name_byte (eqb-true b space (both_true (is_space b) (list_all is_space rest) h).0)
 
 -- a line of spaces asks for nothing
-blank_ascii : (bytes : List ℕ) → Blank bytes → (i : ℕ) → get_or bytes i 0 < 128
+blank_ascii : (bs : List ℕ) → Blank bs → (i : ℕ) → get_or bs i 0 < 128
 blank_ascii [] h i = omega arith
 blank_ascii (b ∷ rest) h zero = let e = eqb-true b space (both_true (is_space b) (list_all is_space rest) h).0 in omega (arith, e)
 blank_ascii (b ∷ rest) h (suc i) = blank_ascii rest (both_true (is_space b) (list_all is_space rest) h).1 i
@@ -125,7 +126,7 @@ no_pieces line [] cuts e = all_blank line cuts
 no_pieces line (p ∷ pieces) cuts e = absurd (let f : ◌≡◌ {A = List Token} (p.token ∷ tokens_in pieces) [] = e in cc)
 
 no_structure : {X : Type 0} (line : List ℕ) (command : Command) → ReadsStructure line command → ((name : List ℕ) (schema : _) → command ≡ commands.Getas name schema → ⊥) → X
-no_structure line command h other = absurd (other h.spells.0 h.spells.1 h.spells.2.0)
+no_structure line command h other = absurd (other h.spells.0 h.spells.1.0 h.spells.1.1.0)
 
 pub reads_blank : (line : List ℕ) → Reads line commands.Nothing → is_blank line ≡ true
 reads_blank line h = elim h.reads [
@@ -148,7 +149,8 @@ quit_reads line h =
     let piece : Piece = record { place = length f.gap; token = word quit } in record {
       utf8 = IsUtf8-from_is_utf8 line p.0;
       reads = inr (record {
-        other = ap (λ w. bytes_eq (take_while is_name_byte w) (codes "getas")) inside;
+        other = ap (λ w. bytes_eq (take_while is_name_byte w) (codes "getas")) inside
+            ∙ ap (λ w. bytes_eq w (codes "getas")) (run-yes 113 (117 ∷ 105 ∷ 116 ∷ b.gap) refl);
         pieces = piece ∷ [];
         cuts = (
           b.gap,
@@ -238,6 +240,6 @@ structure_short line name schema gives is short =
 
 pub of_line : (line : List ℕ) (command : Command) → Reads line command → length line ≤ max_line → IsOfLine command
 of_line line command h short = elim h.reads [
-  | inl s ↦ subst IsOfLine (sym s.spells.2.0) (structure_short line s.spells.0 s.spells.1 s.gives s.spells.2.1.is short)
+  | inl s ↦ subst IsOfLine (sym s.spells.1.1.0) (structure_short line s.spells.0 s.spells.1.0 s.gives s.spells.1.1.1.is short)
   | inr t ↦ of_tokens command t.spells.whole
 ]

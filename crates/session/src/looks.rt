@@ -44,7 +44,10 @@ impl Session {
         ensures texts { IfOk result (λ texts. contents texts ≡ structures self.now.root) }
     {
         let names = self.root.names().as_slice();
-        structure_texts(self.alloc, names, self.root.tables()).map_err(of_memory)
+        match structure_texts(self.alloc, names, self.root.tables()) {
+            Ok(texts) => Ok(texts),
+            Err(error) => Err(of_memory(error)),
+        }
     }
 }
 

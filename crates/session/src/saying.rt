@@ -19,6 +19,15 @@ pub fn refuse(refusal: Refusal, out: &mut Text)
     let _ = reply_text(&Reply::Refused(refusal), out);
 }
 
+/// Appends the reply to a line that ends the session, which fits.
+pub fn say_quit(out: &mut Text)
+    requires { 8 ≤ out.old.spare }
+    ensures bytes { out.new.bytes ≡ out.old.bytes ++ reply_bytes Reply.Quit }
+    ensures room { KeepsRoom out.old out.new }
+{
+    let _ = reply_text(&Reply::Quit, out);
+}
+
 /// A refusal's reply has at most 60 bytes, since its numbers have 64 bits.
 pub fn is_short_refusal(refusal: Refusal)
     ensures { length (reply_bytes (Reply.Refused refusal)) ≤ MAX_REFUSAL }

@@ -9,7 +9,7 @@ ghost use Rattle.session.specs.World.{new_world};
 
 use crate::refusals::of_reading;
 use crate::replies;
-use crate::saying::{refuse, say};
+use crate::saying::{refuse, say, say_quit};
 use crate::words::{is_blank, is_quit};
 use cmd_text::{Command, Refusal, Reply, read_command};
 use host_io::Host;
@@ -56,12 +56,12 @@ impl Session {
         ensures ends { (result ≡ Flow.Ends) ↔ (is_quit line.now ≡ true) }
         ensures room { max_line + 1 ≤ out.new.spare + length out.new.bytes }
     {
+        if is_quit(line) {
+            say_quit(out);
+            return Flow::Ends;
+        }
         if is_blank(line) {
             return Flow::Goes;
-        }
-        if is_quit(line) {
-            let _ = say(&Reply::Quit, out);
-            return Flow::Ends;
         }
         self.answer_line(line, out);
         Flow::Goes

@@ -1,7 +1,8 @@
 //! Giving views structures, and dropping views.
-ghost use Rattle.std.specs.Prelude.{◌≡◌, ◌≤◌, [], length, IfOk, None, OnErr, OnOk};
+ghost use Rattle.std.specs.Prelude.{◌≡◌, ◌⊎◌, ◌<◌, ◌≤◌, [], length, IfErr, IfOk, IsSome, None, OnErr, OnOk};
+ghost use Rattle.restructure.specs.Restructuring.{restructured};
 ghost use Rattle.struct_text.specs.Spelling.{spelling};
-ghost use Rattle.view_store.specs.Views.{max_structure, structure_length, table_of, without_view, with_view};
+ghost use Rattle.view_store.specs.Views.{max_structure, max_views, structure_length, table_of, without_view, with_view};
 ghost use Rattle.view_store.specs.Tables.{unplaced_table};
 ghost use Rattle.session.specs.Refusals.{AnswersDue, drop_due, getas_due};
 ghost use Rattle.session.specs.Structures.{structured};
@@ -12,7 +13,8 @@ use crate::refusals::{of_edit, of_memory};
 use cmd_text::Refusal;
 use mk_value::{Name, Schema, TableRead, Text};
 use restructure::restructure;
-use view_store::{MAX_VIEWS, empty_table};
+use std::alloc::Global;
+use view_store::{MAX_VIEWS, Table, empty_table};
 
 impl Session {
     /// Gives the view of a name a structure, and gives its text.
@@ -45,14 +47,16 @@ impl Session {
         ensures ok { OnOk result (self.new.root ≡ structured self.old.root name.now schema.now) }
         ensures err { OnErr result (self.new ≡ self.old) }
     {
+        let _name = name.as_bytes();
+        let _properties = schema.len();
         let Some(known) = self.root.table(name) else {
             return self.add_view(name, schema);
         };
         if known.schema().is_same(schema) {
             return Ok(());
         }
-        let table = restructure(self.alloc, known, schema).map_err(of_memory)?;
-        self.root.put_view(name, table).map_err(of_memory)
+        let table = restructure_table(self.alloc, known, schema)?;
+        self.put_view(name, table)
     }
 
     /// Adds a view without rows last.
@@ -67,6 +71,17 @@ impl Session {
             return Err(Refusal::Limit);
         }
         let table = empty_table(self.alloc, schema).map_err(of_memory)?;
+        self.put_view(name, table)
+    }
+
+    /// Replaces the view of a name in place, or adds it last.
+    fn put_view(&mut self, name: &Name, table: Table) -> Result<(), Refusal>
+        requires room { IsSome (table_of self.old.root name.now) ⊎ (length self.old.root < max_views) }
+        requires short { structure_length name.now table.schema ≤ max_structure }
+        ensures memory { IfErr result (λ e. e ≡ Refusal.Memory) }
+        ensures ok { OnOk result (self.new.root ≡ with_view self.old.root name.now table) }
+        ensures err { OnErr result (self.new ≡ self.old) }
+    {
         self.root.put_view(name, table).map_err(of_memory)
     }
 
@@ -82,4 +97,12 @@ impl Session {
     {
         self.root.drop_view(name).map_err(of_edit)
     }
+}
+
+/// The table under another schema.
+fn restructure_table(alloc: Global, table: &Table, schema: &Schema) -> Result<Table, Refusal>
+    ensures memory { IfErr result (λ e. e ≡ Refusal.Memory) }
+    ensures ok { IfOk result (λ made. made ≡ restructured table.now schema.now) }
+{
+    restructure(alloc, table, schema).map_err(of_memory)
 }

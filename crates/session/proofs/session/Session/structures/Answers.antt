@@ -1,5 +1,14 @@
+use Rattle.std.proofs.Common.{map, ap, ◌∙◌}
+use Rattle.view_store.specs.Views.{NamedTable, view_names}
+use Rattle.session.specs.Structures.{structure_texts, structures}
+use Rattle.session.specs.World.{World}
 use Rattle.session.proofs.Walked.{structures_of}
 use Rattle.session.proofs.session.Session.structures.Goals as goal
 
-pub returns-clause-texts : goal.returns-clause-texts
-returns-clause-texts c = ?
+pub returns-in-Ok-clause-texts : goal.returns-in-Ok-clause-texts
+returns-in-Ok-clause-texts c =
+    c.in-Ok.ensures
+    ∙ ap (λ names. structure_texts names c.tables.result.now) (c.as_slice-names.ensures ∙ c.names.ensures.names)
+    ∙ ap (λ tables. structure_texts (view_names c.self.inside.root) tables) c.tables.ensures
+    ∙ structures_of c.self.inside.root
+    ∙ ap (λ (w : World). structures w.root) c.self.view_is

@@ -1,0 +1,28 @@
+-- A view under another structure.
+use Rattle.std.proofs.Common.{◌≡◌, ℕ, Bool, true, false, cond, List, Some, refl, ap, ◌∙◌}
+use Rattle.mk_value.specs.Heading.{Attribute, IsHeading}
+use Rattle.mk_value.specs.Names.{IsName, same_bytes}
+use Rattle.restructure.specs.Restructuring.{restructured}
+use Rattle.struct_text.specs.Spelling.{spelling}
+use Rattle.struct_text.proofs.Unique.{one_structure}
+use Rattle.view_store.specs.Tables.{Placed}
+use Rattle.view_store.specs.Views.{NamedTable, table_of, with_view}
+use Rattle.view_store.proofs.Roots.{same_name}
+use Rattle.session.specs.Structures.{structured, with_structure}
+
+-- other structures have other texts
+other_text : (name : List ℕ) (a b : List Attribute) → IsName name → IsHeading a → IsHeading b → (a ≡ b → ⊥) → same_bytes (spelling name a) (spelling name b) ≡ false
+other_text name a b named first second differ =
+    elim (same_bytes (spelling name a) (spelling name b)) as (λ t. same_bytes (spelling name a) (spelling name b) ≡ t → t ≡ false) [
+      | true ↦ λ e. absurd (differ (one_structure (spelling name a) name name a b
+          (record { named = named; whole = first; is = refl })
+          (record { named = named; whole = second; is = same_name (spelling name a) (spelling name b) e })).1)
+      | false ↦ λ e. refl
+    ] refl
+
+-- the view of the name has another structure
+pub structured-other : (root : List NamedTable) (name : List ℕ) (schema : List Attribute) (t : Placed) → table_of root name ≡ Some t → IsName name → IsHeading t.schema → IsHeading schema → (t.schema ≡ schema → ⊥)
+    → structured root name schema ≡ with_view root name (restructured t schema)
+structured-other root name schema t found named first second differ =
+    ap (λ o. with_structure root o name schema) found
+    ∙ ap (λ b. cond b root (with_view root name (restructured t schema))) (other_text name t.schema schema named first second differ)
