@@ -15,7 +15,7 @@ use Rattle.shell.specs.Said.{SaysPart, SaysOnly, greeting_line}
 use Rattle.shell.specs.Statuses.{status_of}
 use Rattle.shell.specs.declared.status.Status.{Status}
 use Rattle.shell.specs.declared.status.Status.TheVariants as status
-use Rattle.shell.specs.Ran.{Answers, GreetsInPart, Ran, IsServed}
+use Rattle.shell.specs.Ran.{Answers, GreetsInPart, Ran, IsServed, ServesAs}
 
 -- the greeting of a new file
 pub greeting_line-zero : greeting_line 0 ≡ codes "ok mkshell 0" ++ newline ∷ []
@@ -84,12 +84,24 @@ answers_of end old greeted new last result empty fine says serves = record {
   serves = serves;
 }
 
--- the status says what the end of the lines says
-pub ran_of : (end : End) (old new : Outside) → Answers end old new → Ran (status_of end) old new
-ran_of Done old new answers = answers
-ran_of TakeFault old new answers = answers
-ran_of SayFault old new answers = inr answers
-ran_of TooMuch old new answers = answers
+-- the status of lines that were served says what their end says
+pub serves_as : (end : End) (budget : ℕ) (world after : World) (old new : Outside) → Serves machine budget end world after old new → ServesAs (status_of end) budget world after old new
+serves_as Done budget world after old new serves = serves
+serves_as TakeFault budget world after old new serves = serves
+serves_as SayFault budget world after old new serves = serves
+serves_as TooMuch budget world after old new serves = serves
+
+pub ran_served : {T E : Type 0} (end : Status) (old greeted new : Outside) (last : World) (result : Result T E)
+    → old.now.disk.seen ≡ [] → is_err result ≡ false → SaysAll (greeting_line 0) old greeted result
+    → ServesAs end max_budget new_world last greeted new → Ran end old new
+ran_served status.Done old greeted new last result empty fine says serves = answers_of Done old greeted new last result empty fine says serves
+ran_served status.TakeFault old greeted new last result empty fine says serves = answers_of TakeFault old greeted new last result empty fine says serves
+ran_served status.TooMuch old greeted new last result empty fine says serves = answers_of TooMuch old greeted new last result empty fine says serves
+ran_served status.SayFault old greeted new last result empty fine says serves = inr (answers_of SayFault old greeted new last result empty fine says serves)
+ran_served status.Usage old greeted new last result empty fine says serves = absurd serves
+ran_served status.Refused old greeted new last result empty fine says serves = absurd serves
+ran_served status.Memory old greeted new last result empty fine says serves = absurd serves
+ran_served status.DiskFault old greeted new last result empty fine says serves = absurd serves
 
 -- a line that was said after a look at the disk
 pub says_only-after : {T E : Type 0} (line : List ℕ) (old looked new : Outside) (result : Result T E)

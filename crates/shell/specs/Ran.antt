@@ -23,6 +23,17 @@ pub record Answers (end : End) (old new : Outside) : Type 0 where
   pub last : World
   pub serves : Serves machine max_budget end new_world last greeted new
 
+-- Lines were served from this world up to the end that the status tells.
+abbrev pub ServesAs : Status → ℕ → World → World → Outside → Outside → Type 0
+ServesAs Done budget world after old new = Serves machine budget all_done world after old new
+ServesAs TakeFault budget world after old new = Serves machine budget take_fault world after old new
+ServesAs SayFault budget world after old new = Serves machine budget say_fault world after old new
+ServesAs TooMuch budget world after old new = Serves machine budget too_much world after old new
+ServesAs Usage budget world after old new = ⊥
+ServesAs Refused budget world after old new = ⊥
+ServesAs Memory budget world after old new = ⊥
+ServesAs DiskFault budget world after old new = ⊥
+
 -- the file was empty, and the output failed within the greeting
 pub record GreetsInPart (old new : Outside) : Type 0 where
   pub empty : old.now.disk.seen ≡ []

@@ -6,10 +6,12 @@
 
 mod rooms;
 mod running;
+mod serving;
 mod status;
 #[cfg(test)]
 mod tests;
 mod words;
 
 pub use running::run;
+pub use serving::serve;
 pub use status::Status;

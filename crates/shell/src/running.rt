@@ -7,10 +7,11 @@ ghost use Rattle.shell.specs.Words.{AreWords, texts_of};
 ghost use Rattle.shell.specs.Ran.{Ran, GoesWell, AttachesEmpty, IsServed};
 
 use crate::rooms::Rooms;
+use crate::serving::serve;
 use crate::status::Status;
 use crate::words::file_name;
 use host_io::{Failed, Host};
-use lines::{MAX_BUDGET, say_all, serve};
+use lines::{MAX_BUDGET, say_all};
 use session::Session;
 use std::alloc::Global;
 
@@ -94,5 +95,4 @@ fn greet_and_serve<H: Host>(alloc: Global, rooms: &mut Rooms, host: &mut H) -> S
         &mut rooms.reply,
         MAX_BUDGET,
     )
-    .into()
 }

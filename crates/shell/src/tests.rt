@@ -1,8 +1,10 @@
-//! Runs over the host in memory: every status but `Memory` and `TooMuch`, which `lines` tests.
+//! Runs over the host in memory: every status but `Memory`.
 
-use crate::{Status, run};
+use crate::rooms::Rooms;
+use crate::{Status, run, serve};
 use host_io::{Effect, Fault, MemHost};
 use mk_value::{Bytes, Memory};
+use session::Session;
 use std::alloc::Global;
 use std::test::Fail;
 
@@ -54,7 +56,7 @@ fn each_status_has_its_words(rt: HostRuntime) -> Result<(), Fail> {
             NEVER,
             0,
             Status::Done,
-            b"ok mkshell 0\nok x[a:I]\nok x[a:L,b:S]\nerr 2 syntax 11\nerr 2 syntax 0\n",
+            b"ok mkshell 0\nok x[a:I]\nok x[a:L,b:S]\nerr 2 syntax 11\nok 0\n",
         ),
         (right, b"", b"", NEVER, 0, Status::Done, b"ok mkshell 0\n"),
         (
@@ -116,12 +118,48 @@ fn each_status_has_its_words(rt: HostRuntime) -> Result<(), Fail> {
 #[test]
 fn says_the_same_however_cut(rt: HostRuntime) -> Result<(), Fail> {
     let input: &[u8] = b"getas a[x:I]\n\n  getas  b[s[t:S]] \nadd a 1\n\xff\nquit";
-    let said: &[u8] =
-        b"ok mkshell 0\nok a[x:I]\nok b[s[t:S]]\nerr 2 syntax 0\nerr 2 syntax 0\nok quit\n";
+    let said: &[u8] = b"ok mkshell 0\nok a[x:I]\nok b[s[t:S]]\nok 0\nerr 2 syntax 0\nok quit\n";
     for most in [1, 2, 3, 7] {
         let (status, spoke) = run_over(rt.alloc(), &["mkshell", "f"], b"", input, NEVER, most)?;
         assert_eq!(rt; status, Status::Done, "in pieces of {most}");
         assert_eq!(rt; spoke.as_slice(), said, "in pieces of {most}");
+    }
+    Ok(())
+}
+
+#[test]
+fn a_budget_is_kept(rt: HostRuntime) -> Result<(), Fail> {
+    let mut host = MemHost::new(rt.alloc(), b"", b"size\nquit\n", &[], 0, ROOM)?;
+    let mut rooms = Rooms::new(rt.alloc())?;
+    let mut session = Session::new(rt.alloc());
+    let status = serve(
+        &mut session,
+        &mut host,
+        &mut rooms.line,
+        &mut rooms.reply,
+        5,
+    );
+    assert_eq!(rt; status, Status::TooMuch);
+    assert_eq!(rt; host.said(), b"err 2 syntax 4\n".as_slice());
+    Ok(())
+}
+
+#[test]
+fn a_line_that_is_too_long_is_skipped(rt: HostRuntime) -> Result<(), Fail> {
+    let mut input = Bytes::new(rt.alloc());
+    input.push_slice(b"getas people[name:S,age:I]\nadd people \"Ann\" 31\n")?;
+    for _ in 0..1_048_577 {
+        input.push(b'a')?;
+    }
+    input.push_slice(b"\nsize people")?;
+    for most in [1, 0] {
+        let words = ["mkshell", "f"];
+        let (status, spoke) = run_over(rt.alloc(), &words, b"", input.as_slice(), NEVER, most)?;
+        assert_eq!(rt; status, Status::Done);
+        assert_eq!(rt;
+            spoke.as_slice(),
+            b"ok mkshell 0\nok people[name:S,age:I]\nok 0\nerr 8 limit\nok 1\n".as_slice()
+        );
     }
     Ok(())
 }

@@ -1,0 +1,39 @@
+ghost use Rattle.std.specs.Prelude.{◌≡◌, ◌≤◌};
+ghost use Rattle.host_io.specs.Calls.{Rose};
+ghost use Rattle.lines.specs.Crash.{IsReady};
+ghost use Rattle.lines.specs.Lines.{max_budget};
+ghost use Rattle.lines.specs.Rooms.{IsClear};
+ghost use Rattle.session.specs.Step.{machine};
+ghost use Rattle.shell.specs.Ran.{IsServed, ServesAs};
+
+use crate::status::Status;
+use host_io::Host;
+use mk_value::{Bytes, Text};
+use session::Session;
+
+/// Answers the lines that the host gives, in a session, until the input ends, a line ends the session, the input or the output
+/// fails, or more bytes come than the budget allows, and one byte more is asked for only to tell that.
+///
+/// `room` holds the line that has not ended, and `out` the reply to a line; both come empty, with room for a line of 1,048,576 bytes
+/// and its newline. The run takes no memory for itself.
+pub fn serve<H: Host>(
+    session: &mut Session,
+    host: &mut H,
+    room: &mut Bytes,
+    out: &mut Text,
+    budget: u64,
+) -> Status
+    requires room { IsClear room.old }
+    requires out { IsClear out.old }
+    requires budget { budget ≤ max_budget }
+    requires ready { H.tells → IsReady machine session.old (H.outside host.old).now.disk }
+
+    ensures serves { H.tells → ServesAs result budget session.old session.new (H.outside host.old) (H.outside host.new) }
+    ensures status { IsServed result }
+
+    // A fault is told only where one came.
+    ensures take_fault { result ≡ Status.TakeFault → Rose (H.outside host.old).take_faults (H.outside host.new).take_faults }
+    ensures say_fault { result ≡ Status.SayFault → Rose (H.outside host.old).say_faults (H.outside host.new).say_faults }
+{
+    lines::serve(session, host, room, out, budget).into()
+}
