@@ -1,0 +1,393 @@
+use super::*;
+use mk_value::{Literal, Literals, Path, Text, Texts};
+use std::alloc::Global;
+use std::test::Fail;
+
+/// What a line reads as, or how it is refused.
+fn reading(alloc: Global, line: &[u8]) -> Result<String, Fail> {
+    match read_command(alloc, line) {
+        Ok(command) => shown(alloc, &command),
+        Err(CmdError::Syntax(place)) => Ok(format!(in alloc; "syntax {place}")?),
+        Err(CmdError::Floating(place)) => Ok(format!(in alloc; "floating {place}")?),
+        Err(CmdError::Repeated) => Ok(String::from_str(alloc, "repeated")?),
+        Err(CmdError::TooLarge) => Ok(String::from_str(alloc, "too large")?),
+        Err(CmdError::Memory) => Err(Fail::new("out of memory")),
+    }
+}
+
+fn shown(alloc: Global, command: &Command) -> Result<String, Fail> {
+    match command {
+        Command::Nothing => Ok(String::from_str(alloc, "nothing")?),
+        Command::Getas(name, schema) => {
+            let (name, properties) = (name.as_str(), schema.as_slice().len());
+            Ok(format!(in alloc; "getas {name} {properties}")?)
+        }
+        Command::Drop(name) => {
+            let name = name.as_str();
+            Ok(format!(in alloc; "drop {name}")?)
+        }
+        Command::Struct => Ok(String::from_str(alloc, "struct")?),
+        Command::Size(path) => {
+            let path = shown_path(alloc, path)?;
+            Ok(format!(in alloc; "size {path}")?)
+        }
+        Command::Show(path) => {
+            let path = shown_path(alloc, path)?;
+            Ok(format!(in alloc; "show {path}")?)
+        }
+        Command::Quit => Ok(String::from_str(alloc, "quit")?),
+        _ => shown_edit(alloc, command),
+    }
+}
+
+fn shown_edit(alloc: Global, command: &Command) -> Result<String, Fail> {
+    match command {
+        Command::Add(path, values) => {
+            let (path, values) = (shown_path(alloc, path)?, shown_values(alloc, values)?);
+            Ok(format!(in alloc; "add {path}{values}")?)
+        }
+        Command::Insert(path, place, copies, values) => {
+            let (path, values) = (shown_path(alloc, path)?, shown_values(alloc, values)?);
+            Ok(format!(in alloc; "insert {path} {place} {copies}{values}")?)
+        }
+        Command::Set(path, row, prop, value) => {
+            let (path, prop) = (shown_path(alloc, path)?, prop.as_str());
+            let value = shown_value(alloc, value)?;
+            Ok(format!(in alloc; "set {path} {row} {prop} {value}")?)
+        }
+        Command::Remove(path, place, rows) => {
+            let path = shown_path(alloc, path)?;
+            Ok(format!(in alloc; "remove {path} {place} {rows}")?)
+        }
+        _ => Err(Fail::new("no edit")),
+    }
+}
+
+fn shown_path(alloc: Global, path: &Path) -> Result<String, Fail> {
+    let mut out = String::from_str(alloc, path.name().as_str())?;
+    for step in path.steps() {
+        let (row, prop) = (step.row, step.prop.as_str());
+        out.push_str(format!(in alloc; "/{row}/{prop}")?.as_str())?;
+    }
+    Ok(out)
+}
+
+fn shown_values(alloc: Global, values: &Literals) -> Result<String, Fail> {
+    let mut out = String::new(alloc);
+    for value in values.as_slice() {
+        out.push_str(" ")?;
+        out.push_str(shown_value(alloc, value)?.as_str())?;
+    }
+    Ok(out)
+}
+
+fn shown_value(alloc: Global, value: &Literal) -> Result<String, Fail> {
+    match value {
+        Literal::Number(number) => Ok(format!(in alloc; "{number}")?),
+        Literal::Text(text) => {
+            let content = text.as_str();
+            Ok(format!(in alloc; "'{content}'")?)
+        }
+        Literal::Bytes(bytes) => {
+            let content = bytes.as_slice();
+            Ok(format!(in alloc; "{content:?}")?)
+        }
+        Literal::View(rows) => {
+            let count = rows.len();
+            Ok(format!(in alloc; "rows {count}")?)
+        }
+    }
+}
+
+#[test]
+fn each_command_reads(rt: HostRuntime) -> Result<(), Fail> {
+    let table = [
+        ("", "nothing"),
+        ("   ", "nothing"),
+        ("  getas   people[name:S,age:I] ", "getas people 2"),
+        ("drop people", "drop people"),
+        ("struct", "struct"),
+        ("add people \"Ann\" 31", "add people 'Ann' 31"),
+        ("insert c 0 64", "insert c 0 64"),
+        ("set people 0 age 40", "set people 0 age 40"),
+        ("remove people 3 0", "remove people 3 0"),
+        ("size people", "size people"),
+        ("show people", "show people"),
+        (" quit  ", "quit"),
+    ];
+    for (line, want) in table {
+        assert_eq!(rt;
+            reading(rt.alloc(), line.as_bytes())?.as_str(),
+            want,
+            "{line}"
+        );
+    }
+    Ok(())
+}
+
+#[test]
+fn values_are_literals_side_by_side(rt: HostRuntime) -> Result<(), Fail> {
+    let table = [
+        ("add t", "add t"),
+        ("add t 1\"x\"", "add t 1 'x'"),
+        ("add p 7 5000000000 \"x\"", "add p 7 5000000000 'x'"),
+        ("add t 1-2 x\"78\"{(1),(2)}", "add t 1 -2 [120] rows 2"),
+        ("insert t 0 2 {} \"\"", "insert t 0 2 rows 0 ''"),
+        (
+            "add n 2147483647 -9223372036854775808",
+            "add n 2147483647 -9223372036854775808",
+        ),
+        ("add d/0/a/1/b 8", "add d/0/a/1/b 8"),
+    ];
+    for (line, want) in table {
+        assert_eq!(rt;
+            reading(rt.alloc(), line.as_bytes())?.as_str(),
+            want,
+            "{line}"
+        );
+    }
+    Ok(())
+}
+
+#[test]
+fn words_of_commands_name_views(rt: HostRuntime) -> Result<(), Fail> {
+    let table = [
+        ("size quit", "size quit"),
+        ("show struct/0/getas", "show struct/0/getas"),
+        ("drop drop", "drop drop"),
+        ("set set 0 set 1", "set set 0 set 1"),
+    ];
+    for (line, want) in table {
+        assert_eq!(rt;
+            reading(rt.alloc(), line.as_bytes())?.as_str(),
+            want,
+            "{line}"
+        );
+    }
+    Ok(())
+}
+
+#[test]
+fn a_piece_that_is_no_token_wins(rt: HostRuntime) -> Result<(), Fail> {
+    let table = [
+        ("foo %", "syntax 4"),
+        ("quit x \"", "syntax 7"),
+        ("add n 0 9223372036854775808", "syntax 8"),
+        ("insert t -0 1", "syntax 9"),
+        ("add t 1-2x\"78\"", "syntax 7"),
+        ("\tquit", "syntax 0"),
+        ("quit\r", "syntax 4"),
+    ];
+    for (line, want) in table {
+        assert_eq!(rt;
+            reading(rt.alloc(), line.as_bytes())?.as_str(),
+            want,
+            "{line}"
+        );
+    }
+    Ok(())
+}
+
+#[test]
+fn the_first_token_that_cannot_go_on(rt: HostRuntime) -> Result<(), Fail> {
+    let table = [
+        ("foo", "syntax 0"),
+        ("  quit x", "syntax 7"),
+        ("struct 1", "syntax 7"),
+        ("drop 5", "syntax 5"),
+        ("drop a/0/b", "syntax 6"),
+        ("insert t -1 0", "syntax 9"),
+        ("insert t 0 -1", "syntax 11"),
+        ("add t 1 x", "syntax 8"),
+        ("add t {(1}", "syntax 9"),
+        ("add t {()}", "syntax 8"),
+        ("set t 0 1 a", "syntax 8"),
+        ("set t 0 a 1 2", "syntax 12"),
+        ("show sort(people)", "syntax 9"),
+        ("1", "syntax 0"),
+    ];
+    for (line, want) in table {
+        assert_eq!(rt;
+            reading(rt.alloc(), line.as_bytes())?.as_str(),
+            want,
+            "{line}"
+        );
+    }
+    Ok(())
+}
+
+#[test]
+fn a_line_that_ends_early_is_refused_at_its_end(rt: HostRuntime) -> Result<(), Fail> {
+    let table = [
+        ("drop", "syntax 4"),
+        ("drop  ", "syntax 6"),
+        ("size", "syntax 4"),
+        ("size t/", "syntax 7"),
+        ("size t/0/", "syntax 9"),
+        ("remove t 0", "syntax 10"),
+        ("set t 0 a ", "syntax 10"),
+        ("add t {(1", "syntax 9"),
+        ("insert", "syntax 6"),
+    ];
+    for (line, want) in table {
+        assert_eq!(rt;
+            reading(rt.alloc(), line.as_bytes())?.as_str(),
+            want,
+            "{line}"
+        );
+    }
+    Ok(())
+}
+
+#[test]
+fn a_line_that_gives_a_structure(rt: HostRuntime) -> Result<(), Fail> {
+    let table = [
+        ("getas", "syntax 5"),
+        ("getas  ", "syntax 7"),
+        ("getasx", "syntax 0"),
+        ("  getas\"", "syntax 2"),
+        ("getas[a:I]", "syntax 0"),
+        ("getas x[a:I  ", "syntax 11"),
+        ("  getas  x[a:I]]", "syntax 15"),
+        ("getas x[a:I]\t", "syntax 12"),
+        ("getas x[a:I,a:S]", "repeated"),
+        ("getas x[a:F]", "floating 10"),
+        ("getas x[a:F,a:I]", "floating 10"),
+        ("getas x[a:M]", "syntax 10"),
+        ("getas d[a[b[c[e[f[g[h[j[i:I]]]]]]]]]", "too large"),
+        ("getas d[a[b[c[e[f[g[h[i:I]]]]]]]]", "getas d 1"),
+    ];
+    for (line, want) in table {
+        assert_eq!(rt;
+            reading(rt.alloc(), line.as_bytes())?.as_str(),
+            want,
+            "{line}"
+        );
+    }
+    Ok(())
+}
+
+#[test]
+fn braces_stand_eight_deep(rt: HostRuntime) -> Result<(), Fail> {
+    let table = [
+        ("add d {({({({({({({(7)})})})})})})}", "add d rows 1"),
+        ("add d {({({({({({({({})})})})})})})}", "add d rows 1"),
+        ("add d {({({({({({({({({})})})})})})})})}", "syntax 22"),
+    ];
+    for (line, want) in table {
+        assert_eq!(rt;
+            reading(rt.alloc(), line.as_bytes())?.as_str(),
+            want,
+            "{line}"
+        );
+    }
+    Ok(())
+}
+
+#[test]
+fn a_line_that_is_no_text(rt: HostRuntime) -> Result<(), Fail> {
+    assert_eq!(rt; reading(rt.alloc(), b"getas \xff")?.as_str(), "syntax 6");
+    assert_eq!(rt; reading(rt.alloc(), b"% quit \xc3")?.as_str(), "syntax 7");
+    Ok(())
+}
+
+/// The lines of a reply.
+fn text_of(alloc: Global, reply: &Reply) -> Result<Text, Fail> {
+    let mut out = Text::new(alloc);
+    reply_text(reply, &mut out)?;
+    Ok(out)
+}
+
+#[test]
+fn replies_have_their_texts(rt: HostRuntime) -> Result<(), Fail> {
+    let space = Space {
+        number: 4,
+        end: 608,
+        used: 304,
+    };
+    let table = [
+        (Reply::Silent, ""),
+        (Reply::Plain, "ok\n"),
+        (
+            Reply::Count(18446744073709551615),
+            "ok 18446744073709551615\n",
+        ),
+        (Reply::Pair(1, 2), "ok 1 2\n"),
+        (Reply::NotFound, "ok none\n"),
+        (Reply::Commit(1), "ok commit 1\n"),
+        (Reply::Rollback(1), "ok rollback 1\n"),
+        (Reply::Reopen(2), "ok reopen 2\n"),
+        (Reply::Space(space), "ok space 4 608 304\n"),
+        (Reply::Quit, "ok quit\n"),
+    ];
+    for (reply, want) in table {
+        assert_eq!(rt; text_of(rt.alloc(), &reply)?.as_str(), want);
+    }
+    Ok(())
+}
+
+#[test]
+fn texts_stand_on_lines_of_their_own(rt: HostRuntime) -> Result<(), Fail> {
+    let alloc = rt.alloc();
+    let one = Text::from_str(alloc, "people[name:S,age:I]")?;
+    assert_eq!(rt;
+        text_of(alloc, &Reply::One(one))?.as_str(),
+        "ok people[name:S,age:I]\n"
+    );
+    let mut lines = Texts::new(alloc);
+    assert_eq!(rt;
+        text_of(alloc, &Reply::Lines(Texts::new(alloc)))?.as_str(),
+        "ok 0\n"
+    );
+    lines.push(Text::from_str(alloc, "(\"Ann\",31)")?)?;
+    lines.push(Text::from_str(alloc, "(\"Bob\",31)")?)?;
+    assert_eq!(rt;
+        text_of(alloc, &Reply::Lines(lines))?.as_str(),
+        "ok 2\n(\"Ann\",31)\n(\"Bob\",31)\n"
+    );
+    Ok(())
+}
+
+#[test]
+fn refusals_have_their_numbers(rt: HostRuntime) -> Result<(), Fail> {
+    let table = [
+        (Refusal::Memory, "err 1 memory\n"),
+        (Refusal::Syntax(8), "err 2 syntax 8\n"),
+        (Refusal::NoName, "err 3 noname\n"),
+        (Refusal::Exists, "err 4 exists\n"),
+        (Refusal::Range(3), "err 5 range 3\n"),
+        (Refusal::NoProp, "err 6 noprop\n"),
+        (Refusal::Kind, "err 7 kind\n"),
+        (Refusal::Limit, "err 8 limit\n"),
+        (Refusal::Disk, "err 9 disk\n"),
+    ];
+    for (refusal, want) in table {
+        assert_eq!(rt;
+            text_of(rt.alloc(), &Reply::Refused(refusal))?.as_str(),
+            want
+        );
+    }
+    Ok(())
+}
+
+#[test]
+fn later_refusals_have_their_numbers(rt: HostRuntime) -> Result<(), Fail> {
+    let table = [
+        (Refusal::Full(800, 608), "err 10 full 800 608\n"),
+        (Refusal::Shut, "err 11 shut\n"),
+        (Refusal::LastNumber, "err 12 lastnumber\n"),
+        (Refusal::Floating(10), "err 13 floating 10\n"),
+        (Refusal::ReadOnly, "err 14 readonly\n"),
+        (Refusal::Damaged(224), "err 15 damaged 224\n"),
+        (Refusal::InUse, "err 16 inuse\n"),
+        (Refusal::Keys(1), "err 17 keys 1\n"),
+        (Refusal::Unsorted, "err 18 unsorted\n"),
+    ];
+    for (refusal, want) in table {
+        assert_eq!(rt;
+            text_of(rt.alloc(), &Reply::Refused(refusal))?.as_str(),
+            want
+        );
+    }
+    Ok(())
+}
