@@ -11,45 +11,60 @@ import subprocess
 import sys
 import tempfile
 import time
+from itertools import chain, repeat
 from pathlib import Path
 
 PROGRAM = Path(__file__).resolve().parents[2] / "crates" / "mkshell" / "out" / "mkshell"
 
 
 def measured(words, given, folder):
-    """The seconds, the peak of memory in MiB, and the number of lines said."""
-    source = Path(folder) / "given"
-    source.write_text(given)
+    """The seconds, the peak of memory in MiB, and the number of lines said. This process holds few of the lines at a time, since a
+    new process begins with the peak of the one that starts it."""
+    source, answer = Path(folder) / "given", Path(folder) / "said"
+    with open(source, "w") as out:
+        out.writelines(given)
     begin = time.perf_counter()
-    with open(source) as lines:
-        process = subprocess.Popen(words, cwd=folder, stdin=lines, stdout=subprocess.PIPE)
-        said = process.stdout.read().count(b"\n")
+    with open(source) as lines, open(answer, "w") as out:
+        process = subprocess.Popen(words, cwd=folder, stdin=lines, stdout=out)
         _, status, used = os.wait4(process.pid, 0)
+    seconds = time.perf_counter() - begin
     if status != 0:
         sys.exit(f"{words[0]} ended with {status}")
-    return time.perf_counter() - begin, used.ru_maxrss / 1024, said
+    with open(answer) as said:
+        return seconds, used.ru_maxrss / 1024, sum(1 for _ in said)
 
 
 def report(name, rows, words, given):
     with tempfile.TemporaryDirectory() as folder:
         seconds, peak, said = measured(words, given, folder)
-    print(f"{name:28} {seconds:7.2f} s {seconds / rows * 1e6:8.2f} us a row {peak:8.1f} MiB {said:8} lines")
+    print(f"{name:32} {seconds:7.2f} s {seconds / rows * 1e6:8.2f} us a row {peak:8.1f} MiB {said:8} lines", flush=True)
+
+
+def added(rows):
+    """The lines that put the rows into a view one by one."""
+    yield "getas people[name:S,age:I]\n"
+    for at in range(rows):
+        yield f'add people "name{at}" {at % 100}\n'
+
+
+def inserted(rows):
+    """The statements that put the same rows into a table of SQLite, in one transaction."""
+    yield "create table people(name text, age integer);\nbegin;\n"
+    for at in range(rows):
+        yield f"insert into people values('name{at}',{at % 100});\n"
+    yield "commit;\n"
 
 
 def main():
     rows = int(sys.argv[1]) if len(sys.argv) > 1 else 200_000
-    people = [(f"name{at}", at % 100) for at in range(rows)]
-    added = "getas people[name:S,age:I]\n" + "".join(f'add people "{name}" {age}\n' for name, age in people)
-    inserted = "create table people(name text, age integer);\nbegin;\n" + "".join(
-        f"insert into people values('{name}',{age});\n" for name, age in people) + "commit;\n"
-    report("mkshell, add", rows, [str(PROGRAM), "f"], added)
-    report("mkshell, add and show", rows, [str(PROGRAM), "f"], added + "show people\n")
     edits = max(rows // 1000, 1)
-    first = "".join('insert people 0 1 "first" 1\n' for _ in range(edits))
-    report(f"mkshell, {edits} more at the front", rows, [str(PROGRAM), "f"], added + first)
-    report("sqlite3 in memory", rows, ["sqlite3"], inserted)
-    report("sqlite3 in memory and shown", rows, ["sqlite3"], inserted + "select * from people;\n")
-    report("sqlite3 in a file", rows, ["sqlite3", "f.db"], inserted)
+    program, shown = [str(PROGRAM), "f"], "select * from people;\n"
+    report("mkshell, add", rows, program, added(rows))
+    report("mkshell, add and show", rows, program, chain(added(rows), ["show people\n"]))
+    report(f"mkshell, {edits} more at the front", rows, program, chain(added(rows), repeat('insert people 0 1 "first" 1\n', edits)))
+    report("sqlite3 in memory", rows, ["sqlite3"], inserted(rows))
+    report("sqlite3 in memory and shown", rows, ["sqlite3"], chain(inserted(rows), [shown]))
+    report("sqlite3 in a file", rows, ["sqlite3", "f.db"], inserted(rows))
 
 
 main()
