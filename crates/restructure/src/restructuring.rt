@@ -41,6 +41,9 @@ fn restructure_rows(alloc: Global, rows: &Rows, old: &Schema, new: &Schema) -> R
     ensures value { IfOk result (λ made. made ≡ restructured_rows old.now new.now rows.now) }
     ensures whole { IfOk result (λ made. AreRowsOf made new.now) }
 {
+    if rows.is_empty() {
+        return Ok(Rows::new(alloc));
+    }
     let places = find_places(alloc, old, new)?;
     let mut made = Rows::new(alloc);
     for row in rows.as_slice() {
