@@ -1,0 +1,204 @@
+-- The cells of tables that are made of others.
+use Rattle.std.proofs.Common.{◌≡◌, ℕ, zero, suc, ◌+◌, ◌-◌, ◌<◌, ◌≤◌, pos, List, [], ◌∷◌, ◌++◌, length, get_or, map, All, refl, ap, sym, subst, ◌∙◌, arith}
+use Rattle.std.proofs.lemmas.List.{length-map, length-append, get_or-map, get_or_append_left, get_or-append_right}
+use Rattle.mk_value.specs.Heading.{Domain, Attribute}
+use Rattle.mk_value.specs.Data.{Datum, integer, AreRowsOf, IsRowOf, IsOf, cell}
+use Rattle.mk_value.specs.Tables.{domain_at, IsPlainDomain, IsComparable}
+use Rattle.mk_value.proofs.Relations.{row_fits_length}
+use Rattle.mk_value.proofs.Walks.{same_default}
+use Rattle.derived.specs.Joining.{zipped}
+use Rattle.derived.specs.Layers.{Layered}
+use Rattle.derived.specs.Nodes.{AreBeside, AreColumns, values_at}
+
+-- a row of a table has a value for each property
+pub row_length : (rows : List (List Datum)) (schema : List Attribute) (i : ℕ) → AreRowsOf rows schema → i < length rows → length (get_or rows i []) ≡ length schema
+row_length rows schema i whole p = row_fits_length (get_or rows i []) schema (whole.whole i [] p)
+
+-- a value of a row of the schema is of its property's domain
+value_fits : (row : List Datum) (schema : List Attribute) (j : ℕ) → IsRowOf row schema → j < length schema → IsOf (get_or row j (integer (pos 0))) (domain_at schema j)
+value_fits [] [] j h p = absurd (omega arith)
+value_fits [] (a ∷ schema) j h p = absurd h
+value_fits (d ∷ row) [] j h p = absurd (omega arith)
+value_fits (d ∷ row) (a ∷ schema) zero h p = h.0
+value_fits (d ∷ row) (a ∷ schema) (suc j) h p = value_fits row schema j h.1 (omega arith)
+
+pub cell_fits : (rows : List (List Datum)) (schema : List Attribute) (i j : ℕ) → AreRowsOf rows schema → i < length rows → j < length schema → IsOf (cell rows i j) (domain_at schema j)
+cell_fits rows schema i j whole p q = value_fits (get_or rows i []) schema j (whole.whole i [] p) q
+
+-- a value that fits a domain which is no view may be compared with those of the domain
+pub comparable : (d : Datum) (e : Domain) → IsOf d e → IsPlainDomain e → IsComparable d e
+comparable (Datum.integer z) Domain.integer h p = tt
+comparable (Datum.long z) Domain.long h p = tt
+comparable (Datum.text content) Domain.text h p = tt
+comparable (Datum.bytes content) Domain.bytes h p = tt
+comparable (Datum.relation r) (Domain.relation t) h p = absurd p
+comparable (Datum.integer z) Domain.long h p = absurd h
+comparable (Datum.integer z) Domain.text h p = absurd h
+comparable (Datum.integer z) Domain.bytes h p = absurd h
+comparable (Datum.integer z) (Domain.relation t) h p = absurd h
+comparable (Datum.long z) Domain.integer h p = absurd h
+comparable (Datum.long z) Domain.text h p = absurd h
+comparable (Datum.long z) Domain.bytes h p = absurd h
+comparable (Datum.long z) (Domain.relation t) h p = absurd h
+comparable (Datum.text content) Domain.integer h p = absurd h
+comparable (Datum.text content) Domain.long h p = absurd h
+comparable (Datum.text content) Domain.bytes h p = absurd h
+comparable (Datum.text content) (Domain.relation t) h p = absurd h
+comparable (Datum.bytes content) Domain.integer h p = absurd h
+comparable (Datum.bytes content) Domain.long h p = absurd h
+comparable (Datum.bytes content) Domain.text h p = absurd h
+comparable (Datum.bytes content) (Domain.relation t) h p = absurd h
+comparable (Datum.relation r) Domain.integer h p = absurd h
+comparable (Datum.relation r) Domain.long h p = absurd h
+comparable (Datum.relation r) Domain.text h p = absurd h
+comparable (Datum.relation r) Domain.bytes h p = absurd h
+
+-- of columns
+pub cell_columns : (rows : List (List Datum)) (columns : List ℕ) (i j k : ℕ) → i < length rows → j < length columns → k ≡ get_or columns j 0 → cell (map (values_at columns) rows) i j ≡ cell rows i k
+cell_columns rows columns i j k p q e =
+    ap (λ row. get_or row j (integer (pos 0))) (get_or-map (values_at columns) rows i [] [] p)
+    ∙ get_or-map (λ k. get_or (get_or rows i []) k (integer (pos 0))) columns j 0 (integer (pos 0)) q
+    ∙ ap (λ k. cell rows i k) (sym e)
+
+pub domain_columns : (schema : List Attribute) (columns : List ℕ) (properties : List Attribute) (j k : ℕ) → AreColumns schema columns properties → j < length columns → k ≡ get_or columns j 0 → domain_at properties j ≡ domain_at schema k
+domain_columns schema columns properties j k h q e =
+    sym (kinds_at properties j)
+    ∙ ap (λ (ds : List Domain). get_or ds j Domain.integer) h.kinds
+    ∙ get_or-map (λ k. domain_at schema k) columns j 0 Domain.integer q
+    ∙ ap (λ k. domain_at schema k) (sym e)
+  where
+    kinds_at : (schema : List Attribute) (j : ℕ) → get_or (map (λ (a : Attribute). a.domain) schema) j Domain.integer ≡ domain_at schema j
+    kinds_at [] j = refl
+    kinds_at (a ∷ schema) zero = refl
+    kinds_at (a ∷ schema) (suc j) = kinds_at schema j
+
+pub columns_length : (schema : List Attribute) (columns : List ℕ) (properties : List Attribute) → AreColumns schema columns properties → length columns ≡ length properties
+columns_length schema columns properties h =
+    sym (length-map columns (λ j. domain_at schema j)) ∙ sym (ap length h.kinds) ∙ length-map properties (λ (a : Attribute). a.domain)
+
+-- of tables side by side
+pub length-zipped : {X Y Z : Type 0} (f : X → Y → Z) (xs : List X) (ys : List Y) → length xs ≡ length ys → length (zipped f xs ys) ≡ length xs
+length-zipped f [] ys e = refl
+length-zipped f (x ∷ xs) [] e = absurd (omega arith)
+length-zipped f (x ∷ xs) (y ∷ ys) e = let more = length-zipped f xs ys (omega arith) in omega arith
+
+zipped_at : (xs ys : List (List Datum)) (i : ℕ) → length xs ≡ length ys → get_or (zipped (λ a b. a ++ b) xs ys) i [] ≡ get_or xs i [] ++ get_or ys i []
+zipped_at [] [] i e = refl
+zipped_at [] (y ∷ ys) i e = absurd (omega arith)
+zipped_at (x ∷ xs) [] i e = absurd (omega arith)
+zipped_at (x ∷ xs) (y ∷ ys) zero e = refl
+zipped_at (x ∷ xs) (y ∷ ys) (suc i) e = zipped_at xs ys i (omega arith)
+
+pub cell_first : (one two : Layered) (properties : List Attribute) (i j : ℕ) → AreBeside one two properties → i < length one.rows → j < length one.schema
+    → cell (zipped (λ a b. a ++ b) one.rows two.rows) i j ≡ cell one.rows i j
+cell_first one two properties i j h p q =
+    ap (λ (row : List Datum). get_or row j (integer (pos 0))) (zipped_at one.rows two.rows i h.as_many)
+    ∙ get_or_append_left (get_or one.rows i []) (get_or two.rows i []) (integer (pos 0)) j (let e = row_length one.rows one.schema i h.whole p in omega arith)
+
+pub cell_second : (one two : Layered) (properties : List Attribute) (i j : ℕ) → AreBeside one two properties → i < length one.rows → length one.schema ≤ j
+    → cell (zipped (λ a b. a ++ b) one.rows two.rows) i j ≡ cell two.rows i (j - length one.schema)
+cell_second one two properties i j h p q =
+    ap (λ (row : List Datum). get_or row j (integer (pos 0))) (zipped_at one.rows two.rows i h.as_many)
+    ∙ get_or-append_right (get_or one.rows i []) (get_or two.rows i []) (length one.schema) j (integer (pos 0)) (row_length one.rows one.schema i h.whole p) q
+
+pub domain_first : (one two : Layered) (properties : List Attribute) (j : ℕ) → AreBeside one two properties → j < length one.schema → domain_at properties j ≡ domain_at one.schema j
+domain_first one two properties j h q =
+    ap (λ (s : List Attribute). domain_at s j) h.schema ∙ ap (λ (a : Attribute). a.domain) (get_or_append_left one.schema two.schema (record { name = []; domain = Domain.integer }) j q)
+
+pub domain_second : (one two : Layered) (properties : List Attribute) (j : ℕ) → AreBeside one two properties → length one.schema ≤ j → domain_at properties j ≡ domain_at two.schema (j - length one.schema)
+domain_second one two properties j h q =
+    ap (λ (s : List Attribute). domain_at s j) h.schema
+    ∙ ap (λ (a : Attribute). a.domain) (get_or-append_right one.schema two.schema (length one.schema) j (record { name = []; domain = Domain.integer }) refl q)
+
+-- Of two tables side by side, v is what is seen, and d is the one that is read, in whose columns col lies.
+module _ (one two v d : Layered) (properties : List Attribute) (l row col w : ℕ)
+    (seen : record { schema = properties; rows = zipped (λ a b. a ++ b) one.rows two.rows; layers = l } ≡ v) (h : AreBeside one two properties)
+    (row_in : row < length v.rows) (col_in : col < length v.schema) (wide : w ≡ length one.schema) where
+  rows_of_one : length v.rows ≡ length one.rows
+  rows_of_one = sym (ap (λ (t : Layered). length t.rows) seen) ∙ length-zipped (λ a b. a ++ b) one.rows two.rows h.as_many
+
+  in_one : row < length one.rows
+  in_one = let e = rows_of_one in omega arith
+
+  pub first_in : d ≡ one → col < w → (row < length d.rows) × (col < length d.schema)
+  first_in e p =
+      let r = ap (λ (t : Layered). length t.rows) e in
+      let s = ap (λ (t : Layered). length t.schema) e in
+      let i = in_one in
+      (omega arith, omega arith)
+
+  pub second_in : d ≡ two → w ≤ col → (row < length d.rows) × (col - w < length d.schema)
+  second_in e p =
+      let r = ap (λ (t : Layered). length t.rows) e in
+      let s = ap (λ (t : Layered). length t.schema) e in
+      let i = in_one in
+      let n = h.as_many in
+      let all = ap length h.schema ∙ length-append one.schema two.schema in
+      let u = ap (λ (t : Layered). length t.schema) seen in
+      (omega arith, omega arith)
+
+  pub first_cell : d ≡ one → col < w → cell v.rows row col ≡ cell d.rows row col
+  first_cell e p =
+      ap (λ (t : Layered). cell t.rows row col) (sym seen) ∙ cell_first one two properties row col h in_one (omega arith) ∙ ap (λ (t : Layered). cell t.rows row col) (sym e)
+
+  pub second_cell : d ≡ two → w ≤ col → cell v.rows row col ≡ cell d.rows row (col - w)
+  second_cell e p =
+      ap (λ (t : Layered). cell t.rows row col) (sym seen) ∙ cell_second one two properties row col h in_one (omega arith)
+      ∙ ap (λ (t : Layered). cell t.rows row (col - length one.schema)) (sym e) ∙ ap (λ n. cell d.rows row (col - n)) (sym wide)
+
+  pub first_domain : d ≡ one → col < w → domain_at v.schema col ≡ domain_at d.schema col
+  first_domain e p =
+      ap (λ (t : Layered). domain_at t.schema col) (sym seen) ∙ domain_first one two properties col h (omega arith) ∙ ap (λ (t : Layered). domain_at t.schema col) (sym e)
+
+  pub second_domain : d ≡ two → w ≤ col → domain_at v.schema col ≡ domain_at d.schema (col - w)
+  second_domain e p =
+      ap (λ (t : Layered). domain_at t.schema col) (sym seen) ∙ domain_second one two properties col h (omega arith)
+      ∙ ap (λ (t : Layered). domain_at t.schema (col - length one.schema)) (sym e) ∙ ap (λ n. domain_at d.schema (col - n)) (sym wide)
+
+-- Of a table's columns, v is what is seen, and d is the table that is read.
+module _ (base v d : Layered) (columns read : List ℕ) (properties : List Attribute) (l row col : ℕ)
+    (seen : record { schema = properties; rows = map (values_at columns) base.rows; layers = l } ≡ v) (h : AreColumns base.schema columns properties)
+    (row_in : row < length v.rows) (col_in : col < length v.schema) (same : d ≡ base) (as_read : read ≡ columns) where
+  row_in_base : row < length base.rows
+  row_in_base =
+      let e = ap (λ (t : Layered). length t.rows) seen in
+      let m = length-map base.rows (values_at columns) in
+      omega arith
+
+  col_in_columns : col < length columns
+  col_in_columns =
+      let e = ap (λ (t : Layered). length t.schema) seen in
+      let m = columns_length base.schema columns properties h in
+      omega arith
+
+  pub column_at : (row < length d.rows) × (get_or read col 0 < length d.schema)
+  column_at =
+      let r = ap (λ (t : Layered). length t.rows) same in
+      let s = ap (λ (t : Layered). length t.schema) same in
+      let i = row_in_base in
+      let k = h.in_range col 0 col_in_columns in
+      let e = ap (λ js. get_or js col 0) as_read in
+      (omega arith, omega arith)
+
+  pub column_cell : cell v.rows row col ≡ cell d.rows row (get_or read col 0)
+  column_cell =
+      ap (λ (t : Layered). cell t.rows row col) (sym seen) ∙ cell_columns base.rows columns row col (get_or read col 0) row_in_base col_in_columns (ap (λ js. get_or js col 0) as_read)
+      ∙ ap (λ (t : Layered). cell t.rows row (get_or read col 0)) (sym same)
+
+  pub column_domain : domain_at v.schema col ≡ domain_at d.schema (get_or read col 0)
+  column_domain =
+      ap (λ (t : Layered). domain_at t.schema col) (sym seen)
+      ∙ domain_columns base.schema columns properties col (get_or read col 0) h col_in_columns (ap (λ js. get_or js col 0) as_read)
+      ∙ ap (λ (t : Layered). domain_at t.schema (get_or read col 0)) (sym same)
+
+-- Of a table with more rows behind it, v is what is seen, and d is the table that is read.
+module _ (base v : Layered) (more : List (List Datum)) (l row col : ℕ) (seen : record { schema = base.schema; rows = base.rows ++ more; layers = l } ≡ v) where
+  pub before_cell : (d : Layered) → d ≡ base → row < length d.rows → cell v.rows row col ≡ cell d.rows row col
+  before_cell d e p =
+      let r = ap (λ (t : Layered). length t.rows) e in
+      ap (λ (t : Layered). cell t.rows row col) (sym seen) ∙ ap (λ (r : List Datum). get_or r col (integer (pos 0))) (get_or_append_left base.rows more [] row (omega arith))
+      ∙ ap (λ (t : Layered). cell t.rows row col) (sym e)
+
+  pub behind_cell : (n : ℕ) → n ≡ length base.rows → n ≤ row → cell v.rows row col ≡ cell more (row - n) col
+  behind_cell n e p =
+      ap (λ (t : Layered). cell t.rows row col) (sym seen) ∙ ap (λ (r : List Datum). get_or r col (integer (pos 0))) (get_or-append_right base.rows more n row [] (sym e) p)

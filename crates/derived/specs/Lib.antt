@@ -1,0 +1,12 @@
+pub mod Criteria
+pub mod Equality
+pub mod Fitting
+pub mod Grouping
+pub mod Joining
+pub mod Layers
+pub mod Nodes
+pub mod NodeFalls
+pub mod Operators
+pub mod Refusals
+pub mod Rows
+pub mod Sorting

@@ -1,0 +1,104 @@
+//! The rows of a table that pass a test.
+ghost use Rattle.std.specs.Prelude.{◌≡◌, ◌<◌, [], All, length, slice_index_or, None, IfOk};
+ghost use Rattle.derived.specs.Criteria.{is_in_range as is_row_in_range};
+ghost use Rattle.derived.specs.Layers.{table_of};
+ghost use Rattle.derived.specs.Nodes.{ArePositions, AreResolved};
+ghost use Rattle.derived.specs.Operators.{range, select};
+ghost use Rattle.derived.specs.Refusals.{AnswersDue, range_due};
+
+use crate::checks::check_criteria;
+use crate::derived::{Columns, gather};
+use crate::{Criterion, Derived, DerivedError};
+use mk_value::{Memory, Positions, Same, Schema, TableRead};
+use std::alloc::Global;
+
+/// The rows that have the values of the criteria, in base order. With no criteria every row.
+///
+/// # Errors
+///
+/// The first that is due: `NoProp`, `KeyIsView`, `WrongKind` where a value does not fit its property. Else `Memory`.
+pub fn select<T: TableRead + Same + Drop>(
+    alloc: Global,
+    base: Derived<T>,
+    criteria: &[Criterion],
+) -> Result<Derived<T>, DerivedError>
+    requires equal { All (λ c. c.low ≡ c.high) criteria.now }
+    ensures due { AnswersDue (range_due criteria.now base.schema) result }
+    ensures ok { IfOk result (λ d. table_of d ≡ select criteria.now (table_of base)) }
+{
+    range(alloc, base, criteria)
+}
+
+/// The rows whose values lie at or between the bounds of the criteria, in base order. With no criteria every row.
+///
+/// # Errors
+///
+/// The first that is due: `NoProp`, `KeyIsView`, `WrongKind` where a bound does not fit its property. Else `Memory`.
+pub fn range<T: TableRead + Same + Drop>(
+    alloc: Global,
+    base: Derived<T>,
+    criteria: &[Criterion],
+) -> Result<Derived<T>, DerivedError>
+    ensures due { AnswersDue (range_due criteria.now base.schema) result }
+    ensures ok { IfOk result (λ d. table_of d ≡ range criteria.now (table_of base)) }
+{
+    check_criteria(base.schema(), criteria)?;
+    let columns = columns_of(alloc, base.schema(), criteria)?;
+    let positions = positions_in_range(alloc, &base, &columns, criteria)?;
+    Ok(gather(alloc, base, positions)?)
+}
+
+/// The columns of the criteria.
+fn columns_of(alloc: Global, schema: &Schema, criteria: &[Criterion]) -> Result<Columns, Memory>
+    requires { range_due criteria.now schema.now ≡ None }
+    ensures { IfOk result (AreResolved schema.now criteria.now) }
+{
+    let mut columns = Columns::new(alloc);
+    for criterion in criteria {
+        columns.push(schema.find(criterion.prop.as_str()).unwrap())?;
+    }
+    Ok(columns)
+}
+
+/// The positions of the rows that lie within the bounds.
+fn positions_in_range<T: TableRead + Same + Drop>(
+    alloc: Global,
+    base: &Derived<T>,
+    columns: &Columns,
+    criteria: &[Criterion],
+) -> Result<Positions, Memory>
+    requires { AreResolved base.now.schema criteria.now columns.now }
+    ensures { IfOk result (ArePositions (is_row_in_range base.now.schema criteria.now) base.now.rows) }
+{
+    let mut positions = Positions::new(alloc);
+    for row in 0..base.size() {
+        if is_in_range(base, columns, criteria, row) {
+            positions.push(row as u32)?;
+        }
+    }
+    Ok(positions)
+}
+
+/// Whether a row lies within the bounds.
+fn is_in_range<T: TableRead + Same + Drop>(
+    base: &Derived<T>,
+    columns: &Columns,
+    criteria: &[Criterion],
+    row: usize,
+) -> bool
+    requires resolved { AreResolved base.now.schema criteria.now columns.now }
+    requires row_in { row < length base.now.rows }
+    ensures { result ≡ is_row_in_range base.now.schema criteria.now (slice_index_or base.now.rows row []) }
+{
+    let columns = columns.as_slice();
+    for at in 0..criteria.len() {
+        let criterion = &criteria[at];
+        let col = columns[at];
+        if base.cmp_cell(row, col, &criterion.low).is_lt()
+            || base.cmp_cell(row, col, &criterion.high).is_gt()
+        {
+            return false;
+        }
+    }
+    true
+}
