@@ -15,7 +15,7 @@ pub row_length : (rows : List (List Datum)) (schema : List Attribute) (i : ℕ) 
 row_length rows schema i whole p = row_fits_length (get_or rows i []) schema (whole.whole i [] p)
 
 -- a value of a row of the schema is of its property's domain
-value_fits : (row : List Datum) (schema : List Attribute) (j : ℕ) → IsRowOf row schema → j < length schema → IsOf (get_or row j (integer (pos 0))) (domain_at schema j)
+pub value_fits : (row : List Datum) (schema : List Attribute) (j : ℕ) → IsRowOf row schema → j < length schema → IsOf (get_or row j (integer (pos 0))) (domain_at schema j)
 value_fits [] [] j h p = absurd (omega arith)
 value_fits [] (a ∷ schema) j h p = absurd h
 value_fits (d ∷ row) [] j h p = absurd (omega arith)

@@ -1,6 +1,5 @@
 -- What a derived table is made of: positions and columns, which no contract speaks of.
-use Rattle.std.specs.Prelude.{◌≡◌, ℕ, zero, suc, Bool, filter, ◌∷◌, ◌+◌, ◌<◌, ◌≤◌, max, pos, List, [], ◌++◌, length, map, slice_index_or, All}
-use Rattle.std.specs.List.{position_or_len}
+use Rattle.std.specs.Prelude.{◌≡◌, if◌then◌else◌, ℕ, zero, suc, Bool, filter, ◌∷◌, ◌+◌, ◌<◌, ◌≤◌, max, pos, List, [], ◌++◌, length, map, slice_index_or, All}
 use Rattle.mk_value.specs.Heading.{Domain, Attribute, IsHeading}
 use Rattle.mk_value.specs.Data.{Datum, integer, AreRowsOf}
 use Rattle.mk_value.specs.Tables.{domain_at, IsComparable}
@@ -11,9 +10,10 @@ use Rattle.derived.specs.Rows.{is_named, rows_at}
 use Rattle.derived.specs.declared.derived.Node.{Node}
 use Rattle.derived.specs.declared.derived.Node.TheVariants.{Leaf, Held, Rows, Columns, Extended, Beside}
 
--- the place of the property of a name
+-- the place of the property of a name, or the number of properties where there is none
 abbrev pub column_of : List Attribute → List ℕ → ℕ
-column_of schema name = position_or_len (is_named name) schema
+column_of [] name = 0
+column_of (a ∷ schema) name = if is_named name a then 0 else suc (column_of schema name)
 
 -- the values of a row in these columns
 abbrev pub values_at : List ℕ → List Datum → List Datum
