@@ -1,5 +1,9 @@
 pub mod Cells
 pub mod Fitting
+pub mod Headings
 pub mod Names
+pub mod Numbers
+pub mod Projections
+pub mod Renaming
 pub mod Tests
 pub mod Wholes

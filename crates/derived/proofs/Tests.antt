@@ -1,7 +1,9 @@
 -- The tests that refusals go by, one item further in a loop.
-use Rattle.std.proofs.Common.{◌≡◌, ℕ, ◌+◌, ◌<◌, ◌≤◌, Bool, true, false, not, cond, List, [], ◌∷◌, length, get_or, map, drop, Option, Some, None, refl, ap, sym, ◌∙◌, arith, All, ◌↔◌, IsTrue, ◌&&◌}
+use Rattle.std.proofs.Common.{◌≡◌, ℕ, ◌+◌, ◌<◌, ◌≤◌, Bool, true, false, not, cond, List, [], ◌∷◌, length, get_or, map, drop, Option, Some, None, Ok, refl, ap, sym, subst, ◌∙◌, arith, All, ◌↔◌, IsTrue, ◌&&◌}
 use Rattle.std.specs.List.{find, list_all}
-use Rattle.std.specs.Option.{option_map}
+use Rattle.std.specs.Option.{option_map, option_or}
+use Rattle.derived.specs.declared.error.DerivedError.{DerivedError}
+use Rattle.derived.specs.Refusals.{AnswersDue}
 use Rattle.std.proofs.lemmas.Bool.{false≢true}
 use Rattle.std.proofs.lemmas.Option.{none-some}
 use Rattle.std.proofs.lemmas.List.Elements.{All-nil, All-cons}
@@ -43,3 +45,13 @@ none_refused e test (x ∷ xs) h = none_refused_from e test x xs (test x) refl (
 pub not_false : (b : Bool) → not b ≡ false → b ≡ true
 not_false true h = refl
 not_false false h = absurd (false≢true (sym h))
+
+-- what a call that is done, and one that wants memory, owes
+pub done_due : {T : Type 0} (o : Option DerivedError) (x : T) → o ≡ None → AnswersDue o (Ok x)
+done_due o x e = subst (λ p. AnswersDue p (Ok x)) (sym e) tt
+
+pub both_none : (a b : Option DerivedError) → None ≡ a → b ≡ None → None ≡ option_or a (option_or b None)
+both_none a b e f = sym (ap (λ y. option_or y None) f) ∙ ap (λ x. option_or x (option_or b None)) e
+
+pub second_is : (a b : Option DerivedError) (e : DerivedError) → None ≡ a → b ≡ Some e → Some e ≡ option_or a (option_or b None)
+second_is a b x e f = sym (ap (λ y. option_or y None) f) ∙ ap (λ o. option_or o (option_or b None)) e

@@ -25,11 +25,8 @@ properties_at schema columns = map (λ j. slice_index_or schema j (record { name
 
 -- the numbers below n
 abbrev pub numbers : ℕ → List ℕ
-numbers n = numbers_from 0 n
-  where
-    numbers_from : ℕ → ℕ → List ℕ
-    numbers_from i zero = []
-    numbers_from i (suc n) = i ∷ numbers_from (suc i) n
+numbers zero = []
+numbers (suc n) = numbers n ++ n ∷ []
 
 -- the positions of the rows that pass a test
 pub record ArePositions (test : List Datum → Bool) (all : List (List Datum)) (positions : List ℕ) : Type 0 where

@@ -37,13 +37,13 @@ project names t = only (once names) t
 abbrev pub without : List (List ℕ) → Table → Table
 without names t = only (others t.schema names) t
 
--- the properties, of which one has another name
-abbrev pub renamed : List ℕ → List ℕ → List Attribute → List Attribute
-renamed from to schema = map (λ a. if is_named from a then record { name = to; domain = a.domain } else a) schema
+-- a property, with another name where it has the old one
+abbrev pub renamed : List ℕ → List ℕ → Attribute → Attribute
+renamed from to a = if is_named from a then record { name = to; domain = a.domain } else a
 
 -- the same rows, with a property under another name
 abbrev pub rename : List ℕ → List ℕ → Table → Table
-rename from to t = record { schema = renamed from to t.schema; rows = t.rows }
+rename from to t = record { schema = map (renamed from to) t.schema; rows = t.rows }
 
 -- each s-th element behind the first n: element n, element n + s and so on, for s above 0
 abbrev pub every : {X : Type 0} → ℕ → ℕ → List X → List X

@@ -1,0 +1,19 @@
+use Rattle.std.proofs.Common.{◌≡◌, ◌++◌, ◌∷◌, [], List, ℕ, map, take, ap, sym, ◌∙◌, subst, true, false}
+use Rattle.derived.specs.Nodes.{column_of}
+use Rattle.derived.specs.Rows.{has}
+use Rattle.derived.proofs.Names.{all_present}
+use Rattle.derived.proofs.Projections.{named_again, named_more}
+use Rattle.derived.proofs.columns.named_columns.Goals as goal
+
+pub loop-at-preserved-then-is_among : goal.loop-at-preserved-then-is_among
+loop-at-preserved-then-is_among c =
+    named_again c.args.schema.now c.args.props.now c.loop-at.at c.index-props-at.result c.loop-at.columns c.loop-at-test.true c.index-props-at.is c.loop-at.invariant (sym c.is_among.ensures ∙ c.if-is_among.true)
+
+pub column-requires : goal.column-requires
+column-requires c =
+    subst (λ n. has c.args.schema.now n ≡ true) (sym c.index-props-at.is) (all_present c.args.schema.now c.args.props.now c.requires c.loop-at.at c.index-props-at.result c.loop-at-test.true)
+
+pub loop-at-preserved : goal.loop-at-preserved
+loop-at-preserved c =
+    c.in_ok-push.ensures.ok ∙ ap (λ k. c.loop-at.columns ++ k ∷ []) c.column.ensures.value
+    ∙ named_more c.args.schema.now c.args.props.now c.loop-at.at c.index-props-at.result c.loop-at.columns c.loop-at-test.true c.index-props-at.is c.loop-at.invariant (sym c.is_among.ensures ∙ c.if-is_among.false)
