@@ -1,9 +1,12 @@
+pub mod Asking
 pub mod Cells
+pub mod Filtering
 pub mod Fitting
 pub mod Headings
 pub mod Names
 pub mod Numbers
 pub mod Projections
 pub mod Renaming
+pub mod Steps
 pub mod Tests
 pub mod Wholes

@@ -75,7 +75,7 @@ found_some schema name h =
     let p : ltb (position_or_len (is_named name) schema) (length schema) ≡ true = (Decides-ltb (position_or_len (is_named name) schema) (length schema)).1 (omega arith) in
     subst (λ b. IsSome (cond b (Some (position_or_len (is_named name) schema)) None)) (sym p) refl
 
-has_at : (schema : List Attribute) (name : List ℕ) → column_of schema name < length schema → has schema name ≡ true
+pub has_at : (schema : List Attribute) (name : List ℕ) → column_of schema name < length schema → has schema name ≡ true
 has_at [] name p = absurd (omega arith)
 has_at (a ∷ schema) name p = cases (is_named name a)
     (λ e. rw e refl)

@@ -1,5 +1,5 @@
 -- What a derived table is made of: positions and columns, which no contract speaks of.
-use Rattle.std.specs.Prelude.{◌≡◌, if◌then◌else◌, ℕ, zero, suc, Bool, filter, ◌∷◌, ◌+◌, ◌<◌, ◌≤◌, max, pos, List, [], ◌++◌, length, map, slice_index_or, All}
+use Rattle.std.specs.Prelude.{◌≡◌, take, if◌then◌else◌, ℕ, zero, suc, Bool, filter, ◌∷◌, ◌+◌, ◌<◌, ◌≤◌, max, pos, List, [], ◌++◌, length, map, slice_index_or, All}
 use Rattle.mk_value.specs.Heading.{Domain, Attribute, IsHeading}
 use Rattle.mk_value.specs.Data.{Datum, integer, AreRowsOf}
 use Rattle.mk_value.specs.Tables.{domain_at, IsComparable}
@@ -28,11 +28,11 @@ abbrev pub numbers : ℕ → List ℕ
 numbers zero = []
 numbers (suc n) = numbers n ++ n ∷ []
 
--- the positions of the rows that pass a test
-pub record ArePositions (test : List Datum → Bool) (all : List (List Datum)) (positions : List ℕ) : Type 0 where
-  pub few : length positions ≤ length all
+-- the positions of those of the first n rows that pass a test
+pub record ArePositions (test : List Datum → Bool) (all : List (List Datum)) (n : ℕ) (positions : List ℕ) : Type 0 where
+  pub few : length positions ≤ n
   pub in_range : All (λ i. i < length all) positions
-  pub rows : rows_at all positions ≡ filter test all
+  pub rows : rows_at all positions ≡ filter test (take n all)
 
 -- a criterion may be asked of rows of the schema: its property is there, and its bounds have an order with the values
 pub record IsUsable (schema : List Attribute) (b : Bounds) : Type 0 where

@@ -1,5 +1,5 @@
 -- The operators on one table, and those that put the rows of two under one another: of each the schema and the rows.
-use Rattle.std.specs.Prelude.{ℕ, suc, zero, ◌-◌, ℤ, pos, negsuc, Bool, true, false, not, if◌then◌else◌, List, [], ◌∷◌, ◌++◌, map, take, drop, filter, reverse}
+use Rattle.std.specs.Prelude.{ℕ, suc, zero, ◌-◌, ℤ, pos, negsuc, unsigned_abs, Bool, true, false, not, if◌then◌else◌, List, [], ◌∷◌, ◌++◌, map, take, drop, filter, reverse}
 use Rattle.mk_value.specs.Heading.{Attribute, names_of}
 use Rattle.mk_value.specs.Data.{Datum}
 use Rattle.mk_value.specs.Tables.{Table}
@@ -51,11 +51,7 @@ every s n [] = []
 every s zero (x ∷ xs) = x ∷ every s (s - 1) xs
 every s (suc n) (x ∷ xs) = every s n xs
 
--- a step without its sign, and whether it goes backwards
-abbrev pub magnitude : ℤ → ℕ
-magnitude (pos n) = n
-magnitude (negsuc n) = suc n
-
+-- the step goes backwards
 abbrev pub is_backwards : ℤ → Bool
 is_backwards (pos n) = false
 is_backwards (negsuc n) = true
@@ -65,7 +61,7 @@ turned_if backwards xs = if backwards then reverse xs else xs
 
 -- with s the step without its sign: rows first, first + s and so on below the limit; reversed where the step is negative
 abbrev pub slice : ℕ → ℕ → ℤ → Table → Table
-slice first limit step t = with_rows t (turned_if (is_backwards step) (every (magnitude step) first (take limit t.rows)))
+slice first limit step t = with_rows t (turned_if (is_backwards step) (every (unsigned_abs step) first (take limit t.rows)))
 
 -- the first's rows, then the second's
 abbrev pub concat : Table → Table → Table

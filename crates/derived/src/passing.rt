@@ -1,12 +1,15 @@
 //! The rows of a table that pass a test.
-ghost use Rattle.std.specs.Prelude.{◌≡◌, ◌<◌, [], All, length, slice_index_or, None, IfOk};
-ghost use Rattle.derived.specs.Criteria.{is_in_range as is_row_in_range};
+ghost use Rattle.std.specs.Prelude.{◌≡◌, ◌<◌, ◌≤◌, [], All, length, slice_index_or, None, IfOk};
+ghost use Rattle.mk_value.specs.Data.{cell};
+ghost use Rattle.mk_value.specs.Limits.{max_rows};
+ghost use Rattle.mk_value.specs.Tables.{IsComparable, domain_at};
+ghost use Rattle.derived.specs.Criteria.{is_in_range as is_row_in_range, is_within as is_value_within};
 ghost use Rattle.derived.specs.Layers.{table_of};
 ghost use Rattle.derived.specs.Nodes.{ArePositions, AreResolved};
 ghost use Rattle.derived.specs.Operators.{range, select};
 ghost use Rattle.derived.specs.Refusals.{AnswersDue, range_due};
 
-use crate::checks::check_criteria;
+use crate::checks::{check_criteria, column};
 use crate::derived::{Columns, gather};
 use crate::{Criterion, Derived, DerivedError};
 use mk_value::{Memory, Positions, Same, Schema, TableRead};
@@ -55,7 +58,7 @@ fn columns_of(alloc: Global, schema: &Schema, criteria: &[Criterion]) -> Result<
 {
     let mut columns = Columns::new(alloc);
     for criterion in criteria {
-        columns.push(schema.find(criterion.prop.as_str()).unwrap())?;
+        columns.push(column(schema, &criterion.prop))?;
     }
     Ok(columns)
 }
@@ -68,13 +71,15 @@ fn positions_in_range<T: TableRead + Same + Drop>(
     criteria: &[Criterion],
 ) -> Result<Positions, Memory>
     requires { AreResolved base.now.schema criteria.now columns.now }
-    ensures { IfOk result (ArePositions (is_row_in_range base.now.schema criteria.now) base.now.rows) }
+    ensures few { IfOk result (λ positions. length positions ≤ max_rows) }
+    ensures passing { IfOk result (ArePositions (is_row_in_range base.now.schema criteria.now) base.now.rows (length base.now.rows)) }
 {
     let mut positions = Positions::new(alloc);
     for row in 0..base.size() {
-        if is_in_range(base, columns, criteria, row) {
-            positions.push(row as u32)?;
+        if !is_in_range(base, columns, criteria, row) {
+            continue;
         }
+        positions.push(row as u32)?;
     }
     Ok(positions)
 }
@@ -93,12 +98,26 @@ fn is_in_range<T: TableRead + Same + Drop>(
     let columns = columns.as_slice();
     for at in 0..criteria.len() {
         let criterion = &criteria[at];
-        let col = columns[at];
-        if base.cmp_cell(row, col, &criterion.low).is_lt()
-            || base.cmp_cell(row, col, &criterion.high).is_gt()
-        {
+        if !is_within(base, row, columns[at], criterion) {
             return false;
         }
     }
     true
+}
+
+/// Whether a value lies within the bounds of a criterion.
+fn is_within<T: TableRead + Same + Drop>(
+    base: &Derived<T>,
+    row: usize,
+    col: usize,
+    criterion: &Criterion,
+) -> bool
+    requires row_in { row < length base.now.rows }
+    requires col_in { col < length base.now.schema }
+    requires low { IsComparable criterion.now.low (domain_at base.now.schema col) }
+    requires high { IsComparable criterion.now.high (domain_at base.now.schema col) }
+    ensures { result ≡ is_value_within criterion.now (cell base.now.rows row col) }
+{
+    base.cmp_cell(row, col, &criterion.low).is_ge()
+        && base.cmp_cell(row, col, &criterion.high).is_le()
 }

@@ -1,6 +1,7 @@
 //! The rows of one table under those of another.
 ghost use Rattle.std.specs.Prelude.{◌≡◌, ◌<◌, [], length, slice_index_or, IfOk};
 ghost use Rattle.std.specs.Result.{result_err};
+ghost use Rattle.mk_value.specs.Data.{AreRowsOf};
 ghost use Rattle.derived.specs.Layers.{table_of};
 ghost use Rattle.derived.specs.Operators.{concat};
 ghost use Rattle.derived.specs.Refusals.{AnswersDue, concat_due};
@@ -49,7 +50,8 @@ pub fn copy_rows<T: TableRead + Same + Drop>(
     alloc: Global,
     table: &Derived<T>,
 ) -> Result<Rows, Memory>
-    ensures { IfOk result (λ rows. rows ≡ table.now.rows) }
+    ensures value { IfOk result (λ rows. rows ≡ table.now.rows) }
+    ensures whole { IfOk result (λ rows. AreRowsOf rows table.now.schema) }
 {
     let mut rows = Rows::new(alloc);
     for row in 0..table.size() {
@@ -67,6 +69,7 @@ pub fn copy_row<T: TableRead + Same + Drop>(
     requires { row < length table.now.rows }
     ensures { IfOk result (λ copy. copy ≡ slice_index_or table.now.rows row []) }
 {
+    let _size = table.size();
     let mut copy = Row::new(alloc);
     for col in 0..table.schema().len() {
         copy.push(table.get(row, col)?)?;
