@@ -1,5 +1,5 @@
 -- What an index of rows tells of them.
-use Rattle.std.specs.Prelude.{◌≡◌, ℕ, zero, suc, ◌+◌, ◌-◌, ◌<◌, Bool, true, not, ◌||◌, ◌==◌, if◌then◌else◌, List, [], ◌∷◌, ◌++◌, length, map, filter, slice_index, slice_index_or, All, Contains}
+use Rattle.std.specs.Prelude.{◌≡◌, ℕ, zero, suc, ◌<◌, Bool, true, not, if◌then◌else◌, List, [], ◌∷◌, ◌++◌, length, map, filter, slice_index, slice_index_or, All, Contains}
 use Rattle.std.specs.declared.cmp.Ordering.{Ordering}
 use Rattle.std.specs.declared.cmp.Ordering.TheVariants.{Less}
 use Rattle.std.specs.Ordering.{nat_cmp, ordering_then, is_lt}
@@ -37,10 +37,11 @@ pub record IsOrderOf (rows : List (List Datum)) (order : List ℕ) : Type 0 wher
   pub complete : (i : ℕ) → i < length rows → Contains order i
   pub ascending : AllPairs (λ i j. entry_cmp rows i j ≡ Less) order
 
--- a group begins at this place of the order: no row before it is the same
+-- a group begins at this place of the order: the row before it is another
 abbrev pub is_start : List (List Datum) → List ℕ → ℕ → Bool
-is_start rows order k =
-    (k == 0) || not (same_row (slice_index_or rows (slice_index order (k - 1)) []) (slice_index_or rows (slice_index order k) []))
+is_start rows order zero = true
+is_start rows order (suc k) =
+    not (same_row (slice_index_or rows (slice_index order k) []) (slice_index_or rows (slice_index order (suc k)) []))
 
 -- the places below n at which a group begins
 abbrev pub starts_below : List (List Datum) → List ℕ → ℕ → List ℕ
@@ -55,3 +56,8 @@ pub record IsIndexOf (rows : List (List Datum)) (order starts : List ℕ) : Type
 -- the number of distinct rows that are less than this one
 abbrev pub keys_less : List (List Datum) → List Datum → ℕ
 keys_less rows row = length (filter (λ key. is_lt (whole_row_cmp key row)) (keys_of rows))
+
+-- the numbers below n
+abbrev pub numbers : ℕ → List ℕ
+numbers zero = []
+numbers (suc n) = 0 ∷ map suc (numbers n)

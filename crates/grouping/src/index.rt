@@ -1,8 +1,8 @@
 //! An index of rows by their whole values.
-ghost use Rattle.std.specs.Prelude.{◌≡◌, ◌<◌, ◌≤◌, [], length, slice_index_or, IfOk};
+ghost use Rattle.std.specs.Prelude.{◌≡◌, ◌<◌, ◌≤◌, [], All, length, map, slice_index_or, IfOk};
 ghost use Rattle.mk_value.specs.Limits.{max_rows};
 ghost use Rattle.derived.specs.Equality.{is_row_among};
-ghost use Rattle.grouping.specs.Index.{IsOrderOf, first_positions, is_start, keys_less, keys_of, positions_of, starts_below};
+ghost use Rattle.grouping.specs.Index.{IsOrderOf, first_positions, is_start, keys_less, keys_of, numbers, positions_of, starts_below};
 
 use crate::entry::Entry;
 use crate::order::cmp_whole_row;
@@ -56,7 +56,7 @@ impl RowIndex {
         ensures { result.now ≡ positions_of self.now row.now }
     {
         let group = self.search(row);
-        if group < self.starts.len() && cmp_whole_row(self.key(group), row).is_eq() {
+        if group < self.groups() && cmp_whole_row(self.key(group), row).is_eq() {
             self.group(group)
         } else {
             &[]
@@ -68,7 +68,7 @@ impl RowIndex {
         ensures { result ≡ is_row_among self.now row.now }
     {
         let group = self.search(row);
-        group < self.starts.len() && cmp_whole_row(self.key(group), row).is_eq()
+        group < self.groups() && cmp_whole_row(self.key(group), row).is_eq()
     }
 
     /// The number of groups.
@@ -150,6 +150,8 @@ fn order_of(alloc: Global, rows: &Rows) -> Result<Vec<u32>, Memory>
 /// The rows with their positions.
 fn entries_of<'a>(alloc: Global, rows: &'a Rows) -> Result<Vec<Entry<'a>>, Memory>
     requires { length rows.now ≤ max_rows }
+    ensures numbers { IfOk result (λ entries. map (λ e. e.at) entries.items ≡ numbers (length rows.now)) }
+    ensures rows { IfOk result (λ entries. All (λ e. e.row.now ≡ slice_index_or rows.now e.at []) entries.items) }
 {
     let mut entries = Vec::new(alloc);
     for (at, row) in rows.as_slice().iter().enumerate() {
