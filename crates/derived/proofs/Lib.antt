@@ -7,6 +7,7 @@ pub mod Names
 pub mod Numbers
 pub mod Projections
 pub mod Renaming
+pub mod SameSchemas
 pub mod Steps
 pub mod Tests
 pub mod Wholes

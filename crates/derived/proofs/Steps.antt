@@ -1,10 +1,11 @@
 -- Every s-th element.
-use Rattle.std.proofs.Common.{◌≡◌, ℕ, zero, suc, ◌+◌, ◌-◌, ◌<◌, ◌≤◌, min, List, [], ◌∷◌, ◌++◌, length, get_or, map, take, drop, reverse, All, Bool, true, false, refl, ap, sym, subst, ◌∙◌, arith, drop-cons, add-one}
+use Rattle.std.proofs.Common.{◌≡◌, ℕ, zero, suc, ◌+◌, ◌-◌, ◌<◌, ◌≤◌, min, List, [], ◌∷◌, ◌++◌, length, get_or, map, take, drop, reverse, All, Bool, true, false, ℤ, pos, negsuc, refl, ap, sym, subst, ◌∙◌, arith, drop-cons, add-one}
 use Rattle.std.proofs.lemmas.List.{drop-drop, drop_all, drop_more, append-nil, append_assoc, take_min, map-append, reverse-append, length-reverse}
 use Rattle.std.proofs.lemmas.List.Sorted.{All-permutation, IsPermutation-reverse}
 use Rattle.std.proofs.lemmas.List.Elements.{All-nil, All-cons, All-head, All-tail, All-weaker}
 use Rattle.derived.specs.Nodes.{numbers}
 use Rattle.derived.specs.Operators.{every, turned_if}
+use Rattle.derived.specs.Refusals.{is_zero}
 use Rattle.derived.specs.Rows.{rows_at}
 use Rattle.mk_value.specs.Data.{Datum}
 use Rattle.derived.proofs.Numbers.{numbers_at, numbers_below, length-numbers, all_places}
@@ -87,3 +88,8 @@ slice_few first limit s n backwards positions e =
     let f = length_every s first (numbers (min limit n)) in
     let m = length-numbers (min limit n) in
     omega arith
+
+pub not_zero : (step : ℤ) → (step ≡ pos 0 → ⊥) → is_zero step ≡ false
+not_zero (pos zero) h = absurd (h refl)
+not_zero (pos (suc n)) h = refl
+not_zero (negsuc n) h = refl
