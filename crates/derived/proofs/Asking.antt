@@ -1,16 +1,15 @@
 -- Criteria of which none is refused may be asked.
-use Rattle.std.proofs.Common.{◌≡◌, ℕ, zero, suc, ◌+◌, ◌<◌, ◌≤◌, pos, Bool, true, false, not, cond, ◌&&◌, List, [], ◌∷◌, length, get_or, map, take, drop, All, Option, Some, None, refl, ap, sym, subst, ◌∙◌, arith}
+use Rattle.std.proofs.Common.{◌≡◌, ℕ, ◌+◌, ◌<◌, pos, Bool, true, false, not, ◌&&◌, List, [], ◌∷◌, length, get_or, map, drop, All, Option, Some, None, refl, ap, sym, subst, ◌∙◌}
 use Rattle.std.specs.declared.cmp.Ordering.{Ordering}
 use Rattle.std.specs.declared.cmp.Ordering.TheVariants.{Less, Equal, Greater}
 use Rattle.std.specs.Ordering.{is_ge, is_le, is_eq}
-use Rattle.std.specs.List.{list_all}
 use Rattle.std.specs.Option.{option_or}
 use Rattle.std.proofs.lemmas.Bool.{false≢true}
 use Rattle.std.proofs.lemmas.Option.{none-some}
 use Rattle.std.proofs.lemmas.List.{get_or-map, length-map}
 use Rattle.std.proofs.lemmas.List.Elements.{All-head, All-tail, filter_agree}
 use Rattle.mk_value.specs.Heading.{Domain, Attribute}
-use Rattle.mk_value.specs.Data.{Datum, integer, IsOf, cell}
+use Rattle.mk_value.specs.Data.{Datum, integer, cell}
 use Rattle.mk_value.specs.Order.{value_cmp}
 use Rattle.mk_value.specs.Tables.{Table, domain_at, IsPlainDomain, IsComparable}
 use Rattle.mk_value.proofs.Walks.{drop_read, same_default}
@@ -25,7 +24,7 @@ use Rattle.derived.specs.Rows.{has, domain_of, value_of}
 use Rattle.derived.proofs.Cells.{comparable}
 use Rattle.derived.proofs.Fitting.{fitting}
 use Rattle.derived.proofs.Names.{column_in, has_at, item_present, item_plain, property_at_column, value_at_column}
-use Rattle.derived.proofs.Tests.{none_refused, not_false}
+use Rattle.derived.proofs.Faults.{none_refused, not_false}
 
 pub first_none : (a b : Option DerivedError) → option_or a b ≡ None → a ≡ None
 first_none None b h = refl

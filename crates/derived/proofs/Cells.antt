@@ -1,11 +1,10 @@
 -- The cells of tables that are made of others.
-use Rattle.std.proofs.Common.{◌≡◌, ℕ, zero, suc, ◌+◌, ◌-◌, ◌<◌, ◌≤◌, pos, List, [], ◌∷◌, ◌++◌, length, get_or, map, All, refl, ap, sym, subst, ◌∙◌, arith}
+use Rattle.std.proofs.Common.{◌≡◌, ℕ, zero, suc, ◌-◌, ◌<◌, ◌≤◌, pos, List, [], ◌∷◌, ◌++◌, length, get_or, map, refl, ap, sym, ◌∙◌, arith}
 use Rattle.std.proofs.lemmas.List.{length-map, length-append, get_or-map, get_or_append_left, get_or-append_right}
 use Rattle.mk_value.specs.Heading.{Domain, Attribute}
 use Rattle.mk_value.specs.Data.{Datum, integer, AreRowsOf, IsRowOf, IsOf, cell}
 use Rattle.mk_value.specs.Tables.{domain_at, IsPlainDomain, IsComparable}
 use Rattle.mk_value.proofs.Relations.{row_fits_length}
-use Rattle.mk_value.proofs.Walks.{same_default}
 use Rattle.derived.specs.Joining.{zipped}
 use Rattle.derived.specs.Layers.{Layered}
 use Rattle.derived.specs.Nodes.{AreBeside, AreColumns, values_at}

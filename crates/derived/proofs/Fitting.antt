@@ -1,5 +1,5 @@
 -- The test whether a value fits a property that is no view tells just that.
-use Rattle.std.proofs.Common.{◌≡◌, ◌≢◌, ◌↔◌, ℕ, ◌<◌, ◌≤◌, ◌^◌, ℤ, pos, negsuc, Bool, true, false, not, leb, eqb, IsTrue, List, [], length, All, refl, ap, sym, ◌∙◌, arith, ◌&&◌}
+use Rattle.std.proofs.Common.{◌≡◌, ◌≢◌, ◌↔◌, ℕ, ◌≤◌, ◌^◌, ℤ, pos, negsuc, Bool, true, false, not, leb, eqb, IsTrue, List, length, All, refl, ap, sym, ◌∙◌, arith, ◌&&◌}
 use Rattle.std.specs.Bool.{Decides}
 use Rattle.std.specs.Int.{w32, w64}
 use Rattle.std.specs.Prelude.{FitsSigned}

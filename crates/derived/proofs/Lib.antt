@@ -1,5 +1,6 @@
 pub mod Asking
 pub mod Cells
+pub mod Faults
 pub mod Filtering
 pub mod Fitting
 pub mod Headings
@@ -9,5 +10,4 @@ pub mod Projections
 pub mod Renaming
 pub mod SameSchemas
 pub mod Steps
-pub mod Tests
 pub mod Wholes

@@ -1,31 +1,19 @@
 -- Properties by name and by column.
-use Rattle.std.proofs.Common.{◌≡◌, ◌≢◌, ℕ, zero, suc, ◌+◌, ◌<◌, ◌≤◌, max, pos, Bool, true, false, not, cond, ltb, List, [], ◌∷◌, ◌++◌, length, get_or, map, take, drop, All, Option, Some, None, refl, ap, sym, subst, ◌∙◌, arith}
+use Rattle.std.proofs.Common.{◌≡◌, ℕ, suc, ◌<◌, pos, Bool, true, false, not, cond, ltb, List, [], ◌∷◌, length, get_or, map, All, Some, None, refl, ap, sym, subst, ◌∙◌, arith}
 use Rattle.std.specs.Prelude.{IsSome}
-use Rattle.std.specs.List.{filter, list_any, position_or_len, IsDistinct, AllPairs}
-use Rattle.std.specs.Cmp.Lexicographic.{same_text, nat_list_eq_equiv, bytes_decides}
+use Rattle.std.specs.List.{position_or_len}
+use Rattle.std.specs.Cmp.Lexicographic.{same_text}
 use Rattle.std.proofs.lemmas.Bool.{false≢true}
-use Rattle.std.proofs.lemmas.Bool.Decides.{nat_tests, Decides-ltb}
-use Rattle.std.proofs.lemmas.Option.{none-some, same_Some}
+use Rattle.std.proofs.lemmas.Bool.Decides.{Decides-ltb}
 use Rattle.std.proofs.lemmas.List.{length-map, get_or-map}
-use Rattle.std.proofs.lemmas.List.Elements.{All-head, All-tail, All-cons, All-map}
-use Rattle.std.proofs.lemmas.List.Quantifiers.{position-Some}
-use Rattle.std.proofs.lemmas.Map.Made.{AllPairs-from_IsDistinct, length-le_from_is_member}
-use Rattle.mk_value.specs.Limits.{max_properties, max_depth}
-use Rattle.mk_value.specs.Names.{IsName, same_bytes}
-use Rattle.mk_value.specs.Heading.{Domain, Attribute, heading_of, names_of, domain_depth, heading_depth, depth_of, find, IsAttribute, IsDomain, IsHeading, IsWithinLimits, HaveDistinctNames}
-use Rattle.mk_value.specs.Data.{Datum, integer, IsRowOf}
-use Rattle.mk_value.specs.Tables.{domain_at}
-use Rattle.derived.specs.Nodes.{column_of, properties_at, values_at, AreColumns}
+use Rattle.mk_value.specs.Heading.{Attribute, find}
+use Rattle.mk_value.specs.Data.{Datum, integer}
+use Rattle.derived.specs.Nodes.{column_of}
 use Rattle.derived.specs.Refusals.{absent, a_view}
 use Rattle.derived.specs.declared.error.DerivedError.TheVariants.{NoProp, KeyIsView}
-use Rattle.derived.proofs.Tests.{none_refused, not_false}
+use Rattle.derived.proofs.Faults.{cases, none_refused, not_false}
 use Rattle.derived.specs.Fitting.{is_view}
-use Rattle.derived.specs.Rows.{is_named, has, domain_of, value_of, values_of, properties_of}
-
--- a test that holds or not
-cases : {P : Type 0} (b : Bool) → (b ≡ true → P) → (b ≡ false → P) → P
-cases true f g = f refl
-cases false f g = g refl
+use Rattle.derived.specs.Rows.{is_named, has, domain_of, value_of}
 
 pub column_in : (schema : List Attribute) (name : List ℕ) → has schema name ≡ true → column_of schema name < length schema
 column_in [] name h = absurd (false≢true h)

@@ -1,17 +1,16 @@
 -- The columns of named properties, and what they show.
-use Rattle.std.proofs.Common.{◌≡◌, ℕ, zero, suc, ◌+◌, ◌<◌, ◌≤◌, pos, Bool, true, false, not, cond, ◌||◌, List, [], ◌∷◌, ◌++◌, length, get_or, map, take, drop, All, Option, Some, None, refl, ap, sym, subst, ◌∙◌, arith, add-one}
+use Rattle.std.proofs.Common.{◌≡◌, ℕ, ◌+◌, ◌<◌, Bool, true, false, not, cond, ◌||◌, List, [], ◌∷◌, ◌++◌, length, get_or, map, take, All, Option, Some, None, refl, ap, sym, subst, ◌∙◌, arith}
 use Rattle.std.specs.List.{filter, list_any, slice_get}
 use Rattle.std.proofs.lemmas.Bool.{false≢true}
-use Rattle.std.proofs.lemmas.List.{length-map, get_or-map, map-append, take_more, append-nil}
+use Rattle.std.proofs.lemmas.List.{map-append, take_more, append-nil}
 use Rattle.std.proofs.lemmas.List.Elements.{All-head, All-tail, All-map, All-weaker, filter-append}
-use Rattle.std.proofs.lemmas.List.Folds.{list_any-append}
 use Rattle.mk_value.specs.Names.{same_bytes}
 use Rattle.mk_value.specs.Heading.{Domain, Attribute, names_of, HaveDistinctNames, IsHeading}
-use Rattle.mk_value.specs.Data.{Datum, integer}
+use Rattle.mk_value.specs.Data.{Datum}
 use Rattle.mk_value.specs.Tables.{Table, domain_at}
-use Rattle.derived.specs.Nodes.{column_of, properties_at, values_at, numbers, AreColumns}
+use Rattle.derived.specs.Nodes.{column_of, properties_at, values_at, AreColumns}
 use Rattle.derived.specs.Operators.{only}
-use Rattle.derived.specs.Rows.{has, is_among, once, others, properties_of, value_of, values_of}
+use Rattle.derived.specs.Rows.{has, is_among, once, others, properties_of, values_of}
 use Rattle.derived.specs.Refusals.{absent, none_left, without_due}
 use Rattle.derived.specs.declared.error.DerivedError.{DerivedError}
 use Rattle.derived.specs.declared.error.DerivedError.TheVariants.{NoProp}

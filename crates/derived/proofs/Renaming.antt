@@ -1,11 +1,11 @@
 -- A schema with a property under another name, and its rows.
-use Rattle.std.proofs.Common.{◌≡◌, ◌≢◌, ℕ, zero, suc, ◌+◌, ◌<◌, ◌≤◌, max, pos, Bool, true, false, not, cond, ◌&&◌, List, [], ◌∷◌, ◌++◌, length, get_or, map, take, All, Option, Some, None, refl, ap, sym, subst, ◌∙◌, arith}
+use Rattle.std.proofs.Common.{◌≡◌, ◌≢◌, ℕ, ◌<◌, max, pos, Bool, true, false, not, cond, ◌&&◌, List, [], ◌∷◌, length, get_or, map, All, Option, Some, None, refl, ap, sym, subst, ◌∙◌, arith}
 use Rattle.std.specs.List.{list_any}
 use Rattle.std.specs.Option.{option_or}
 use Rattle.std.specs.Cmp.Lexicographic.{same_text, nat_list_eq_equiv}
 use Rattle.std.proofs.lemmas.Bool.{false≢true}
 use Rattle.std.proofs.lemmas.Option.{none-some}
-use Rattle.std.proofs.lemmas.List.{length-map, get_or-map, take_all, map-id}
+use Rattle.std.proofs.lemmas.List.{length-map, get_or-map, take_all}
 use Rattle.std.proofs.lemmas.List.Elements.{All-weaker}
 use Rattle.std.proofs.lemmas.List.Folds.{list_any_at, map_fixed}
 use Rattle.mk_value.specs.Names.{same_bytes}
@@ -16,13 +16,10 @@ use Rattle.mk_value.proofs.Relations.{row_fits_length}
 use Rattle.derived.specs.declared.error.DerivedError.{DerivedError}
 use Rattle.derived.specs.Nodes.{numbers, values_at, AreColumns}
 use Rattle.derived.specs.Operators.{rename, renamed}
-use Rattle.derived.specs.Refusals.{absent, rename_due}
+use Rattle.derived.specs.Refusals.{rename_due}
 use Rattle.derived.specs.Rows.{is_named}
+use Rattle.derived.proofs.Faults.{cases}
 use Rattle.derived.proofs.Numbers.{places, all_places, numbers_below}
-
-cases : {P : Type 0} (b : Bool) → (b ≡ true → P) → (b ≡ false → P) → P
-cases true f g = f refl
-cases false f g = g refl
 
 same_true : (xs ys : List ℕ) → xs ≡ ys → same_bytes xs ys ≡ true
 same_true xs ys e = subst (λ zs. same_bytes xs zs ≡ true) e (nat_list_eq_equiv.refl xs)

@@ -1,5 +1,5 @@
 -- The test whether two schemas are the same tells just that.
-use Rattle.std.proofs.Common.{◌≡◌, ◌↔◌, ℕ, ◌+◌, ◌<◌, ◌≤◌, Bool, true, false, not, cond, ◌&&◌, ltb, List, [], ◌∷◌, ◌++◌, length, Option, Some, None, IsTrue, refl, ap, sym, subst, ◌∙◌, arith}
+use Rattle.std.proofs.Common.{◌≡◌, ◌↔◌, ℕ, ◌+◌, ◌<◌, ◌≤◌, Bool, true, false, not, cond, ◌&&◌, ltb, List, ◌++◌, length, Some, None, IsTrue, refl, ap, sym, ◌∙◌, arith}
 use Rattle.std.specs.Bool.{Decides}
 use Rattle.std.specs.Option.{option_or}
 use Rattle.std.specs.Cmp.Lexicographic.{pointwise_decides, bytes_decides}
@@ -11,7 +11,6 @@ use Rattle.mk_value.specs.Limits.{max_rows}
 use Rattle.mk_value.specs.Names.{same_bytes}
 use Rattle.mk_value.specs.Heading.{Domain, Heading, no_attributes, attribute, Attribute}
 use Rattle.mk_value.specs.Tables.{Table}
-use Rattle.derived.specs.declared.error.DerivedError.{DerivedError}
 use Rattle.derived.specs.declared.error.DerivedError.TheVariants.{OtherSchema, TooManyRows}
 use Rattle.derived.specs.Equality.{same_domain, same_heading, same_schema}
 use Rattle.derived.specs.Refusals.{concat_due}

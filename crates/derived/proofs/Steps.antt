@@ -1,8 +1,8 @@
 -- Every s-th element.
-use Rattle.std.proofs.Common.{◌≡◌, ℕ, zero, suc, ◌+◌, ◌-◌, ◌<◌, ◌≤◌, min, List, [], ◌∷◌, ◌++◌, length, get_or, map, take, drop, reverse, All, Bool, true, false, ℤ, pos, negsuc, refl, ap, sym, subst, ◌∙◌, arith, drop-cons, add-one}
+use Rattle.std.proofs.Common.{◌≡◌, ℕ, zero, suc, ◌+◌, ◌-◌, ◌<◌, ◌≤◌, min, List, [], ◌∷◌, ◌++◌, length, get_or, map, take, drop, reverse, All, Bool, true, false, ℤ, pos, negsuc, refl, ap, sym, subst, ◌∙◌, arith}
 use Rattle.std.proofs.lemmas.List.{drop-drop, drop_all, drop_more, append-nil, append_assoc, take_min, map-append, reverse-append, length-reverse}
 use Rattle.std.proofs.lemmas.List.Sorted.{All-permutation, IsPermutation-reverse}
-use Rattle.std.proofs.lemmas.List.Elements.{All-nil, All-cons, All-head, All-tail, All-weaker}
+use Rattle.std.proofs.lemmas.List.Elements.{All-cons, All-head, All-tail, All-weaker}
 use Rattle.derived.specs.Nodes.{numbers}
 use Rattle.derived.specs.Operators.{every, turned_if}
 use Rattle.derived.specs.Refusals.{is_zero}

@@ -1,9 +1,8 @@
 -- Groups: one row for each distinct key, ascending by key.
 use Rattle.std.specs.Prelude.{ℕ, pos, false, List, [], ◌∷◌, ◌++◌, length, map, filter}
-use Rattle.mk_value.specs.Heading.{Domain, Attribute, heading_of}
+use Rattle.mk_value.specs.Heading.{Domain, heading_of}
 use Rattle.mk_value.specs.Data.{Datum, integer, relation, relation_of}
 use Rattle.mk_value.specs.Tables.{Table}
-use Rattle.derived.specs.declared.criteria.Key.{Key}
 use Rattle.derived.specs.Equality.{same_row}
 use Rattle.derived.specs.Operators.{distinct}
 use Rattle.derived.specs.Rows.{once, others, properties_of, values_of}

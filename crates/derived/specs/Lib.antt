@@ -4,8 +4,8 @@ pub mod Fitting
 pub mod Grouping
 pub mod Joining
 pub mod Layers
-pub mod Nodes
 pub mod NodeFalls
+pub mod Nodes
 pub mod Operators
 pub mod Refusals
 pub mod Rows

@@ -1,5 +1,5 @@
 -- Each derived table inside another has fewer layers, so that going down into them ends.
-use Rattle.std.specs.Prelude.{◌≡◌, ◌+◌, ◌≤◌, List, refl}
+use Rattle.std.specs.Prelude.{◌≤◌}
 use Rattle.std.proofs.Common.{arith}
 use Rattle.mk_value.specs.declared.table.TableRead.{Ghosts}
 use Rattle.derived.specs.declared.derived.Node.{Node}

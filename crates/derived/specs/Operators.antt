@@ -1,6 +1,6 @@
 -- The operators on one table, and those that put the rows of two under one another: of each the schema and the rows.
-use Rattle.std.specs.Prelude.{ℕ, suc, zero, ◌-◌, ℤ, pos, negsuc, unsigned_abs, Bool, true, false, not, if◌then◌else◌, List, [], ◌∷◌, ◌++◌, map, take, drop, filter, reverse}
-use Rattle.mk_value.specs.Heading.{Attribute, names_of}
+use Rattle.std.specs.Prelude.{ℕ, suc, zero, ◌-◌, ℤ, pos, negsuc, unsigned_abs, Bool, true, false, not, if◌then◌else◌, List, [], ◌∷◌, ◌++◌, map, take, filter, reverse}
+use Rattle.mk_value.specs.Heading.{Attribute}
 use Rattle.mk_value.specs.Data.{Datum}
 use Rattle.mk_value.specs.Tables.{Table}
 use Rattle.derived.specs.declared.criteria.Key.{Key}

@@ -1,12 +1,11 @@
 -- Refusals: what an operator is due to answer. Within one operator they are tested in this order: a name that is taken, a property
 -- that is absent, a view where none may be, a value or a kind that does not fit, another schema, a step of 0, too many properties,
 -- too deep a schema, too many rows. Where several properties give one of them, the first that is named decides.
-use Rattle.std.specs.Prelude.{◌≡◌, ℕ, ◌+◌, ℤ, pos, negsuc, zero, Bool, true, false, not, ◌&&◌, ◌||◌, nat_lt, if◌then◌else◌, List, [], ◌∷◌, ◌++◌, length, map, slice_index_or, find, Option, Some, None, Result, Ok, Err, IfErr}
+use Rattle.std.specs.Prelude.{◌≡◌, ℕ, ℤ, pos, zero, Bool, true, false, not, ◌&&◌, ◌||◌, nat_lt, if◌then◌else◌, List, [], ◌∷◌, length, map, slice_index_or, find, Option, Some, None, Result, Err, IfErr}
 use Rattle.std.specs.Option.{option_or, option_map}
 use Rattle.std.specs.List.{list_any}
 use Rattle.mk_value.specs.Limits.{max_properties, max_depth, max_rows}
-use Rattle.mk_value.specs.Heading.{Domain, Attribute, depth_of}
-use Rattle.mk_value.specs.Data.{Datum}
+use Rattle.mk_value.specs.Heading.{Attribute, depth_of}
 use Rattle.mk_value.specs.Tables.{Table}
 use Rattle.derived.specs.declared.error.DerivedError.{DerivedError}
 use Rattle.derived.specs.declared.error.DerivedError.TheVariants.{NoProp, WrongKind, KeyIsView, NameTaken, OtherSchema, ZeroStep, TooManyRows, TooWide, TooDeep, Memory}

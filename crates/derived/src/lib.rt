@@ -19,6 +19,8 @@ mod error;
 mod passing;
 mod slicing;
 mod stacking;
+#[cfg(test)]
+mod tests;
 
 pub use columns::{project, rename, without};
 pub use criteria::{Criterion, Key};

@@ -1,4 +1,4 @@
-use Rattle.std.proofs.Common.{◌≡◌, map, drop}
+use Rattle.std.proofs.Common.{◌≡◌, drop}
 use Rattle.derived.specs.Refusals.{unfit}
 use Rattle.derived.proofs.checks.check_bounds.Given as goal
 

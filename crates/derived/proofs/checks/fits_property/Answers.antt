@@ -1,4 +1,4 @@
-use Rattle.std.proofs.Common.{Bool, true, false, ◌&&◌, ap, sym, ◌∙◌}
+use Rattle.std.proofs.Common.{◌&&◌, ap, sym, ◌∙◌}
 use Rattle.mk_value.specs.Kinds.{domain_of}
 use Rattle.mk_value.specs.Values.{datum_of}
 use Rattle.derived.specs.Criteria.{Bounds}

@@ -1,4 +1,4 @@
-use Rattle.std.proofs.Common.{◌≡◌, map, take}
+use Rattle.std.proofs.Common.{◌≡◌}
 use Rattle.derived.specs.Nodes.{numbers}
 use Rattle.derived.proofs.columns.all_columns.Given as goal
 

@@ -1,5 +1,4 @@
-use Rattle.std.proofs.Common.{◌≡◌, ◌++◌, ◌∷◌, [], List, ℕ, map, take, ap, sym, ◌∙◌, subst, true, false}
-use Rattle.derived.specs.Nodes.{column_of}
+use Rattle.std.proofs.Common.{◌≡◌, ◌++◌, ◌∷◌, [], ap, sym, ◌∙◌, subst, true}
 use Rattle.derived.specs.Rows.{has}
 use Rattle.derived.proofs.Names.{all_present}
 use Rattle.derived.proofs.Projections.{named_again, named_more}

@@ -1,6 +1,6 @@
-use Rattle.std.proofs.Common.{◌≡◌, length, map, ap, sym, subst, ◌∙◌, arith}
+use Rattle.std.proofs.Common.{length, map, ap, sym, subst, ◌∙◌, arith}
 use Rattle.std.proofs.lemmas.List.{take_all}
-use Rattle.mk_value.specs.Heading.{Attribute, IsWithinLimits}
+use Rattle.mk_value.specs.Heading.{IsWithinLimits}
 use Rattle.derived.specs.Operators.{renamed}
 use Rattle.derived.proofs.Renaming.{renamed_limits}
 use Rattle.derived.proofs.columns.renamed_schema.Goals as goal

@@ -1,6 +1,6 @@
-use Rattle.std.proofs.Common.{length, ap, subst, ◌∙◌, sym, arith, rules}
+use Rattle.std.proofs.Common.{length, ap, subst, sym, arith}
 use Rattle.std.proofs.lemmas.List.{length-map}
-use Rattle.mk_value.specs.Data.{Datum, IsOf}
+use Rattle.mk_value.specs.Data.{IsOf}
 use Rattle.mk_value.specs.Tables.{domain_at}
 use Rattle.mk_value.specs.Values.{datum_of}
 use Rattle.mk_value.proofs.Cells.{column_in, cell_read}

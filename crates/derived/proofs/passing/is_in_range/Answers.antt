@@ -1,4 +1,4 @@
-use Rattle.std.proofs.Common.{◌≡◌, ℕ, List, get_or, ap, sym, ◌∙◌}
+use Rattle.std.proofs.Common.{get_or, ap, sym, ◌∙◌}
 use Rattle.derived.proofs.Asking.{within, outside}
 use Rattle.derived.proofs.passing.is_in_range.Goals as goal
 

@@ -1,4 +1,4 @@
-use Rattle.std.proofs.Common.{◌≡◌, ℕ, ◌+◌, ◌++◌, ◌∷◌, [], List, length, sym, subst, ◌∙◌, arith}
+use Rattle.std.proofs.Common.{◌≡◌, ◌+◌, length, sym, subst, ◌∙◌, arith}
 use Rattle.derived.specs.Criteria.{is_in_range}
 use Rattle.derived.specs.Nodes.{ArePositions}
 use Rattle.derived.proofs.Filtering.{skipped, taken}

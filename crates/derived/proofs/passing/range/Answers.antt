@@ -1,12 +1,11 @@
-use Rattle.std.proofs.Common.{◌≡◌, ℕ, List, None, ap, sym, subst, ◌∙◌}
+use Rattle.std.proofs.Common.{List, ap, sym, subst, ◌∙◌}
 use Rattle.mk_value.specs.Data.{Datum}
 use Rattle.mk_value.specs.Heading.{Attribute}
 use Rattle.derived.specs.Criteria.{is_in_range}
-use Rattle.derived.specs.Layers.{table_of}
 use Rattle.derived.specs.Nodes.{AreResolved}
 use Rattle.derived.specs.Refusals.{range_due}
 use Rattle.derived.proofs.Filtering.{passed_rows}
-use Rattle.derived.proofs.Tests.{done_due}
+use Rattle.derived.proofs.Faults.{done_due}
 use Rattle.derived.proofs.passing.range.Goals as goal
 
 pub positions_in_range-requires : goal.positions_in_range-requires

@@ -1,4 +1,4 @@
-use Rattle.std.proofs.Common.{◌≡◌, ℕ, List, ◌≤◌, length, min, cond, Some, None, ap, sym, ◌∙◌, arith}
+use Rattle.std.proofs.Common.{List, length, min, cond, Some, None, ap, ◌∙◌, arith}
 use Rattle.std.specs.Int.{w64, cast_unsigned}
 use Rattle.std.specs.Prelude.{unsigned_abs}
 use Rattle.std.proofs.lemmas.Int.{to_z-of_z}
@@ -9,7 +9,7 @@ use Rattle.derived.specs.Operators.{every, is_backwards, turned_if}
 use Rattle.derived.specs.Refusals.{is_zero, slice_due}
 use Rattle.derived.specs.Rows.{rows_at}
 use Rattle.derived.proofs.Steps.{not_zero, slice_rows, slice_in, slice_few}
-use Rattle.derived.proofs.Tests.{done_due}
+use Rattle.derived.proofs.Faults.{done_due}
 use Rattle.derived.proofs.slicing.slice.Goals as goal
 
 pub positions_at_steps-requires : goal.positions_at_steps-requires

@@ -1,4 +1,4 @@
-use Rattle.std.proofs.Common.{◌≡◌, ℕ, List, ◌++◌, ◌+◌, drop, ap, sym, ◌∙◌}
+use Rattle.std.proofs.Common.{ℕ, List, ◌++◌, ◌+◌, drop, ap, sym, ◌∙◌}
 use Rattle.derived.specs.Nodes.{numbers}
 use Rattle.derived.specs.Operators.{every}
 use Rattle.derived.proofs.Steps.{every_from, steps_more, steps_done}

@@ -1,10 +1,10 @@
-use Rattle.std.proofs.Common.{◌≡◌, ◌++◌, ℕ, ◌+◌, ◌≤◌, List, length, None, ap, sym, subst, ◌∙◌, arith}
+use Rattle.std.proofs.Common.{◌++◌, List, length, ap, sym, subst, ◌∙◌, arith}
 use Rattle.mk_value.specs.Data.{Datum, AreRowsOf}
 use Rattle.mk_value.specs.Heading.{Attribute}
 use Rattle.derived.specs.Layers.{table_of}
 use Rattle.derived.specs.Refusals.{concat_due}
 use Rattle.derived.proofs.SameSchemas.{concat_none}
-use Rattle.derived.proofs.Tests.{done_due}
+use Rattle.derived.proofs.Faults.{done_due}
 use Rattle.derived.proofs.stacking.concat.Goals as goal
 
 pub extend-requires : goal.extend-requires

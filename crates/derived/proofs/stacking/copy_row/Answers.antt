@@ -1,7 +1,6 @@
-use Rattle.std.proofs.Common.{◌≡◌, ℕ, ◌+◌, ◌<◌, ◌++◌, ◌∷◌, [], List, length, get_or, take, pos, ap, sym, ◌∙◌, arith}
+use Rattle.std.proofs.Common.{◌++◌, ◌∷◌, [], List, length, get_or, pos, ap, sym, ◌∙◌, arith}
 use Rattle.std.proofs.lemmas.List.{take_more, take_all}
 use Rattle.mk_value.specs.Data.{Datum, integer}
-use Rattle.mk_value.specs.Values.{datum_of}
 use Rattle.mk_value.specs.Heading.{Attribute}
 use Rattle.derived.proofs.Cells.{row_length}
 use Rattle.derived.proofs.stacking.copy_row.Goals as goal

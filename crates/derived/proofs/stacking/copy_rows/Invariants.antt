@@ -1,4 +1,4 @@
-use Rattle.std.proofs.Common.{◌≡◌, [], take, get_or}
+use Rattle.std.proofs.Common.{◌≡◌, take}
 use Rattle.derived.proofs.stacking.copy_rows.Given as goal
 
 abbrev pub invariant-loop-row : goal.invariant-loop-row

@@ -1,8 +1,8 @@
-use Rattle.std.proofs.Common.{◌≡◌, ◌<◌, ◌≤◌, length, IfOk, ap, subst, ◌∙◌, sym, rules}
-use Rattle.mk_value.specs.Data.{Datum, cell as cell_of}
+use Rattle.std.proofs.Common.{length, ap, subst, ◌∙◌, sym, rules}
+use Rattle.mk_value.specs.Data.{Datum}
 use Rattle.mk_value.specs.Heading.{Domain}
 use Rattle.mk_value.specs.Order.{value_cmp}
-use Rattle.mk_value.specs.Tables.{IsComparable, IsPlainDomain}
+use Rattle.mk_value.specs.Tables.{IsComparable}
 use Rattle.mk_value.specs.Values.{datum_of}
 use Rattle.derived.specs.Layers.{Layered}
 use Rattle.derived.proofs.Cells.{first_in, second_in, first_cell, second_cell, first_domain, second_domain, column_at, column_cell, column_domain}

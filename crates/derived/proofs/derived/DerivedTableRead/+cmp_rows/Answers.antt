@@ -1,10 +1,9 @@
 use Rattle.std.specs.Ordering.{ordering_reverse}
 use Rattle.mk_value.specs.OrderLaws.{value_cmp_total}
-use Rattle.std.proofs.Common.{get_or, arith, ◌≡◌, ◌<◌, ◌≤◌, ◌-◌, length, IfOk, ap, subst, ◌∙◌, sym, rules}
+use Rattle.std.proofs.Common.{get_or, arith, ◌-◌, length, ap, subst, ◌∙◌, sym, rules}
 use Rattle.mk_value.specs.Data.{Datum, cell as cell_of}
-use Rattle.mk_value.specs.Heading.{Domain}
 use Rattle.mk_value.specs.Order.{value_cmp}
-use Rattle.mk_value.specs.Tables.{IsComparable, IsPlainDomain}
+use Rattle.mk_value.specs.Tables.{IsPlainDomain}
 use Rattle.mk_value.specs.Values.{datum_of}
 use Rattle.derived.specs.Layers.{Layered}
 use Rattle.derived.proofs.Cells.{first_in, second_in, first_cell, second_cell, first_domain, second_domain, column_at, column_cell, column_domain, before_cell, behind_cell}

@@ -1,4 +1,4 @@
-use Rattle.std.proofs.Common.{◌≡◌, ◌++◌, length, ap, ◌∙◌, sym, rules}
+use Rattle.std.proofs.Common.{◌++◌, length, ap, rules}
 use Rattle.derived.specs.Layers.{Layered}
 use Rattle.derived.proofs.Cells.{length-zipped}
 use Rattle.derived.proofs.derived.DerivedTableRead.+size.Goals as goal

@@ -1,6 +1,6 @@
 -- The tests that refusals go by, one item further in a loop.
-use Rattle.std.proofs.Common.{◌≡◌, ℕ, ◌+◌, ◌<◌, ◌≤◌, Bool, true, false, not, cond, List, [], ◌∷◌, length, get_or, map, drop, Option, Some, None, Ok, refl, ap, sym, subst, ◌∙◌, arith, All, ◌↔◌, IsTrue, ◌&&◌}
-use Rattle.std.specs.List.{find, list_all}
+use Rattle.std.proofs.Common.{◌≡◌, ℕ, ◌+◌, ◌<◌, Bool, true, false, not, cond, List, [], ◌∷◌, length, get_or, map, drop, Option, Some, None, Ok, refl, ap, sym, subst, ◌∙◌, All}
+use Rattle.std.specs.List.{find}
 use Rattle.std.specs.Option.{option_map, option_or}
 use Rattle.derived.specs.declared.error.DerivedError.{DerivedError}
 use Rattle.derived.specs.Refusals.{AnswersDue}
@@ -8,6 +8,11 @@ use Rattle.std.proofs.lemmas.Bool.{false≢true}
 use Rattle.std.proofs.lemmas.Option.{none-some}
 use Rattle.std.proofs.lemmas.List.Elements.{All-nil, All-cons}
 use Rattle.mk_value.proofs.Walks.{drop_read}
+
+-- a test that holds or not
+pub cases : {P : Type 0} (b : Bool) → (b ≡ true → P) → (b ≡ false → P) → P
+cases true f g = f refl
+cases false f g = g refl
 
 -- the first item that a test refuses, in what is left of a list
 module _ {A X E : Type 0} (e : X → E) (test : X → Bool) (f : A → X) (xs : List A) (i : ℕ) (x : A) (p : i < length xs) (read : x ≡ get_or xs i x) where
