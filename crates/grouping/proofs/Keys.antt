@@ -179,3 +179,14 @@ key_less rows row k d p t = (less_front whole_row_cmp whole_row_cmp_total row (k
 
 pub key_not_less : (rows : List (List Datum)) (row : List Datum) (k : ℕ) (d : List Datum) → k < length (keys_of rows) → is_lt (whole_row_cmp (get_or (keys_of rows) k d) row) ≡ false → keys_less rows row ≤ k
 key_not_less rows row k d p f = (less_front whole_row_cmp whole_row_cmp_total row (keys_of rows) (keys_ascend rows) k d p).1 f
+
+less_few : {X : Type 0} (p : X → Bool) (xs : List X) → length (filter p xs) ≤ length xs
+less_few p [] = omega arith
+less_few p (x ∷ xs) = few (p x) (less_few p xs)
+  where
+    few : (b : Bool) → length (filter p xs) ≤ length xs → length (cond b (x ∷ filter p xs) (filter p xs)) ≤ length (x ∷ xs)
+    few true r = omega arith
+    few false r = omega arith
+
+pub keys_less_few : (rows : List (List Datum)) (row : List Datum) → keys_less rows row ≤ length (keys_of rows)
+keys_less_few rows row = less_few (λ key. is_lt (whole_row_cmp key row)) (keys_of rows)

@@ -4,3 +4,6 @@ pub mod Equal
 pub mod Keys
 pub mod Orders
 pub mod Positions
+pub mod Walked
+pub mod Entries
+pub mod Indexes

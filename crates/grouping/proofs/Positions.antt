@@ -53,10 +53,10 @@ in_positions_back (first ∷ rest) row i h = elim (zero_or_behind (same_row firs
       subst (IsPosition (first ∷ rest) row) r.2 (at, back.1))
 ]
 
-later_up : (ps : List ℕ) → Ascends nat_cmp ps → Ascends nat_cmp (map suc ps)
+pub later_up : (ps : List ℕ) → Ascends nat_cmp ps → Ascends nat_cmp (map suc ps)
 later_up ps up = ascends_map nat_cmp nat_cmp suc ps (λ x y _ _ e. let p = nat_less x y e in less_nat (suc x) (suc y) (omega arith)) up
 
-zero_below : (ps : List ℕ) → Each (λ y. nat_cmp 0 y ≡ Less) (map suc ps)
+pub zero_below : (ps : List ℕ) → Each (λ y. nat_cmp 0 y ≡ Less) (map suc ps)
 zero_below ps = each_from_in (λ y. nat_cmp 0 y ≡ Less) (map suc ps) (λ y h. let r = in_map_back suc ps y h in let e = r.2 in less_nat 0 y (omega arith))
 
 pub positions_up : (rows : List (List Datum)) (row : List Datum) → Ascends nat_cmp (positions_of rows row)

@@ -1,5 +1,5 @@
 //! An index of rows by their whole values.
-ghost use Rattle.std.specs.Prelude.{◌≡◌, ◌<◌, ◌≤◌, [], All, length, map, slice_index_or, IfOk};
+ghost use Rattle.std.specs.Prelude.{◌≡◌, ◌+◌, ◌<◌, ◌≤◌, [], All, length, map, slice_index_or, slice_range, IfOk};
 ghost use Rattle.mk_value.specs.Limits.{max_rows};
 ghost use Rattle.derived.specs.Equality.{is_row_among};
 ghost use Rattle.grouping.specs.Index.{IsOrderOf, first_positions, is_start, keys_less, keys_of, numbers, positions_of, starts_below};
@@ -56,11 +56,13 @@ impl RowIndex {
         ensures { result.now ≡ positions_of self.now row.now }
     {
         let group = self.search(row);
-        if group < self.groups() && cmp_whole_row(self.key(group), row).is_eq() {
-            self.group(group)
-        } else {
-            &[]
+        if group >= self.groups() {
+            return &[];
         }
+        if cmp_whole_row(self.key(group), row).is_ne() {
+            return &[];
+        }
+        self.group(group)
     }
 
     /// Whether a row of the list is the same as this one. It takes no memory.
@@ -68,7 +70,10 @@ impl RowIndex {
         ensures { result ≡ is_row_among self.now row.now }
     {
         let group = self.search(row);
-        group < self.groups() && cmp_whole_row(self.key(group), row).is_eq()
+        if group >= self.groups() {
+            return false;
+        }
+        cmp_whole_row(self.key(group), row).is_eq()
     }
 
     /// The number of groups.
@@ -93,12 +98,8 @@ impl RowIndex {
         ensures { result.now ≡ positions_of self.now (slice_index_or (keys_of self.now) group []) }
     {
         let start = self.starts[group] as usize;
-        let end = if group + 1 < self.starts.len() {
-            self.starts[group + 1] as usize
-        } else {
-            self.order.len()
-        };
-        &self.order[start..end]
+        let end = end_of(&self.starts, group, self.order.len());
+        part(&self.order, start, end)
     }
 }
 
@@ -108,8 +109,8 @@ impl RowIndex {
         ensures { IfOk result (λ firsts. firsts ≡ first_positions self.now) }
     {
         let mut firsts = Vec::new(alloc);
-        for start in self.starts.iter() {
-            firsts.push(self.order[*start as usize])?;
+        for group in 0..self.groups() {
+            firsts.push(self.group(group)[0])?;
         }
         firsts.sort_unstable();
         Ok(Positions::from(firsts))
@@ -120,7 +121,7 @@ impl RowIndex {
         ensures { result ≡ keys_less self.now row.now }
     {
         let mut low = 0;
-        let mut high = self.starts.len();
+        let mut high = self.groups();
         while low < high {
             let middle = low + (high - low) / 2;
             if cmp_whole_row(self.key(middle), row).is_lt() {
@@ -136,7 +137,8 @@ impl RowIndex {
 /// The positions of the rows, in the order of whole rows, ties by position.
 fn order_of(alloc: Global, rows: &Rows) -> Result<Vec<u32>, Memory>
     requires { length rows.now ≤ max_rows }
-    ensures { IfOk result (λ order. IsOrderOf rows.now order.items) }
+    ensures order { IfOk result (λ order. IsOrderOf rows.now order.items) }
+    ensures len { IfOk result (λ order. length order.items ≡ length rows.now) }
 {
     let mut entries = entries_of(alloc, rows)?;
     entries.sort_unstable();
@@ -166,6 +168,7 @@ fn entries_of<'a>(alloc: Global, rows: &'a Rows) -> Result<Vec<Entry<'a>>, Memor
 /// The places of the order at which groups begin.
 fn starts_of(alloc: Global, rows: &Rows, order: &[u32]) -> Result<Vec<u32>, Memory>
     requires order { IsOrderOf rows.now order.now }
+    requires few { length order.now ≤ max_rows }
     ensures { IfOk result (λ starts. starts.items ≡ starts_below rows.now order.now (length order.now)) }
 {
     let rows = rows.as_slice();
@@ -190,4 +193,23 @@ fn is_start_at(rows: &[Row], order: &[u32], place: usize) -> bool
     let before = &rows[order[place - 1] as usize];
     let here = &rows[order[place] as usize];
     cmp_whole_row(before, here).is_ne()
+}
+
+/// The place at which a group ends: the next start, or the end of the order.
+fn end_of(starts: &[u32], group: usize, size: usize) -> usize
+    requires { group < length starts.now }
+    ensures { result ≡ slice_index_or starts.now (group + 1) size }
+{
+    if group + 1 < starts.len() {
+        return starts[group + 1] as usize;
+    }
+    size
+}
+
+/// The part of a list from one place up to another.
+fn part(order: &[u32], start: usize, end: usize) -> &[u32]
+    requires { (start ≤ end) × (end ≤ length order.now) }
+    ensures { result.now ≡ slice_range order.now start end }
+{
+    &order[start..end]
 }
