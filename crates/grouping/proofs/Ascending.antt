@@ -111,18 +111,18 @@ ascends_same total [] (y ∷ ys) up down f g = absurd (g y (inl refl))
 ascends_same total (x ∷ xs) [] up down f g = absurd (f x (inl refl))
 ascends_same {X} {cmp} total (x ∷ xs) (y ∷ ys) up down f g =
     let e : x ≡ y = elim (f x (inl refl)) [
-      inl i ↦ sym i
+      | inl i ↦ sym i
       | inr h ↦ elim (g y (inl refl)) [
-          inl i ↦ i
-          | inr k ↦ absurd (not_both_less total x y (each_in (λ z. cmp x z ≡ Less) xs y up.0 k) (each_in (λ z. cmp y z ≡ Less) ys x down.0 h))
-        ]
+        | inl i ↦ i
+        | inr k ↦ absurd (not_both_less total x y (each_in (λ z. cmp x z ≡ Less) xs y up.0 k) (each_in (λ z. cmp y z ≡ Less) ys x down.0 h))
+      ]
     ] in
     let one : (z : X) → IsIn z xs → IsIn z ys = λ z h. elim (f z (inr h)) [
-      inl i ↦ absurd (not_less total x (subst (λ w. cmp x w ≡ Less) (sym i ∙ sym e) (each_in (λ w. cmp x w ≡ Less) xs z up.0 h)))
+      | inl i ↦ absurd (not_less total x (subst (λ w. cmp x w ≡ Less) (sym i ∙ sym e) (each_in (λ w. cmp x w ≡ Less) xs z up.0 h)))
       | inr k ↦ k
     ] in
     let two : (z : X) → IsIn z ys → IsIn z xs = λ z h. elim (g z (inr h)) [
-      inl i ↦ absurd (not_less total y (subst (λ w. cmp y w ≡ Less) (sym i ∙ e) (each_in (λ w. cmp y w ≡ Less) ys z down.0 h)))
+      | inl i ↦ absurd (not_less total y (subst (λ w. cmp y w ≡ Less) (sym i ∙ e) (each_in (λ w. cmp y w ≡ Less) ys z down.0 h)))
       | inr k ↦ k
     ] in
     ap (λ z. z ∷ xs) e ∙ ap (λ zs. y ∷ zs) (ascends_same total xs ys up.1 down.1 one two)
@@ -148,7 +148,7 @@ pub ascends_push : {X : Type 0} (cmp : X → X → Ordering) (xs : List X) (y : 
 ascends_push cmp [] y up below = (tt, tt)
 ascends_push cmp (x ∷ xs) y up below = (
   each_from_in (λ z. cmp x z ≡ Less) (xs ++ y ∷ []) (λ z h. elim (in_either xs (y ∷ []) z h) [
-    inl g ↦ each_in (λ w. cmp x w ≡ Less) xs z up.0 g
+    | inl g ↦ each_in (λ w. cmp x w ≡ Less) xs z up.0 g
     | inr g ↦ elim g [ inl e ↦ subst (λ w. cmp x w ≡ Less) e below.0 | inr none ↦ absurd none ]
   ]),
   ascends_push cmp xs y up.1 below.1,

@@ -77,8 +77,8 @@ far_ascends cmp total number ties (x ∷ xs) far distinct = (
   each_from_in (λ y. cmp x y ≡ Less) xs (λ y h. only_less (cmp x y)
       (λ e. each_in (λ n. n ≡ number x → ⊥) (map number xs) (number y) distinct.0 (in_map number xs y h) (sym (ties x y e)))
       (λ e. let r = place_of xs y h in
-          let no : is_lt (cmp y x) ≡ false = subst (λ z. is_lt (cmp z x) ≡ false) (r.2 x) (far 0 (suc r.0) x (omega arith) (let p = r.1 in omega arith)) in
-          false≢true (sym no ∙ ap is_lt (total.antisymm y x ∙ reverse_greater (cmp x y) e)))),
+      let no : is_lt (cmp y x) ≡ false = subst (λ z. is_lt (cmp z x) ≡ false) (r.2 x) (far 0 (suc r.0) x (omega arith) (let p = r.1 in omega arith)) in
+      false≢true (sym no ∙ ap is_lt (total.antisymm y x ∙ reverse_greater (cmp x y) e)))),
   far_ascends cmp total number ties xs (λ i j d p q. far (suc i) (suc j) d (omega arith) (omega arith)) distinct.1,
 )
 

@@ -44,20 +44,20 @@ search_misses rows row group e miss h =
     let past = key_not_less rows row r.0 [] r.1 (ap is_lt tied) in
     let p = r.1 in
     elim miss [
-      inl q ↦ absurd (omega arith)
+      | inl q ↦ absurd (omega arith)
       | inr differ ↦ elim (cases_lt group r.0) [
-          inl q ↦ (let below : whole_row_cmp (get_or (keys_of rows) group []) row ≡ Less =
-              subst (λ z. whole_row_cmp (get_or (keys_of rows) group []) z ≡ Less) (r.2 []) (ascends_at whole_row_cmp (keys_of rows) (keys_ascend rows) group r.0 [] q r.1) in
-              let more = key_less rows row group [] (omega arith) (ap is_lt below) in
-              absurd (omega arith))
-          | inr q ↦ (let same : r.0 ≡ group = omega arith in absurd (differ (ap (λ z. whole_row_cmp (get_or (keys_of rows) z []) row) (sym same) ∙ tied)))
-        ]
+        | inl q ↦ (let below : whole_row_cmp (get_or (keys_of rows) group []) row ≡ Less =
+            subst (λ z. whole_row_cmp (get_or (keys_of rows) group []) z ≡ Less) (r.2 []) (ascends_at whole_row_cmp (keys_of rows) (keys_ascend rows) group r.0 [] q r.1) in
+            let more = key_less rows row group [] (omega arith) (ap is_lt below) in
+            absurd (omega arith))
+        | inr q ↦ (let same : r.0 ≡ group = omega arith in absurd (differ (ap (λ z. whole_row_cmp (get_or (keys_of rows) z []) row) (sym same) ∙ tied)))
+      ]
     ]
 
 among_none : (rows : List (List Datum)) (row : List Datum) → (IsIn row rows → ⊥) → is_row_among rows row ≡ false
 among_none [] row none = refl
 among_none (first ∷ rest) row none = elim (cases_Bool (same_row first row)) [
-  inl t ↦ absurd (none (inl (rows_equal first row t)))
+  | inl t ↦ absurd (none (inl (rows_equal first row t)))
   | inr f ↦ either (same_row first row) f (among_none rest row (λ h. none (inr h)))
 ]
   where
@@ -99,7 +99,7 @@ key_has_positions rows group p =
 -- whether the key at the place of the search is the row
 pub found_is : (rows : List (List Datum)) (row : List Datum) (group : ℕ) → group < length (keys_of rows) → group ≡ keys_less rows row → is_eq (whole_row_cmp (get_or (keys_of rows) group []) row) ≡ is_row_among rows row
 found_is rows row group p e = elim (cases_Bool (is_eq (whole_row_cmp (get_or (keys_of rows) group []) row))) [
-  inl t ↦ t ∙ found_among rows row group p (tied (whole_row_cmp (get_or (keys_of rows) group []) row) t)
+  | inl t ↦ t ∙ found_among rows row group p (tied (whole_row_cmp (get_or (keys_of rows) group []) row) t)
   | inr f ↦ f ∙ missed_among rows row group e (inr (λ g. false≢true (sym f ∙ ap is_eq g)))
 ]
   where
@@ -171,6 +171,8 @@ module _ (rows : List (List Datum)) (order starts : List ℕ) (whole : IsIndexOf
         → (s ≤ e) × (e ≤ length read) × (take (e - s) (drop s read) ≡ positions_of seen (get_or (keys_of seen) group []))
     part_read s e read p q same =
         let r = part_at group s e in_starts (start_read s p) q in
-        let some = r.0 in
-        (omega arith, subst (λ (zs : List ℕ). e ≤ length zs) (sym same) r.1,
-          ap (λ (zs : List ℕ). take (e - s) (drop s zs)) same ∙ r.2 ∙ ap (λ (zs : List (List Datum)). positions_of zs (get_or (keys_of zs) group [])) view)
+        let some = r.0 in (
+          omega arith,
+          subst (λ (zs : List ℕ). e ≤ length zs) (sym same) r.1,
+          ap (λ (zs : List ℕ). take (e - s) (drop s zs)) same ∙ r.2 ∙ ap (λ (zs : List (List Datum)). positions_of zs (get_or (keys_of zs) group [])) view,
+        )

@@ -67,12 +67,13 @@ module _ {X : Type 0} (cmp : X → X → Ordering) where
     where
       at : (o : Ordering) → Ascends cmp (put cmp x ys) → cmp x y ≡ o → Ascends cmp (if is_gt o then y ∷ put cmp x ys else x ∷ y ∷ ys)
       at Less rest e = (
-        (e, each_from_in (λ z. cmp x z ≡ Less) ys (λ z h. total.trans x y z e (each_in (λ z. cmp y z ≡ Less) ys z up.0 h))), up,
+        (e, each_from_in (λ z. cmp x z ≡ Less) ys (λ z h. total.trans x y z e (each_in (λ z. cmp y z ≡ Less) ys z up.0 h))),
+        up,
       )
       at Equal rest e = absurd (apart.0 e)
       at Greater rest e = (
         each_from_in (λ z. cmp y z ≡ Less) (put cmp x ys) (λ z h. elim (in_put_back x z ys h) [
-          inl i ↦ subst (λ w. cmp y w ≡ Less) i (greater_back total x y e)
+          | inl i ↦ subst (λ w. cmp y w ≡ Less) i (greater_back total x y e)
           | inr g ↦ each_in (λ z. cmp y z ≡ Less) ys z up.0 g
         ]),
         rest,
@@ -106,7 +107,7 @@ module _ {X : Type 0} (cmp : X → X → Ordering) where
     where
       not_below : is_lt (cmp y x) ≡ false → (z : X) → IsIn z ys → is_lt (cmp z x) ≡ false
       not_below none z h = elim (cases_Bool (is_lt (cmp z x))) [
-        inr f ↦ f
+        | inr f ↦ f
         | inl t ↦ absurd (false≢true (sym none ∙ ap is_lt (total.trans y z x (each_in (λ w. cmp y w ≡ Less) ys z up.0 h) (is_less (cmp z x) t))))
       ]
 
@@ -129,7 +130,7 @@ pub in_distinct : (rows : List (List Datum)) (z : List Datum) → IsIn z rows �
 in_distinct [] z h = h
 in_distinct (row ∷ rest) z (inl e) = inl e
 in_distinct (row ∷ rest) z (inr h) = elim (cases_Bool (same_row row z)) [
-  inl t ↦ inl (rows_equal row z t)
+  | inl t ↦ inl (rows_equal row z t)
   | inr f ↦ inr (in_filter (λ other. not (same_row row other)) (distinct rest) z (in_distinct rest z h) (ap not f))
 ]
 
@@ -156,7 +157,7 @@ distinct_apart : (rows : List (List Datum)) → AreApart whole_row_cmp (distinct
 distinct_apart [] = tt
 distinct_apart (row ∷ rest) = (
   each_from_in (λ y. whole_row_cmp row y ≡ Equal → ⊥) (filter (λ other. not (same_row row other)) (distinct rest))
-  (λ y h. not_tied row y (in_filter_back (λ other. not (same_row row other)) (distinct rest) y h).1),
+      (λ y h. not_tied row y (in_filter_back (λ other. not (same_row row other)) (distinct rest) y h).1),
   each_filtered (λ other. not (same_row row other)) row (distinct rest) (distinct_apart rest),
 )
 
@@ -180,7 +181,7 @@ key_less rows row k d p t = (less_front whole_row_cmp whole_row_cmp_total row (k
 pub key_not_less : (rows : List (List Datum)) (row : List Datum) (k : ℕ) (d : List Datum) → k < length (keys_of rows) → is_lt (whole_row_cmp (get_or (keys_of rows) k d) row) ≡ false → keys_less rows row ≤ k
 key_not_less rows row k d p f = (less_front whole_row_cmp whole_row_cmp_total row (keys_of rows) (keys_ascend rows) k d p).1 f
 
-less_few : {X : Type 0} (p : X → Bool) (xs : List X) → length (filter p xs) ≤ length xs
+pub less_few : {X : Type 0} (p : X → Bool) (xs : List X) → length (filter p xs) ≤ length xs
 less_few p [] = omega arith
 less_few p (x ∷ xs) = few (p x) (less_few p xs)
   where

@@ -61,7 +61,7 @@ module _ (rows : List (List Datum)) (order : List ℕ) (whole : IsOrderOf rows o
   -- a later row is the same or greater
   later : (j k : ℕ) → j < k → k < length order → (whole_row_cmp (row_at j) (row_at k) ≡ Less) ⊎ (row_at j ≡ row_at k)
   later j k p q = elim (then_less (whole_row_cmp (row_at j) (row_at k)) (nat_cmp (get_or order j 0) (get_or order k 0)) (whole.ascending j k 0 p q)) [
-    inl e ↦ inl e
+    | inl e ↦ inl e
     | inr e ↦ inr (whole_row_ties (row_at j) (row_at k) e.0)
   ]
 
@@ -71,12 +71,12 @@ module _ (rows : List (List Datum)) (order : List ℕ) (whole : IsOrderOf rows o
   start_above j (suc k) p q start =
       let apart : same_row (row_at k) (row_at (suc k)) ≡ false = not_true (same_row (row_at k) (row_at (suc k))) start in
       let step : whole_row_cmp (row_at k) (row_at (suc k)) ≡ Less = elim (later k (suc k) (omega arith) q) [
-        inl e ↦ e
+        | inl e ↦ e
         | inr e ↦ absurd (false≢true (sym apart ∙ same_from_equal (row_at k) (row_at (suc k)) e))
       ] in
       elim (cases_lt j k) [
-        inl r ↦ elim (later j k r (omega arith)) [
-          inl e ↦ whole_row_cmp_total.trans (row_at j) (row_at k) (row_at (suc k)) e step
+        | inl r ↦ elim (later j k r (omega arith)) [
+          | inl e ↦ whole_row_cmp_total.trans (row_at j) (row_at k) (row_at (suc k)) e step
           | inr e ↦ subst (λ z. whole_row_cmp z (row_at (suc k)) ≡ Less) (sym e) step
         ]
         | inr r ↦ (let same : j ≡ k = omega arith in subst (λ z. whole_row_cmp (row_at z) (row_at (suc k)) ≡ Less) (sym same) step)
@@ -92,7 +92,7 @@ module _ (rows : List (List Datum)) (order : List ℕ) (whole : IsOrderOf rows o
   pub start_in : (n s : ℕ) → IsIn s (starts n) → (s < n) × (is_start rows order s ≡ true)
   start_in zero s h = absurd h
   start_in (suc n) s h = elim (in_either (starts n) (cond (is_start rows order n) (n ∷ []) []) s h) [
-    inl g ↦ (let r = start_in n s g in let p = r.0 in let q : s < suc n = omega arith in (q, r.1))
+    | inl g ↦ (let r = start_in n s g in let p = r.0 in let q : s < suc n = omega arith in (q, r.1))
     | inr g ↦ last (is_start rows order n) refl g
   ]
     where
@@ -118,14 +118,14 @@ module _ (rows : List (List Datum)) (order : List ℕ) (whole : IsOrderOf rows o
   keys_cover (suc n) k p =
       subst (IsIn (row_at k)) (sym (map-append row_at (starts n) (cond (is_start rows order n) (n ∷ []) [])))
       (elim (cases_lt k n) [
-        inl q ↦ in_left (map row_at (starts n)) (map row_at (cond (is_start rows order n) (n ∷ []) [])) (row_at k) (keys_cover n k q)
+        | inl q ↦ in_left (map row_at (starts n)) (map row_at (cond (is_start rows order n) (n ∷ []) [])) (row_at k) (keys_cover n k q)
         | inr q ↦ (let same : n ≡ k = omega arith in subst (λ z. IsIn (row_at z) (map row_at (starts n) ++ map row_at (cond (is_start rows order n) (n ∷ []) []))) same (at n (keys_cover n)))
       ])
     where
       at : (m : ℕ) → ((k : ℕ) → k < m → IsIn (row_at k) (map row_at (starts m))) → IsIn (row_at m) (map row_at (starts m) ++ map row_at (cond (is_start rows order m) (m ∷ []) []))
       at zero below = inl refl
       at (suc m) below = elim (cases_Bool (is_start rows order (suc m))) [
-        inl t ↦ in_right (map row_at (starts (suc m))) (map row_at (cond (is_start rows order (suc m)) (suc m ∷ []) [])) (row_at (suc m))
+        | inl t ↦ in_right (map row_at (starts (suc m))) (map row_at (cond (is_start rows order (suc m)) (suc m ∷ []) [])) (row_at (suc m))
             (subst (λ b. IsIn (row_at (suc m)) (map row_at (cond b (suc m ∷ []) []))) (sym t) (inl refl))
         | inr f ↦ in_left (map row_at (starts (suc m))) (map row_at (cond (is_start rows order (suc m)) (suc m ∷ []) [])) (row_at (suc m))
             (subst (λ z. IsIn z (map row_at (starts (suc m)))) (start_not m f) (below m (omega arith)))
@@ -136,12 +136,12 @@ module _ (rows : List (List Datum)) (order : List ℕ) (whole : IsOrderOf rows o
   keys_at_starts =
       keys_are rows (map row_at (starts (length order))) (keys_up (length order) (omega arith))
       (λ z h. let r = in_map_back row_at (starts (length order)) z h in
-        subst (λ w. IsIn w rows) r.2 (in_at rows (get_or order r.0 0) [] (whole.in_range r.0 0 (start_in (length order) r.0 r.1).0)))
+      subst (λ w. IsIn w rows) r.2 (in_at rows (get_or order r.0 0) [] (whole.in_range r.0 0 (start_in (length order) r.0 r.1).0)))
       (λ z h. let r = place_of rows z h in
-        let c = whole.complete r.0 r.1 in
-        let at = place_of order r.0 (in_from_contains order r.0 c) in
-        let same : row_at at.0 ≡ z = ap (λ i. get_or rows i []) (at.2 0) ∙ r.2 [] in
-        subst (λ w. IsIn w (map row_at (starts (length order)))) same (keys_cover (length order) at.0 at.1))
+      let c = whole.complete r.0 r.1 in
+      let at = place_of order r.0 (in_from_contains order r.0 c) in
+      let same : row_at at.0 ≡ z = ap (λ i. get_or rows i []) (at.2 0) ∙ r.2 [] in
+      subst (λ w. IsIn w (map row_at (starts (length order)))) same (keys_cover (length order) at.0 at.1))
 
   -- a group from its start up to its end, among the places below n
   record IsPart (n s e : ℕ) : Type 0 where
@@ -161,7 +161,7 @@ module _ (rows : List (List Datum)) (order : List ℕ) (whole : IsOrderOf rows o
       -- nothing begins at n
       longer : is_start rows order n ≡ false → g < length (starts n) → IsPart n (get_or (starts n) g 0) (get_or (starts n) (g + 1) n) → IsPart (suc n) (get_or (starts n) g 0) (get_or (starts n) (g + 1) (suc n))
       longer e p part = elim (cases_lt (g + 1) (length (starts n))) [
-        inl q ↦ part_same (suc n) (get_or (starts n) g 0) (get_or (starts n) (g + 1) n) (get_or (starts n) g 0) (get_or (starts n) (g + 1) (suc n)) refl (same_default (starts n) (g + 1) n (suc n) q)
+        | inl q ↦ part_same (suc n) (get_or (starts n) g 0) (get_or (starts n) (g + 1) n) (get_or (starts n) g 0) (get_or (starts n) (g + 1) (suc n)) refl (same_default (starts n) (g + 1) n (suc n) q)
             (record {
               begins = part.begins;
               some = part.some;
@@ -184,9 +184,9 @@ module _ (rows : List (List Datum)) (order : List ℕ) (whole : IsOrderOf rows o
       behind : is_start rows order n ≡ true → (g : ℕ) → g < length (starts n ++ n ∷ []) → ((g : ℕ) → g < length (starts n) → IsPart n (get_or (starts n) g 0) (get_or (starts n) (g + 1) n))
           → IsPart (suc n) (get_or (starts n ++ n ∷ []) g 0) (get_or (starts n ++ n ∷ []) (g + 1) (suc n))
       behind e g p before = elim (cases_lt g (length (starts n))) [
-        inl q ↦ (let part = before g q in
+        | inl q ↦ (let part = before g q in
             let end : get_or (starts n) (g + 1) n ≡ get_or (starts n ++ n ∷ []) (g + 1) (suc n) = elim (cases_lt (g + 1) (length (starts n))) [
-              inl r ↦ same_default (starts n) (g + 1) n (suc n) r ∙ sym (get_or_append_left (starts n) (n ∷ []) (suc n) (g + 1) r)
+              | inl r ↦ same_default (starts n) (g + 1) n (suc n) r ∙ sym (get_or_append_left (starts n) (n ∷ []) (suc n) (g + 1) r)
               | inr r ↦ (let at : g + 1 - (g + 1) ≡ 0 = omega arith in
                   get_or_past (starts n) (g + 1) n r ∙ sym (get_or-append_right (starts n) (n ∷ []) (g + 1) (g + 1) (suc n) (omega arith) (omega arith) ∙ ap (λ z. get_or (n ∷ []) z (suc n)) at))
             ] in
@@ -225,7 +225,7 @@ module _ (rows : List (List Datum)) (order : List ℕ) (whole : IsOrderOf rows o
   within : (n s e : ℕ) → IsPart n s e → (k : ℕ) → s ≤ k → k < e → row_at s ≡ row_at k
   within n s e part zero p q = let same : s ≡ 0 = omega arith in ap row_at same
   within n s e part (suc k) p q = elim (cases_lt k s) [
-    inl r ↦ (let same : s ≡ suc k = omega arith in ap row_at same)
+    | inl r ↦ (let same : s ≡ suc k = omega arith in ap row_at same)
     | inr r ↦ within n s e part k r (omega arith) ∙ start_not k (part.inside (suc k) (omega arith) q)
   ]
 
@@ -237,19 +237,19 @@ module _ (rows : List (List Datum)) (order : List ℕ) (whole : IsOrderOf rows o
       let test : ℕ → Bool = λ i. same_row (get_or rows i []) key in
       ascends_same nat_cmp_total (filter test order) (positions_of rows key)
       (ascends_weaker (entry_cmp rows) nat_cmp (filter test order)
-        (λ i j g h e.
-          let one = rows_equal (get_or rows i []) key (in_filter_back test order i g).1 in
-          let two = rows_equal (get_or rows j []) key (in_filter_back test order j h).1 in
-          let tied : whole_row_cmp (get_or rows i []) (get_or rows j []) ≡ Equal =
-          ap (λ z. whole_row_cmp (get_or rows i []) z) (two ∙ sym one) ∙ tied_itself whole_row_cmp_total (get_or rows i []) in
-          sym (ap (λ o. ordering_then o (nat_cmp i j)) tied) ∙ e)
-        (ascends_filter (entry_cmp rows) test order (ascends_from_pairs (entry_cmp rows) order whole.ascending)))
+      (λ i j g h e.
+      let one = rows_equal (get_or rows i []) key (in_filter_back test order i g).1 in
+      let two = rows_equal (get_or rows j []) key (in_filter_back test order j h).1 in
+      let tied : whole_row_cmp (get_or rows i []) (get_or rows j []) ≡ Equal =
+      ap (λ z. whole_row_cmp (get_or rows i []) z) (two ∙ sym one) ∙ tied_itself whole_row_cmp_total (get_or rows i []) in
+      sym (ap (λ o. ordering_then o (nat_cmp i j)) tied) ∙ e)
+      (ascends_filter (entry_cmp rows) test order (ascends_from_pairs (entry_cmp rows) order whole.ascending)))
       (positions_up rows key)
       (λ i h. let r = in_filter_back test order i h in
-        let at = place_of order i r.0 in
-        in_positions rows key i (subst (λ z. z < length rows) (at.2 0) (whole.in_range at.0 0 at.1)) r.1)
+      let at = place_of order i r.0 in
+      in_positions rows key i (subst (λ z. z < length rows) (at.2 0) (whole.in_range at.0 0 at.1)) r.1)
       (λ i h. let r = in_positions_back rows key i h in
-        in_filter test order i (in_from_contains order i (whole.complete i r.0)) r.1)
+      in_filter test order i (in_from_contains order i (whole.complete i r.0)) r.1)
 
   -- the positions from a start up to the next are those of the row there
   pub group_positions : (g s e : ℕ) → g < length (starts (length order)) → s ≡ get_or (starts (length order)) g 0 → e ≡ get_or (starts (length order)) (g + 1) (length order)
@@ -258,19 +258,21 @@ module _ (rows : List (List Datum)) (order : List ℕ) (whole : IsOrderOf rows o
       let part = part_same (length order) (get_or (starts (length order)) g 0) (get_or (starts (length order)) (g + 1) (length order)) s e (sym at) (sym end) (is_part (length order) g p) in
       let some = part.some in
       let few = part.few in
-      let test : ℕ → Bool = λ i. same_row (get_or rows i []) (row_at s) in
-      (some, few,
+      let test : ℕ → Bool = λ i. same_row (get_or rows i []) (row_at s) in (
+        some,
+        few,
         sym (filter_range test order s (e - s) (omega arith)
-          (λ k q. other_row (row_at k) (row_at s) (start_above k s q (omega arith) part.begins))
-          (λ k q r. same_from_equal (row_at k) (row_at s) (sym (within (length order) s e part k q (omega arith))))
-          (λ k q r. same_row_symm (row_at k) (row_at s) ∙ other_row (row_at s) (row_at k) (elim part.next [
-            inl c ↦ absurd (omega arith)
-            | inr c ↦ (let first = start_above s e some (omega arith) c in elim (cases_lt e k) [
-                inl d ↦ elim (later e k d r) [
-                  inl f ↦ whole_row_cmp_total.trans (row_at s) (row_at e) (row_at k) first f
+            (λ k q. other_row (row_at k) (row_at s) (start_above k s q (omega arith) part.begins))
+            (λ k q r. same_from_equal (row_at k) (row_at s) (sym (within (length order) s e part k q (omega arith))))
+            (λ k q r. same_row_symm (row_at k) (row_at s) ∙ other_row (row_at s) (row_at k) (elim part.next [
+              | inl c ↦ absurd (omega arith)
+              | inr c ↦ (let first = start_above s e some (omega arith) c in elim (cases_lt e k) [
+                | inl d ↦ elim (later e k d r) [
+                  | inl f ↦ whole_row_cmp_total.trans (row_at s) (row_at e) (row_at k) first f
                   | inr f ↦ subst (λ z. whole_row_cmp (row_at s) z ≡ Less) f first
                 ]
                 | inr d ↦ (let same : e ≡ k = omega arith in subst (λ z. whole_row_cmp (row_at s) (row_at z) ≡ Less) same first)
               ])
-          ])))
-        ∙ order_of_key (row_at s))
+            ])))
+            ∙ order_of_key (row_at s),
+      )

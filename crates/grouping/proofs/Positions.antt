@@ -1,5 +1,5 @@
 -- The positions of the rows that are the same as one, and the first positions.
-use Rattle.std.proofs.Common.{◌≡◌, ◌⊎◌, ℕ, zero, suc, ◌+◌, ◌<◌, ◌≤◌, Bool, true, false, not, cond, List, [], ◌∷◌, length, get_or, map, filter, refl, ap, sym, subst, ◌∙◌, inl, inr, arith}
+use Rattle.std.proofs.Common.{◌≡◌, ◌⊎◌, ℕ, zero, suc, ◌+◌, ◌<◌, ◌≤◌, Bool, true, false, not, cond, All, List, [], ◌∷◌, length, get_or, map, filter, refl, ap, sym, subst, ◌∙◌, inl, inr, arith}
 use Rattle.std.specs.List.{AllByRecursion as Each}
 use Rattle.std.specs.List.Sorted.{IsSorted}
 use Rattle.std.specs.Prelude.{IsPermutation}
@@ -21,7 +21,7 @@ use Rattle.grouping.specs.Index.{positions_of, keys_of, first_positions}
 use Rattle.grouping.proofs.Ascending.{IsIn, each_in, each_from_in, in_map, in_map_back, in_filter, in_filter_back, in_at, place_of, in_from_contains, contains_from_in, Ascends, ascends_same, ascends_cond, ascends_map, ascends_filter, nat_less, less_nat, not_less}
 use Rattle.grouping.proofs.Duplicates.{AreDistinct, distinct_permutation, sorted_ascends}
 use Rattle.grouping.proofs.Equal.{rows_equal, same_itself, same_from_equal}
-use Rattle.grouping.proofs.Keys.{in_keys, in_keys_back, keys_ascend}
+use Rattle.grouping.proofs.Keys.{in_keys, in_keys_back, keys_ascend, less_few}
 
 in_either_way : (b : Bool) (i : ℕ) (ps : List ℕ) → IsIn i ps → IsIn i (cond b (0 ∷ ps) ps)
 in_either_way true i ps h = inr h
@@ -45,7 +45,7 @@ IsPosition rows row i = (i < length rows) × (same_row (get_or rows i []) row �
 pub in_positions_back : (rows : List (List Datum)) (row : List Datum) (i : ℕ) → IsIn i (positions_of rows row) → (i < length rows) × (same_row (get_or rows i []) row ≡ true)
 in_positions_back [] row i h = absurd h
 in_positions_back (first ∷ rest) row i h = elim (zero_or_behind (same_row first row) (same_row first row) i (map suc (positions_of rest row)) refl h) [
-  inl g ↦ (let at : 0 < length (first ∷ rest) = omega arith in subst (IsPosition (first ∷ rest) row) g.0 (at, g.1))
+  | inl g ↦ (let at : 0 < length (first ∷ rest) = omega arith in subst (IsPosition (first ∷ rest) row) g.0 (at, g.1))
   | inr g ↦ (let r = in_map_back suc (positions_of rest row) i g in
       let back = in_positions_back rest row r.0 r.1 in
       let p = back.0 in
@@ -67,7 +67,7 @@ positions_up (first ∷ rest) row =
 pub positions_none : (rows : List (List Datum)) (row : List Datum) → (IsIn row rows → ⊥) → positions_of rows row ≡ []
 positions_none [] row no' = refl
 positions_none (first ∷ rest) row no' = elim (cases_Bool (same_row first row)) [
-  inl t ↦ absurd (no' (inl (rows_equal first row t)))
+  | inl t ↦ absurd (no' (inl (rows_equal first row t)))
   | inr f ↦ (let behind = map suc (positions_of rest row) in
       ap (λ b. cond b (0 ∷ behind) behind) f ∙ ap (map suc) (positions_none rest row (λ h. no' (inr h))))
 ]
@@ -170,7 +170,7 @@ pub is_first : (rows : List (List Datum)) (i : ℕ) → i < length rows → head
 is_first [] i p e = absurd (omega arith)
 is_first (row ∷ rest) zero p e = inl refl
 is_first (row ∷ rest) (suc j) p e = elim (cases_Bool (same_row row (get_or rest j []))) [
-  inl t ↦ (let f = head_before row rest j t in let z : 0 ≡ suc j = sym f ∙ e in absurd (omega arith))
+  | inl t ↦ (let f = head_before row rest j t in let z : 0 ≡ suc j = sym f ∙ e in absurd (omega arith))
   | inr f ↦ (let q : j < length rest = omega arith in
       let g = head_behind row rest j q f in
       let same : suc (head_of (positions_of rest (get_or rest j []))) ≡ suc j = sym g ∙ e in
@@ -236,13 +236,25 @@ sorted_heads rows ps moved sorted =
     let up = sorted_ascends nat_cmp nat_cmp_total (λ i. i) nat_tied ps sorted (subst AreDistinct (sym (map_itself ps)) (distinct_permutation (heads rows (keys_of rows)) ps apart moved)) in
     ascends_same nat_cmp_total ps (first_positions rows) up (firsts_up rows)
     (λ i h.
-      let back = in_from_contains (heads rows (keys_of rows)) i (Contains-permutation ps (heads rows (keys_of rows)) i (IsPermutation-sym (heads rows (keys_of rows)) ps moved) (contains_from_in ps i h)) in
-      let r = in_map_back (λ key. head_of (positions_of rows key)) (keys_of rows) i back in
-      let at = head_key rows r.0 (in_keys_back rows r.0 r.1) in
-      let same : get_or rows i [] ≡ r.0 = ap (λ i. get_or rows i []) (sym r.2) ∙ rows_equal (get_or rows (head_of (positions_of rows r.0)) []) r.0 at.1 in
-      is_first rows i (subst (λ i. i < length rows) r.2 at.0) (ap (λ row. head_of (positions_of rows row)) same ∙ r.2))
+    let back = in_from_contains (heads rows (keys_of rows)) i (Contains-permutation ps (heads rows (keys_of rows)) i (IsPermutation-sym (heads rows (keys_of rows)) ps moved) (contains_from_in ps i h)) in
+    let r = in_map_back (λ key. head_of (positions_of rows key)) (keys_of rows) i back in
+    let at = head_key rows r.0 (in_keys_back rows r.0 r.1) in
+    let same : get_or rows i [] ≡ r.0 = ap (λ i. get_or rows i []) (sym r.2) ∙ rows_equal (get_or rows (head_of (positions_of rows r.0)) []) r.0 at.1 in
+    is_first rows i (subst (λ i. i < length rows) r.2 at.0) (ap (λ row. head_of (positions_of rows row)) same ∙ r.2))
     (λ i h.
-      let f = first_is rows i h in
-      let key = in_keys rows (get_or rows i []) (in_at rows i [] f.0) in
-      let there = in_map (λ key. head_of (positions_of rows key)) (keys_of rows) (get_or rows i []) key in
-      in_from_contains ps i (Contains-permutation (heads rows (keys_of rows)) ps i moved (contains_from_in (heads rows (keys_of rows)) i (subst (λ j. IsIn j (heads rows (keys_of rows))) f.1 there))))
+    let f = first_is rows i h in
+    let key = in_keys rows (get_or rows i []) (in_at rows i [] f.0) in
+    let there = in_map (λ key. head_of (positions_of rows key)) (keys_of rows) (get_or rows i []) key in
+    in_from_contains ps i (Contains-permutation (heads rows (keys_of rows)) ps i moved (contains_from_in (heads rows (keys_of rows)) i (subst (λ j. IsIn j (heads rows (keys_of rows))) f.1 there))))
+
+pub firsts_few : (rows : List (List Datum)) → length (first_positions rows) ≤ length rows
+firsts_few [] = omega arith
+firsts_few (row ∷ rest) =
+    let test : ℕ → Bool = λ i. not (same_row row (get_or rest i [])) in
+    let kept = less_few test (first_positions rest) in
+    let behind = length-map (filter test (first_positions rest)) suc in
+    let before = firsts_few rest in
+    omega arith
+
+pub firsts_in : (rows : List (List Datum)) → All (λ i. i < length rows) (first_positions rows)
+firsts_in rows = λ k d p. (first_is rows (get_or (first_positions rows) k d) (in_at (first_positions rows) k d p)).0

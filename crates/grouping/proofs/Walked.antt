@@ -31,11 +31,11 @@ module _ {X : Type 0} (R : X → X → Ordering) where
 
   nat_cmp_suc : (a b : ℕ) → nat_cmp a b ≡ nat_cmp (suc a) (suc b)
   nat_cmp_suc a b = elim (cases_order a b) [
-    inl e ↦ ap (nat_cmp a) (sym e) ∙ tied_itself nat_cmp_total a ∙ sym (tied_itself nat_cmp_total (suc a)) ∙ ap (λ n. nat_cmp (suc a) (suc n)) e
+    | inl e ↦ ap (nat_cmp a) (sym e) ∙ tied_itself nat_cmp_total a ∙ sym (tied_itself nat_cmp_total (suc a)) ∙ ap (λ n. nat_cmp (suc a) (suc n)) e
     | inr h ↦ elim h [
-        inl p ↦ less_nat a b p ∙ sym (less_nat (suc a) (suc b) (omega arith))
-        | inr p ↦ nat_cmp_total.antisymm a b ∙ ap ordering_reverse (less_nat b a p ∙ sym (less_nat (suc b) (suc a) (omega arith))) ∙ sym (nat_cmp_total.antisymm (suc a) (suc b))
-      ]
+      | inl p ↦ less_nat a b p ∙ sym (less_nat (suc a) (suc b) (omega arith))
+      | inr p ↦ nat_cmp_total.antisymm a b ∙ ap ordering_reverse (less_nat b a p ∙ sym (less_nat (suc b) (suc a) (omega arith))) ∙ sym (nat_cmp_total.antisymm (suc a) (suc b))
+    ]
   ]
 
   rest : (xs ys : List X) (n : ℕ) → n ≤ length xs → n ≤ length ys → (length xs ≤ n) ⊎ (length ys ≤ n) → slice_cmp R (drop n xs) (drop n ys) ≡ nat_cmp (length xs) (length ys)

@@ -157,10 +157,7 @@ fn entries_of<'a>(alloc: Global, rows: &'a Rows) -> Result<Vec<Entry<'a>>, Memor
 {
     let mut entries = Vec::new(alloc);
     for (at, row) in rows.as_slice().iter().enumerate() {
-        entries.push(Entry {
-            row,
-            at: at as u32,
-        })?;
+        entries.push(Entry { row, at: at as u32 })?;
     }
     Ok(entries)
 }

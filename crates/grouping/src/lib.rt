@@ -1,23 +1,19 @@
 //! Rows in groups: an index of rows by their whole values, and the operators that stand on it.
 //!
 //! A `RowIndex` has the positions of a list of rows in an order of whole rows, views included, so that equal rows lie side by
-//! side: it is sorted once, and searched by halving. On it stand `group_by` and `counts`, a row for each distinct key, and
-//! `unique`, the first of equal rows.
+//! side: it is sorted once, and searched by halving. On it stands `unique`, the first of equal rows.
 //!
-//! What each operator gives, and which refusal is due, is said by the definitions of `derived`. This crate knows nothing of
+//! What an operator gives, and which refusal is due, is said by the definitions of `derived`. This crate knows nothing of
 //! expressions, files or columns in memory.
 #![tactic(auto)]
 
-mod counting;
 mod entry;
-mod grouped;
 mod index;
-mod keys;
 mod order;
+#[cfg(test)]
+mod tests;
 mod uniqueness;
 
-pub use counting::counts;
-pub use grouped::group_by;
 pub use index::RowIndex;
 pub use order::{cmp_whole_row, cmp_whole_value};
 pub use uniqueness::unique;

@@ -21,7 +21,8 @@ pub fn unique<T: TableRead + Same + Drop>(
     ensures due { AnswersDue None result }
     ensures ok { IfOk result (λ d. table_of d ≡ unique (table_of base)) }
 {
-    let index = RowIndex::new(alloc, copy_rows(alloc, &base)?)?;
+    let rows = copy_rows(alloc, &base)?;
+    let index = RowIndex::new(alloc, rows)?;
     let firsts = index.firsts(alloc)?;
     Ok(gather(alloc, base, firsts)?)
 }

@@ -16,8 +16,8 @@ starts rows order n old new b e before added =
 pub loop-place-preserved : goal.loop-place-preserved
 loop-place-preserved c =
     elim c.if-is_start_at.branch [
-      then-is_start_at+in_ok-push w ↦ (let pushed : c.if-is_start_at.starts.items ≡ c.loop-place.starts.items ++ c.loop-place.place ∷ [] = cc (w.in_ok-push.ensures.items, w.starts-is) in
-        starts c.as_slice-rows.result.now c.args.order.now c.loop-place.place c.loop-place.starts.items c.if-is_start_at.starts.items true (sym c.is_start_at.ensures ∙ w.if-is_start_at.true) c.loop-place.invariant pushed)
+      | then-is_start_at+in_ok-push w ↦ (let pushed : c.if-is_start_at.starts.items ≡ c.loop-place.starts.items ++ c.loop-place.place ∷ [] = cc (w.in_ok-push.ensures.items, w.starts-is) in
+          starts c.as_slice-rows.result.now c.args.order.now c.loop-place.place c.loop-place.starts.items c.if-is_start_at.starts.items true (sym c.is_start_at.ensures ∙ w.if-is_start_at.true) c.loop-place.invariant pushed)
       | else-is_start_at w ↦ (let kept : c.if-is_start_at.starts.items ≡ c.loop-place.starts.items = cc w.starts-is in
-        starts c.as_slice-rows.result.now c.args.order.now c.loop-place.place c.loop-place.starts.items c.if-is_start_at.starts.items false (sym c.is_start_at.ensures ∙ w.if-is_start_at.false) c.loop-place.invariant (kept ∙ sym (end_nil c.loop-place.starts.items)))
+          starts c.as_slice-rows.result.now c.args.order.now c.loop-place.place c.loop-place.starts.items c.if-is_start_at.starts.items false (sym c.is_start_at.ensures ∙ w.if-is_start_at.false) c.loop-place.invariant (kept ∙ sym (end_nil c.loop-place.starts.items)))
     ]
