@@ -19,8 +19,6 @@ mod error;
 mod passing;
 mod slicing;
 mod stacking;
-#[cfg(test)]
-mod tests;
 
 pub use columns::{project, rename, without};
 pub use criteria::{Criterion, Key};
