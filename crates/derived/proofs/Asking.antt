@@ -47,7 +47,7 @@ both_true true false e = absurd (false≢true e)
 both_true false y e = absurd (false≢true e)
 
 -- the domain at a name's column is the name's
-domain_here : (schema : List Attribute) (name : List ℕ) → has schema name ≡ true → domain_at schema (column_of schema name) ≡ domain_of schema name
+pub domain_here : (schema : List Attribute) (name : List ℕ) → has schema name ≡ true → domain_at schema (column_of schema name) ≡ domain_of schema name
 domain_here schema name h = ap (λ (a : Attribute). a.domain) (property_at_column schema name (record { name = []; domain = Domain.integer }) h)
 
 asked : (e f : Domain) (d : Datum) → e ≡ f → is_view f ≡ false → fits f d ≡ true → IsComparable d e

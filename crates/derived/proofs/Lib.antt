@@ -1,13 +1,16 @@
+pub mod Ascending
 pub mod Asking
 pub mod Cells
 pub mod Faults
 pub mod Filtering
 pub mod Fitting
 pub mod Headings
+pub mod KeyRows
 pub mod Names
 pub mod Numbers
 pub mod Projections
 pub mod Renaming
+pub mod RowOrder
 pub mod SameSchemas
 pub mod Steps
 pub mod Wholes

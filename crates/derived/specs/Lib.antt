@@ -3,6 +3,7 @@ pub mod Equality
 pub mod Fitting
 pub mod Grouping
 pub mod Joining
+pub mod Keys
 pub mod Layers
 pub mod NodeFalls
 pub mod Nodes

@@ -2,7 +2,8 @@
 //!
 //! A `Derived` is a schema and rows, read value by value through what it is made of: a table, rows of its own, or other derived
 //! tables with positions of rows and places of columns. So a chain of operators over n rows makes lists of positions alone and
-//! copies no row; only `concat` copies the rows of its second. A value is read through as many layers as the chain has.
+//! copies no row; only `concat` copies the rows of its second, and `sort` copies keys while it sorts. A value is read through as
+//! many layers as the chain has.
 //!
 //! Crates above make their tables by `held` of rows made anew, by `gather` of positions into a derived table, by `extend` with
 //! rows behind those of one, and by `copy_row` and `copy_rows`.
@@ -18,6 +19,7 @@ mod derived;
 mod error;
 mod passing;
 mod slicing;
+mod sorting;
 mod stacking;
 
 pub use columns::{project, rename, without};
@@ -26,4 +28,5 @@ pub use derived::{Derived, extend, gather, held, leaf, pick};
 pub use error::DerivedError;
 pub use passing::{range, select};
 pub use slicing::slice;
+pub use sorting::sort;
 pub use stacking::{concat, copy_row, copy_rows};
