@@ -1,0 +1,9 @@
+pub mod Short
+pub mod Chunks
+pub mod Joined
+pub mod Places
+pub mod PartLaws
+pub mod Edits
+pub mod Columns
+pub mod Sizes
+pub mod Fills

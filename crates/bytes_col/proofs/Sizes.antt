@@ -1,0 +1,55 @@
+-- Laws of the sizes of values.
+use Rattle.std.proofs.Common.{◌≡◌, ℕ, zero, suc, ◌+◌, ℤ, pos, Option, None, List, [], ◌∷◌, ◌++◌, length, map, set, take, drop, replicate, refl, sym, ap, ◌∙◌}
+use Rattle.std.proofs.lemmas.List.{length-map, map-append, map-set, take-map, drop-map}
+use Rattle.mk_value.specs.declared.span.Span.{Span}
+use Rattle.int_col.specs.Column.{Column as Integers, home_after}
+use Rattle.bytes_col.specs.Column.{sizes_of}
+use Rattle.bytes_col.specs.Spine.{HasSizes}
+
+sizes-replicate : (n : ℕ) (v : List ℕ) → sizes_of (replicate n v) ≡ replicate n (pos (length v))
+sizes-replicate zero v = refl
+sizes-replicate (suc n) v = ap (λ zs. pos (length v) ∷ zs) (sizes-replicate n v)
+
+pub sizes_set : (vs new : List (List ℕ)) (s t : Integers) (at : ℕ) (v : List ℕ) → HasSizes vs s → new ≡ set vs at v → t ≡ record s { values = set s.values at (pos (length v)); home = None } → HasSizes new t
+sizes_set vs new s t at v h is sized = record {
+  are = ap (λ x. x.values) sized ∙ ap (λ zs. set zs at (pos (length v))) h.are ∙ sym (ap sizes_of is ∙ map-set (λ x. pos (length x)) vs at v);
+  nowhere = ap (λ x. x.home) sized;
+}
+
+pub sizes_pushed : (vs new : List (List ℕ)) (s t : Integers) (v : List ℕ) → HasSizes vs s → new ≡ vs ++ v ∷ [] → t.values ≡ s.values ++ pos (length v) ∷ [] → t.home ≡ None → HasSizes new t
+sizes_pushed vs new s t v h is sized home = record {
+  are = sized ∙ ap (λ zs. zs ++ pos (length v) ∷ []) h.are ∙ sym (ap sizes_of is ∙ map-append (λ x. pos (length x)) vs (v ∷ []));
+  nowhere = home;
+}
+
+none_after : (n : ℕ) → home_after n None ≡ None
+none_after zero = refl
+none_after (suc n) = refl
+
+pub sizes_inserted : (vs new : List (List ℕ)) (s t : Integers) (at n : ℕ) (v : List ℕ) → HasSizes vs s → new ≡ take at vs ++ (replicate n v ++ drop at vs) → t.values ≡ take at s.values ++ (replicate n (pos (length v)) ++ drop at s.values) → t.home ≡ home_after n s.home → HasSizes new t
+sizes_inserted vs new s t at n v h is sized home = record {
+  are =
+      sized
+      ∙ ap (λ zs. take at zs ++ (replicate n (pos (length v)) ++ drop at zs)) h.are
+      ∙ sym (ap sizes_of is
+      ∙ map-append (λ x. pos (length x)) (take at vs) (replicate n v ++ drop at vs)
+      ∙ ap (λ zs. sizes_of (take at vs) ++ zs) (map-append (λ x. pos (length x)) (replicate n v) (drop at vs) ∙ ap (λ zs. zs ++ sizes_of (drop at vs)) (sizes-replicate n v))
+      ∙ ap (λ zs. zs ++ (replicate n (pos (length v)) ++ sizes_of (drop at vs))) (sym (take-map (λ x. pos (length x)) at vs))
+      ∙ ap (λ zs. take at (sizes_of vs) ++ (replicate n (pos (length v)) ++ zs)) (sym (drop-map (λ x. pos (length x)) at vs)));
+  nowhere = home ∙ ap (home_after n) h.nowhere ∙ none_after n;
+}
+
+pub sizes_removed : (vs new : List (List ℕ)) (s t : Integers) (at n : ℕ) → HasSizes vs s → new ≡ take at vs ++ drop (at + n) vs → t.values ≡ take at s.values ++ drop (at + n) s.values → t.home ≡ home_after n s.home → HasSizes new t
+sizes_removed vs new s t at n h is sized home = record {
+  are =
+      sized
+      ∙ ap (λ zs. take at zs ++ drop (at + n) zs) h.are
+      ∙ sym (ap sizes_of is
+      ∙ map-append (λ x. pos (length x)) (take at vs) (drop (at + n) vs)
+      ∙ ap (λ zs. zs ++ sizes_of (drop (at + n) vs)) (sym (take-map (λ x. pos (length x)) at vs))
+      ∙ ap (λ zs. take at (sizes_of vs) ++ zs) (sym (drop-map (λ x. pos (length x)) (at + n) vs)));
+  nowhere = home ∙ ap (home_after n) h.nowhere ∙ none_after n;
+}
+
+pub length-sizes : (vs : List (List ℕ)) (s : Integers) → HasSizes vs s → length s.values ≡ length vs
+length-sizes vs s h = ap length h.are ∙ length-map vs (λ x. pos (length x))

@@ -1,0 +1,22 @@
+use Rattle.std.proofs.Common.{◌≡◌, ◌+◌, ◌-◌, ◌≤◌, ◌++◌, length, take, drop, sym, ap, ◌∙◌, arith}
+use Rattle.bytes_col.specs.Parts.{added}
+use Rattle.bytes_col.specs.Spine.{joined}
+use Rattle.bytes_col.proofs.Places.{values_at_place, within_chunk}
+use Rattle.bytes_col.proofs.spine.Spine.add_some_to.Goals as goal
+
+pub returns-clause-values : goal.returns-clause-values
+returns-clause-values c =
+    let n = c.min-count.result in
+    let o = c.find-place.result.offset in
+    let place = rw (← c.self.view_is) at c.find-place.ensures.place in
+    let here = rw (← c.chunk-chunk.ensures) at c.index.ensures in
+    let enough : o + n ≤ length c.chunk-chunk.result.now =
+    omega (arith, c.min-count.ensures, c.len.ensures.count, within_chunk c.self.inside.chunks.items c.args.from c.find-place.result.chunk o c.chunk-chunk.result.now place here) in
+    let inner : o + n - o ≡ n = omega arith in
+    let outer : c.args.from + n - c.args.from ≡ n = omega arith in
+    rw (← c.self.view_is)
+    (c.in_ok-add.ensures
+    ∙ ap (λ xs. added c.args.parts.now ++ xs)
+    (ap (λ k. take k (drop o c.chunk-chunk.result.now)) inner
+    ∙ sym (values_at_place c.self.inside.chunks.items c.args.from c.find-place.result.chunk o n c.chunk-chunk.result.now place here enough)
+    ∙ ap (λ k. take k (drop c.args.from (joined c.self.inside.chunks.items))) (sym outer)))

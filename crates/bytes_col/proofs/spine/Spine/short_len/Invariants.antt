@@ -1,0 +1,7 @@
+use Rattle.std.proofs.Common.{◌≡◌, length, take}
+use Rattle.bytes_col.specs.Column.{short_bytes}
+use Rattle.bytes_col.specs.Spine.{joined}
+use Rattle.bytes_col.proofs.spine.Spine.short_len.Given as goal
+
+abbrev pub invariant-loop-shared : goal.invariant-loop-shared
+invariant-loop-shared l = l.total ≡ length (short_bytes (joined (take l.shared-index l.self)))

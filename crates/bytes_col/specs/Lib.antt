@@ -1,0 +1,5 @@
+pub mod Column
+pub mod Chunk
+pub mod Spine
+pub mod Edit
+pub mod Parts

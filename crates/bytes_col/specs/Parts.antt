@@ -1,0 +1,8 @@
+-- Chunks under construction.
+use Rattle.std.specs.Prelude.{ℕ, List, ◌++◌}
+use Rattle.bytes_col.specs.declared.parts.Parts.{Parts}
+use Rattle.bytes_col.specs.Spine.{joined}
+
+-- the values added so far
+abbrev pub added : Parts → List (List ℕ)
+added p = joined p.done.items ++ p.last

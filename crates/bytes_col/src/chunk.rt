@@ -1,0 +1,232 @@
+//! A run of values.
+ghost use Rattle.std.specs.Prelude.{◌≡◌, ℕ, pos, ◌+◌, ◌-◌, ◌*◌, ◌<◌, ◌≤◌, [], ◌∷◌, ◌++◌, length, slice_set, slice_index_or, take, drop, replicate, None, IfOk, OnOk, OnErr};
+ghost use Rattle.bytes_col.specs.Column.{short_bytes};
+ghost use Rattle.bytes_col.specs.Chunk.{cell_value, IsCell};
+
+use crate::cell::{Cell, Piece, SHORT_MOST};
+use crate::memo::Memo;
+use int_col::IntCol;
+use mk_value::Memory;
+use std::alloc::{AllocError, Global};
+use std::marker::Model;
+
+/// The most values of one chunk.
+pub(crate) const CHUNK_MOST: usize = 512;
+
+/// How many bytes of a chunk may be those of no value any more, beside as many as those of its values.
+const LOOSE_MOST: usize = 4096;
+
+/// At most 512 values. A short value that is set or added is written behind the bytes, so that no other value moves.
+#[derive(Drop)]
+pub(crate) struct Chunk {
+    cells: Vec<Cell>,
+    bytes: Vec<u8>,
+    short: usize,
+}
+
+impl Model for Chunk {
+    ghost use Rattle.std.specs.Prelude.{List, ℕ};
+    ghost use Rattle.bytes_col.specs.Chunk.{cell_values, IsChunk};
+
+    ghost Value = { List (List ℕ) };
+
+    ghost view = { λ c. cell_values c.bytes.items c.cells.items };
+
+    ghost invariant = { λ c. IsChunk c.cells.items c.bytes.items c.short };
+}
+
+impl Clone for Chunk {
+    ghost is_clone = { λ a b. b ≡ a };
+
+    fn clone(&self) -> Result<Chunk, AllocError> {
+        let bytes = Vec::from_slice(*self.bytes.allocator(), &self.bytes)?;
+        Ok(Chunk {
+            cells: Vec::from_clones(*self.cells.allocator(), &self.cells)?,
+            bytes,
+            short: self.short,
+        })
+    }
+}
+
+impl Chunk {
+    /// No values.
+    pub(crate) fn new(alloc: Global) -> Chunk
+        ensures { result ≡ [] }
+    {
+        Chunk {
+            cells: Vec::new(alloc),
+            bytes: Vec::new(alloc),
+            short: 0,
+        }
+    }
+
+    /// How many values there are.
+    pub(crate) fn len(&self) -> usize
+        ensures count { result ≡ length self.now }
+        ensures few { result ≤ 512 }
+    {
+        self.cells.len()
+    }
+
+    /// How many bytes the short values have together.
+    pub(crate) fn short_len(&self) -> usize
+        ensures count { result ≡ length (short_bytes self.now) }
+        ensures few { result ≤ 262144 }
+    {
+        self.short
+    }
+
+    /// The value at a place.
+    pub(crate) fn value(&self, at: usize) -> &[u8]
+        requires { at < length self.now }
+        ensures { result.now ≡ slice_index_or self.now at [] }
+    {
+        match &self.cells[at] {
+            Cell::Short(piece) => &self.bytes[piece.start..piece.start + piece.len],
+            Cell::Memo(memo) => memo.bytes(),
+        }
+    }
+
+    /// Adds a value.
+    pub(crate) fn append(&mut self, value: &[u8]) -> Result<(), Memory>
+        requires { length self.old < 512 }
+        ensures { OnOk result (self.new ≡ self.old ++ value.now ∷ []) }
+    {
+        self.cells.reserve(1)?;
+        let cell = stage(&mut self.bytes, value)?;
+        self.cells.push_reserved(cell);
+        self.short += short_size(value);
+        Ok(())
+    }
+
+    /// Adds a value, and its size.
+    pub(crate) fn push(&mut self, value: &[u8], sizes: &mut IntCol) -> Result<(), Memory>
+        requires room { length self.old < 512 }
+        requires few { length sizes.old.values < 16777216 }
+        ensures ok { OnOk result (self.new ≡ self.old ++ value.now ∷ []) }
+        ensures sizes { OnOk result (sizes.new.values ≡ sizes.old.values ++ pos (length value.now) ∷ []) }
+        ensures home { OnOk result (sizes.new.home ≡ None) }
+        ensures err { OnErr result (self.new ≡ self.old) }
+        ensures sizes_err { OnErr result (sizes.new ≡ sizes.old) }
+    {
+        self.cells.reserve(1)?;
+        let cell = stage(&mut self.bytes, value)?;
+        sizes.insert(sizes.len(), value.len() as i64, 1)?;
+        self.cells.push_reserved(cell);
+        self.short += short_size(value);
+        Ok(())
+    }
+
+    /// Adds copies of another chunk's value, which have its bytes in common.
+    pub(crate) fn add(&mut self, other: &Chunk, at: usize, count: usize) -> Result<(), Memory>
+        requires at { at < length other.now }
+        requires room { length self.old + count ≤ 512 }
+        ensures { OnOk result (self.new ≡ self.old ++ replicate count (slice_index_or other.now at [])) }
+    {
+        let cell = stage_copy(&mut self.bytes, &other.cells[at], &other.bytes)?;
+        push_copies(&mut self.cells, &cell, count)?;
+        self.short += count * short_size(other.value(at));
+        Ok(())
+    }
+
+    /// Sets a value, and its size.
+    pub(crate) fn set(
+        &mut self,
+        at: usize,
+        value: &[u8],
+        sizes: &mut IntCol,
+        row: usize,
+    ) -> Result<(), Memory>
+        requires at { at < length self.old }
+        requires row { row < length sizes.old.values }
+        ensures ok { OnOk result (self.new ≡ slice_set self.old at value.now) }
+        ensures sizes { OnOk result (sizes.new ≡ record sizes.old { values = slice_set sizes.old.values row (pos (length value.now)); home = None }) }
+        ensures len { length self.new ≡ length self.old }
+        ensures err { OnErr result (self.new ≡ self.old) }
+        ensures sizes_err { OnErr result (sizes.new ≡ sizes.old) }
+    {
+        self.tighten()?;
+        let short = self.short - short_size(self.value(at)) + short_size(value);
+        let cell = stage(&mut self.bytes, value)?;
+        sizes.set(row, value.len() as i64)?;
+        self.cells[at] = cell;
+        self.short = short;
+        Ok(())
+    }
+
+    /// Drops the bytes of no value, where they have become many.
+    fn tighten(&mut self) -> Result<(), Memory>
+        ensures { self.new ≡ self.old }
+    {
+        if self.bytes.len() / 2 <= self.short.saturating_add(LOOSE_MOST) {
+            return Ok(());
+        }
+        *self = self.packed()?;
+        Ok(())
+    }
+
+    /// The same values, with no other bytes.
+    fn packed(&self) -> Result<Chunk, Memory>
+        ensures { IfOk result (λ chunk. chunk ≡ self.now) }
+    {
+        let mut chunk = Chunk::new(*self.bytes.allocator());
+        for at in 0..self.len() {
+            chunk.add(self, at, 1)?;
+        }
+        Ok(chunk)
+    }
+}
+
+/// How many short bytes a value has.
+fn short_size(value: &[u8]) -> usize
+    ensures count { result ≡ length (short_bytes (value.now ∷ [])) }
+    ensures few { result ≤ 512 }
+{
+    if value.len() <= SHORT_MOST {
+        value.len()
+    } else {
+        0
+    }
+}
+
+/// The cell of a value, whose bytes are written behind those that are there, if it is short.
+fn stage(bytes: &mut Vec<u8>, value: &[u8]) -> Result<Cell, Memory>
+    ensures value { IfOk result (λ cell. cell_value bytes.new.items cell ≡ value.now) }
+    ensures cell { IfOk result (λ cell. IsCell bytes.new.items cell) }
+    ensures kept { OnOk result (bytes.new.items ≡ bytes.old.items ++ short_bytes (value.now ∷ [])) }
+    ensures err { OnErr result (bytes.new.items ≡ bytes.old.items) }
+{
+    if value.len() > SHORT_MOST {
+        return Ok(Cell::Memo(Memo::of(*bytes.allocator(), value)?));
+    }
+    let start = bytes.len();
+    bytes.extend_from_slice(value)?;
+    Ok(Cell::Short(Piece {
+        start,
+        len: value.len(),
+    }))
+}
+
+/// The cell of a copy of another chunk's value, which has the other's cell and bytes.
+fn stage_copy(bytes: &mut Vec<u8>, cell: &Cell, from: &[u8]) -> Result<Cell, Memory>
+    requires { IsCell from.now cell.now }
+    ensures value { IfOk result (λ copy. cell_value bytes.new.items copy ≡ cell_value from.now cell.now) }
+    ensures cell { IfOk result (λ copy. IsCell bytes.new.items copy) }
+    ensures kept { OnOk result (bytes.new.items ≡ bytes.old.items ++ short_bytes (cell_value from.now cell.now ∷ [])) }
+    ensures err { OnErr result (bytes.new.items ≡ bytes.old.items) }
+{
+    match cell {
+        Cell::Short(piece) => stage(bytes, &from[piece.start..piece.start + piece.len]),
+        Cell::Memo(memo) => Ok(Cell::Memo(memo.clone()?)),
+    }
+}
+
+/// Adds copies of a cell.
+fn push_copies(cells: &mut Vec<Cell>, cell: &Cell, count: usize) -> Result<(), AllocError>
+    requires few { length cells.old.items + count ≤ 512 }
+    ensures ok { OnOk result (cells.new.items ≡ cells.old.items ++ replicate count cell.now) }
+    ensures err { OnErr result (cells.new.items ≡ cells.old.items) }
+{
+    let len = cells.len() + count;
+    cells.resize(len, cell.clone()?)
+}

@@ -1,0 +1,287 @@
+//! A column of texts or byte strings.
+ghost use Rattle.std.specs.Prelude.{◌≡◌, ℕ, pos, ◌+◌, ◌-◌, ◌<◌, ◌≤◌, ◌==◌, [], ◌∷◌, ◌++◌, length, take, drop, map, replicate, slice_set, slice_index_or, Some, None, IfOk, OnOk, OnErr, IfSome, IfNone, sum, nat_le, not, if◌then◌else◌};
+ghost use Rattle.std.specs.List.{filter};
+ghost use Rattle.std.specs.Ordering.{nat_cmp};
+ghost use Rattle.std.specs.Cmp.Lexicographic.{slice_cmp};
+ghost use Rattle.bytes_col.specs.Column.{Column, is_short, short_bytes, sizes_of, memo_rows, home_after};
+
+use crate::cell::SHORT_MOST;
+use crate::home::BytesHome;
+use crate::shared::SharedSpine;
+use int_col::IntCol;
+use mk_value::{Bytes, Memory, Positions};
+use std::alloc::Global;
+use std::cmp::Ordering;
+use std::marker::Model;
+
+/// A column of at most 16,777,216 texts or byte strings, and where it stands in a file.
+///
+/// A value of more than 512 bytes is a memo; the others are short.
+#[derive(Drop)]
+pub struct BytesCol {
+    spine: SharedSpine,
+    sizes: IntCol,
+    home: Option<BytesHome>,
+}
+
+impl Model for BytesCol {
+    ghost use Rattle.bytes_col.specs.Column.{Column};
+    ghost use Rattle.bytes_col.specs.Spine.{joined, column_of, HasSizes};
+
+    ghost Value = { Column };
+
+    ghost view = { λ c. column_of c.spine c.home };
+
+    ghost invariant = { λ c. HasSizes (joined c.spine) c.sizes };
+}
+
+impl BytesCol {
+    /// The column of copies of these values.
+    ///
+    /// # Errors
+    ///
+    /// `Memory`.
+    pub fn from_values(
+        alloc: Global,
+        values: &[Bytes],
+        home: Option<BytesHome>,
+    ) -> Result<BytesCol, Memory>
+        requires { length values.now ≤ 16777216 }
+        ensures values { IfOk result (λ column. column.values ≡ map (λ value. value.bytes) values.now) }
+        ensures home { IfOk result (λ column. column.home ≡ home) }
+    {
+        let sizes = sizes(alloc, values)?;
+        Ok(BytesCol {
+            spine: SharedSpine::of(alloc, values)?,
+            sizes: IntCol::from_values(alloc, &sizes, None)?,
+            home,
+        })
+    }
+
+    /// How many values there are.
+    pub fn len(&self) -> usize
+        ensures len { result ≡ length self.now.values }
+        ensures few { length self.now.values ≤ 16777216 }
+    {
+        self.spine.spine().len()
+    }
+
+    /// Whether there are no values.
+    pub fn is_empty(&self) -> bool
+        ensures { result ≡ (length self.now.values == 0) }
+    {
+        self.len() == 0
+    }
+
+    /// A copy of the value at a place.
+    ///
+    /// # Errors
+    ///
+    /// `Memory`.
+    pub fn get(&self, at: usize) -> Result<Bytes, Memory>
+        requires { at < length self.now.values }
+        ensures { IfOk result (λ value. value.bytes ≡ slice_index_or self.now.values at []) }
+    {
+        let spine = self.spine.spine();
+        Bytes::from_slice(spine.allocator(), spine.value(at))
+    }
+
+    /// Sets the value at a place. The home is then none, also where the value was there before.
+    ///
+    /// The bytes of a short value are written behind those of its chunk, where they do not become too many, and no other value
+    /// moves.
+    ///
+    /// # Errors
+    ///
+    /// `Memory`, and the column is as it was.
+    pub fn set(&mut self, at: usize, value: &[u8]) -> Result<(), Memory>
+        requires { at < length self.old.values }
+        ensures ok { OnOk result (self.new ≡ record self.old { values = slice_set self.old.values at value.now; home = None }) }
+        ensures err { OnErr result (self.new ≡ self.old) }
+    {
+        self.spine.set(at, value, &mut self.sizes)?;
+        self.home = None;
+        Ok(())
+    }
+
+    /// Inserts copies of a value before a place, or at the end. The home is then none, unless there are no copies.
+    ///
+    /// The copies of a memo share its bytes, and whole chunks of copies are one chunk, shared. It costs the chunk at the place
+    /// and a walk over the list of chunks.
+    ///
+    /// # Errors
+    ///
+    /// `Memory`, and the column is as it was.
+    pub fn insert(&mut self, at: usize, value: &[u8], count: usize) -> Result<(), Memory>
+        requires at { at ≤ length self.old.values }
+        requires few { length self.old.values + count ≤ 16777216 }
+        ensures values { OnOk result (self.new.values ≡ take at self.old.values ++ (replicate count value.now ++ drop at self.old.values)) }
+        ensures home { OnOk result (self.new.home ≡ home_after count self.old.home) }
+        ensures err { OnErr result (self.new ≡ self.old) }
+    {
+        if count == 0 {
+            return Ok(());
+        }
+        self.spine.insert(at, value, count, &mut self.sizes)?;
+        self.home = None;
+        Ok(())
+    }
+
+    /// Removes as many values from a place on. The home is then none, unless none are removed.
+    ///
+    /// It costs the chunks at both ends of what is removed and a walk over the list of chunks.
+    ///
+    /// # Errors
+    ///
+    /// `Memory`, and the column is as it was.
+    pub fn remove(&mut self, at: usize, count: usize) -> Result<(), Memory>
+        requires { at + count ≤ length self.old.values }
+        ensures values { OnOk result (self.new.values ≡ take at self.old.values ++ drop (at + count) self.old.values) }
+        ensures home { OnOk result (self.new.home ≡ home_after count self.old.home) }
+        ensures err { OnErr result (self.new ≡ self.old) }
+    {
+        if count == 0 {
+            return Ok(());
+        }
+        self.spine.remove(at, count, &mut self.sizes)?;
+        self.home = None;
+        Ok(())
+    }
+
+    /// How the value at a place compares with another: the first byte that differs decides, and a proper prefix is less.
+    pub fn cmp_with(&self, at: usize, with: &[u8]) -> Ordering
+        requires { at < length self.now.values }
+        ensures { result ≡ slice_cmp nat_cmp (slice_index_or self.now.values at []) with.now }
+    {
+        self.spine.spine().value(at).cmp(with)
+    }
+
+    /// How the values at two places compare, as in `cmp_with`.
+    pub fn cmp_at(&self, a: usize, b: usize) -> Ordering
+        requires a { a < length self.now.values }
+        requires b { b < length self.now.values }
+        ensures { result ≡ slice_cmp nat_cmp (slice_index_or self.now.values a []) (slice_index_or self.now.values b []) }
+    {
+        let spine = self.spine.spine();
+        spine.value(a).cmp(spine.value(b))
+    }
+
+    /// The sizes of the values in bytes. They have no home of their own.
+    pub fn sizes(&self) -> &IntCol
+        ensures sizes { result.now.values ≡ sizes_of self.now.values }
+        ensures home { result.now.home ≡ None }
+    {
+        &self.sizes
+    }
+
+    /// How many bytes the short values have together. It costs a look at each chunk.
+    pub fn short_len(&self) -> u64
+        ensures count { result ≡ length (short_bytes self.now.values) }
+        ensures sum { result ≡ sum (filter (λ size. nat_le size 512) (map length self.now.values)) }
+    {
+        self.spine.spine().short_len() as u64
+    }
+
+    /// The rows of the memos, ascending. It costs a look at each value.
+    ///
+    /// # Errors
+    ///
+    /// `Memory`.
+    pub fn memo_rows(&self, alloc: Global) -> Result<Positions, Memory>
+        ensures { IfOk result (λ rows. rows ≡ memo_rows self.now.values) }
+    {
+        let mut rows = Positions::new(alloc);
+        for row in 0..self.len() {
+            push_where(&mut rows, self.is_memo(row), row as u32)?;
+        }
+        Ok(rows)
+    }
+
+    /// Whether a value is a memo.
+    fn is_memo(&self, row: usize) -> bool
+        requires { row < length self.now.values }
+        ensures { result ≡ not (is_short (slice_index_or self.now.values row [])) }
+    {
+        self.spine.spine().value(row).len() > SHORT_MOST
+    }
+
+    /// Writes the bytes of the short values, joined in the order of the rows, from byte `from` on.
+    pub fn fill_short(&self, from: u64, into: &mut [u8])
+        requires { from + length into.old ≤ length (short_bytes self.now.values) }
+        ensures { into.new ≡ take (length into.old) (drop from (short_bytes self.now.values)) }
+    {
+        self.spine.spine().fill_short(from as usize, into);
+    }
+
+    /// Writes the bytes of a value from byte `from` on.
+    pub fn fill_memo(&self, row: usize, from: u64, into: &mut [u8])
+        requires row { row < length self.now.values }
+        requires within { from + length into.old ≤ length (slice_index_or self.now.values row []) }
+        ensures { into.new ≡ take (length into.old) (drop from (slice_index_or self.now.values row [])) }
+    {
+        let value = self.spine.spine().value(row);
+        let from = from as usize;
+        into.copy_from_slice(&value[from..from + into.len()]);
+    }
+
+    /// Where the column stands in a file, if it stands there as it is.
+    pub fn home(&self) -> Option<&BytesHome>
+        ensures some { IfSome result (λ home. self.now.home ≡ Some home.now) }
+        ensures none { IfNone result (self.now.home ≡ None) }
+    {
+        self.home.as_ref()
+    }
+
+    /// Sets the home, and nothing else. It takes no memory.
+    pub fn settle(&mut self, home: BytesHome)
+        ensures { self.new ≡ record self.old { home = Some home } }
+    {
+        self.home = Some(home);
+    }
+
+    /// A copy, which shares all values. It costs the length of the home.
+    ///
+    /// # Errors
+    ///
+    /// `Memory`.
+    pub fn same(&self) -> Result<BytesCol, Memory>
+        ensures { IfOk result (λ copy. copy ≡ self.now) }
+    {
+        Ok(BytesCol {
+            spine: self.spine.clone()?,
+            sizes: self.sizes.same()?,
+            home: copy_home(self.spine.spine().allocator(), &self.home)?,
+        })
+    }
+}
+
+/// The sizes of the values in bytes.
+fn sizes(alloc: Global, values: &[Bytes]) -> Result<Vec<i64>, Memory>
+    ensures { IfOk result (λ sizes. sizes.items ≡ sizes_of (map (λ value. value.bytes) values.now)) }
+{
+    let mut sizes = Vec::with_capacity(alloc, values.len())?;
+    for value in values {
+        sizes.push(value.as_slice().len() as i64)?;
+    }
+    Ok(sizes)
+}
+
+/// Adds a row where it is one of those that are sought.
+fn push_where(rows: &mut Positions, sought: bool, row: u32) -> Result<(), Memory>
+    ensures { OnOk result (rows.new ≡ rows.old ++ (if sought then row ∷ [] else [])) }
+{
+    if sought {
+        rows.push(row)?;
+    }
+    Ok(())
+}
+
+/// A copy of a home.
+fn copy_home(alloc: Global, home: &Option<BytesHome>) -> Result<Option<BytesHome>, Memory>
+    ensures { IfOk result (λ copy. copy ≡ home.now) }
+{
+    match home {
+        None => Ok(None),
+        Some(home) => Ok(Some(home.copy(alloc)?)),
+    }
+}

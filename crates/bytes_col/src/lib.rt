@@ -1,0 +1,27 @@
+//! Columns of texts and byte strings: values kept in chunks, shared between copies and copied on write.
+//!
+//! A [`BytesCol`] is a list of up to 16,777,216 byte strings and a home, the places of its blocks in a file. The list is cut
+//! into chunks of at most 512 values. A chunk keeps the bytes of its short values together, and each memo, a value of more
+//! than 512 bytes, in memory of its own. Copies share the chunks and the spine that lists them; an edit copies the chunks it
+//! touches and the spine, and only where they are shared. The sizes of the values are a column of integers.
+//!
+//! It stands on `int_col` for the sizes, and knows nothing of files: a home is only kept. What the bytes mean is not its
+//! business either; a text is kept as its bytes.
+#![tactic(auto)]
+
+mod cell;
+mod chunk;
+mod column;
+mod edit;
+mod ends;
+mod fill;
+mod home;
+mod memo;
+mod parts;
+mod shared;
+mod spine;
+#[cfg(test)]
+mod tests;
+
+pub use column::BytesCol;
+pub use home::BytesHome;

@@ -1,0 +1,137 @@
+//! Chunks under construction.
+ghost use Rattle.std.specs.Prelude.{◌≡◌, ℕ, ◌+◌, ◌-◌, ◌*◌, ◌<◌, ◌≤◌, [], ◌∷◌, ◌++◌, length, slice_index_or, take, drop, replicate, IfOk, OnOk};
+ghost use Rattle.bytes_col.specs.Spine.{joined};
+
+use crate::chunk::{CHUNK_MOST, Chunk};
+use crate::shared::SharedChunk;
+use mk_value::Memory;
+use std::alloc::Global;
+use std::mem::replace;
+
+/// Chunks under construction: those that are done, and the last, which takes more values.
+#[derive(Drop)]
+pub(crate) struct Parts {
+    done: Vec<SharedChunk>,
+    last: Chunk,
+}
+
+impl Parts {
+    ghost use Rattle.bytes_col.specs.Parts.{added};
+
+    /// No values.
+    pub(crate) fn new(alloc: Global) -> Parts
+        ensures { added result ≡ [] }
+    {
+        Parts {
+            done: Vec::new(alloc),
+            last: Chunk::new(alloc),
+        }
+    }
+
+    /// Ends the last chunk.
+    fn close(&mut self) -> Result<(), Memory>
+        ensures values { OnOk result (added self.new ≡ added self.old) }
+        ensures empty { OnOk result (self.new.last ≡ []) }
+    {
+        let alloc = *self.done.allocator();
+        let last = replace(&mut self.last, Chunk::new(alloc));
+        self.done.push(SharedChunk::of(alloc, last)?)?;
+        Ok(())
+    }
+
+    /// Sees to it that the last chunk takes a value.
+    fn make_room(&mut self) -> Result<(), Memory>
+        ensures values { OnOk result (added self.new ≡ added self.old) }
+        ensures room { OnOk result (length self.new.last < 512) }
+    {
+        if self.last.len() < CHUNK_MOST {
+            return Ok(());
+        }
+        self.close()
+    }
+
+    /// Adds a value.
+    pub(crate) fn append(&mut self, value: &[u8]) -> Result<(), Memory>
+        ensures { OnOk result (added self.new ≡ added self.old ++ value.now ∷ []) }
+    {
+        self.make_room()?;
+        self.last.append(value)
+    }
+
+    /// Adds a chunk's value.
+    fn add_one(&mut self, chunk: &Chunk, at: usize) -> Result<(), Memory>
+        requires { at < length chunk.now }
+        ensures { OnOk result (added self.new ≡ added self.old ++ replicate 1 (slice_index_or chunk.now at [])) }
+    {
+        self.make_room()?;
+        self.last.add(chunk, at, 1)
+    }
+
+    /// Adds the values of a chunk from place `from` up to `to`.
+    pub(crate) fn add(&mut self, chunk: &Chunk, from: usize, to: usize) -> Result<(), Memory>
+        requires order { from ≤ to }
+        requires within { to ≤ length chunk.now }
+        ensures { OnOk result (added self.new ≡ added self.old ++ take (to - from) (drop from chunk.now)) }
+    {
+        for at in from..to {
+            self.add_one(chunk, at)?;
+        }
+        Ok(())
+    }
+
+    /// Adds copies of a chunk's one value. Whole chunks of copies are one chunk, shared.
+    pub(crate) fn add_copies(&mut self, one: &Chunk, count: usize) -> Result<(), Memory>
+        requires { 0 < length one.now }
+        ensures { OnOk result (added self.new ≡ added self.old ++ replicate count (slice_index_or one.now 0 [])) }
+    {
+        let room = CHUNK_MOST - self.last.len();
+        if count <= room {
+            return self.last.add(one, 0, count);
+        }
+        self.last.add(one, 0, room)?;
+        self.close()?;
+        self.add_whole(one, (count - room) / CHUNK_MOST)?;
+        self.last.add(one, 0, (count - room) % CHUNK_MOST)
+    }
+
+    /// Adds whole chunks of copies, where the last one is empty.
+    fn add_whole(&mut self, one: &Chunk, count: usize) -> Result<(), Memory>
+        requires some { 0 < length one.now }
+        requires empty { self.old.last ≡ [] }
+        ensures values { OnOk result (added self.new ≡ added self.old ++ replicate (count * 512) (slice_index_or one.now 0 [])) }
+        ensures empty { OnOk result (self.new.last ≡ []) }
+    {
+        if count == 0 {
+            return Ok(());
+        }
+        let alloc = *self.done.allocator();
+        let mut whole = Chunk::new(alloc);
+        whole.add(one, 0, CHUNK_MOST)?;
+        push_clones(&mut self.done, &SharedChunk::of(alloc, whole)?, count)
+    }
+
+    /// The chunks.
+    pub(crate) fn finish(self) -> Result<Vec<SharedChunk>, Memory>
+        ensures { IfOk result (λ chunks. joined chunks.items ≡ added self) }
+    {
+        let Parts { mut done, last } = self;
+        if last.len() > 0 {
+            done.push(SharedChunk::of(*done.allocator(), last)?)?;
+        }
+        Ok(done)
+    }
+}
+
+/// Adds owners of a chunk.
+fn push_clones(
+    chunks: &mut Vec<SharedChunk>,
+    chunk: &SharedChunk,
+    count: usize,
+) -> Result<(), Memory>
+    ensures { OnOk result (chunks.new.items ≡ chunks.old.items ++ replicate count chunk.now) }
+{
+    for _copy in 0..count {
+        chunks.push(chunk.clone()?)?;
+    }
+    Ok(())
+}
