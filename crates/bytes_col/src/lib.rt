@@ -20,8 +20,6 @@ mod memo;
 mod parts;
 mod shared;
 mod spine;
-#[cfg(test)]
-mod tests;
 
 pub use column::BytesCol;
 pub use home::BytesHome;
