@@ -7,3 +7,5 @@ pub mod Positions
 pub mod Walked
 pub mod Entries
 pub mod Indexes
+pub mod Agreeing
+pub mod Counted

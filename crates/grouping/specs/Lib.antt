@@ -1,3 +1,4 @@
+pub mod Counting
 pub mod Index
 pub mod OrderLaws
 pub mod WholeOrder

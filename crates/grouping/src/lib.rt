@@ -7,13 +7,18 @@
 //! expressions, files or columns in memory.
 #![tactic(auto)]
 
+mod counting;
 mod entry;
+mod grouped;
 mod index;
+mod keys;
 mod order;
 #[cfg(test)]
 mod tests;
 mod uniqueness;
 
+pub use counting::counts;
+pub use grouped::group_by;
 pub use index::RowIndex;
 pub use order::{cmp_whole_row, cmp_whole_value};
 pub use uniqueness::unique;

@@ -1,0 +1,10 @@
+pub mod Counting
+pub mod Equal
+pub mod KeyTests
+pub mod Listing
+pub mod Matches
+pub mod Names
+pub mod Rows
+pub mod Sides
+pub mod Unnests
+pub mod Wholes
