@@ -1,4 +1,0 @@
-pub mod Counting
-pub mod Index
-pub mod OrderLaws
-pub mod WholeOrder

@@ -1,4 +1,0 @@
-pub mod Counted
-pub mod Dues
-pub mod Partners
-pub mod Sets
