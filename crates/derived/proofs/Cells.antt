@@ -5,9 +5,8 @@ use Rattle.mk_value.specs.Heading.{Domain, Attribute}
 use Rattle.mk_value.specs.Data.{Datum, integer, AreRowsOf, IsRowOf, IsOf, cell}
 use Rattle.mk_value.specs.Tables.{domain_at, IsPlainDomain, IsComparable}
 use Rattle.mk_value.proofs.Relations.{row_fits_length}
-use Rattle.derived.specs.Joining.{zipped}
 use Rattle.derived.specs.Layers.{Layered}
-use Rattle.derived.specs.Nodes.{AreBeside, AreColumns, values_at}
+use Rattle.derived.specs.Nodes.{AreColumns, values_at}
 
 -- a row of a table has a value for each property
 pub row_length : (rows : List (List Datum)) (schema : List Attribute) (i : ℕ) → AreRowsOf rows schema → i < length rows → length (get_or rows i []) ≡ length schema
@@ -74,85 +73,6 @@ domain_columns schema columns properties j k h q e =
 pub columns_length : (schema : List Attribute) (columns : List ℕ) (properties : List Attribute) → AreColumns schema columns properties → length columns ≡ length properties
 columns_length schema columns properties h =
     sym (length-map columns (λ j. domain_at schema j)) ∙ sym (ap length h.kinds) ∙ length-map properties (λ (a : Attribute). a.domain)
-
--- of tables side by side
-pub length-zipped : {X Y Z : Type 0} (f : X → Y → Z) (xs : List X) (ys : List Y) → length xs ≡ length ys → length (zipped f xs ys) ≡ length xs
-length-zipped f [] ys e = refl
-length-zipped f (x ∷ xs) [] e = absurd (omega arith)
-length-zipped f (x ∷ xs) (y ∷ ys) e = let more = length-zipped f xs ys (omega arith) in omega arith
-
-zipped_at : (xs ys : List (List Datum)) (i : ℕ) → length xs ≡ length ys → get_or (zipped (λ a b. a ++ b) xs ys) i [] ≡ get_or xs i [] ++ get_or ys i []
-zipped_at [] [] i e = refl
-zipped_at [] (y ∷ ys) i e = absurd (omega arith)
-zipped_at (x ∷ xs) [] i e = absurd (omega arith)
-zipped_at (x ∷ xs) (y ∷ ys) zero e = refl
-zipped_at (x ∷ xs) (y ∷ ys) (suc i) e = zipped_at xs ys i (omega arith)
-
-pub cell_first : (one two : Layered) (properties : List Attribute) (i j : ℕ) → AreBeside one two properties → i < length one.rows → j < length one.schema
-    → cell (zipped (λ a b. a ++ b) one.rows two.rows) i j ≡ cell one.rows i j
-cell_first one two properties i j h p q =
-    ap (λ (row : List Datum). get_or row j (integer (pos 0))) (zipped_at one.rows two.rows i h.as_many)
-    ∙ get_or_append_left (get_or one.rows i []) (get_or two.rows i []) (integer (pos 0)) j (let e = row_length one.rows one.schema i h.whole p in omega arith)
-
-pub cell_second : (one two : Layered) (properties : List Attribute) (i j : ℕ) → AreBeside one two properties → i < length one.rows → length one.schema ≤ j
-    → cell (zipped (λ a b. a ++ b) one.rows two.rows) i j ≡ cell two.rows i (j - length one.schema)
-cell_second one two properties i j h p q =
-    ap (λ (row : List Datum). get_or row j (integer (pos 0))) (zipped_at one.rows two.rows i h.as_many)
-    ∙ get_or-append_right (get_or one.rows i []) (get_or two.rows i []) (length one.schema) j (integer (pos 0)) (row_length one.rows one.schema i h.whole p) q
-
-pub domain_first : (one two : Layered) (properties : List Attribute) (j : ℕ) → AreBeside one two properties → j < length one.schema → domain_at properties j ≡ domain_at one.schema j
-domain_first one two properties j h q =
-    ap (λ (s : List Attribute). domain_at s j) h.schema ∙ ap (λ (a : Attribute). a.domain) (get_or_append_left one.schema two.schema (record { name = []; domain = Domain.integer }) j q)
-
-pub domain_second : (one two : Layered) (properties : List Attribute) (j : ℕ) → AreBeside one two properties → length one.schema ≤ j → domain_at properties j ≡ domain_at two.schema (j - length one.schema)
-domain_second one two properties j h q =
-    ap (λ (s : List Attribute). domain_at s j) h.schema
-    ∙ ap (λ (a : Attribute). a.domain) (get_or-append_right one.schema two.schema (length one.schema) j (record { name = []; domain = Domain.integer }) refl q)
-
--- Of two tables side by side, v is what is seen, and d is the one that is read, in whose columns col lies.
-module _ (one two v d : Layered) (properties : List Attribute) (l row col w : ℕ)
-    (seen : record { schema = properties; rows = zipped (λ a b. a ++ b) one.rows two.rows; layers = l } ≡ v) (h : AreBeside one two properties)
-    (row_in : row < length v.rows) (col_in : col < length v.schema) (wide : w ≡ length one.schema) where
-  rows_of_one : length v.rows ≡ length one.rows
-  rows_of_one = sym (ap (λ (t : Layered). length t.rows) seen) ∙ length-zipped (λ a b. a ++ b) one.rows two.rows h.as_many
-
-  in_one : row < length one.rows
-  in_one = let e = rows_of_one in omega arith
-
-  pub first_in : d ≡ one → col < w → (row < length d.rows) × (col < length d.schema)
-  first_in e p =
-      let r = ap (λ (t : Layered). length t.rows) e in
-      let s = ap (λ (t : Layered). length t.schema) e in
-      let i = in_one in
-      (omega arith, omega arith)
-
-  pub second_in : d ≡ two → w ≤ col → (row < length d.rows) × (col - w < length d.schema)
-  second_in e p =
-      let r = ap (λ (t : Layered). length t.rows) e in
-      let s = ap (λ (t : Layered). length t.schema) e in
-      let i = in_one in
-      let n = h.as_many in
-      let all = ap length h.schema ∙ length-append one.schema two.schema in
-      let u = ap (λ (t : Layered). length t.schema) seen in
-      (omega arith, omega arith)
-
-  pub first_cell : d ≡ one → col < w → cell v.rows row col ≡ cell d.rows row col
-  first_cell e p =
-      ap (λ (t : Layered). cell t.rows row col) (sym seen) ∙ cell_first one two properties row col h in_one (omega arith) ∙ ap (λ (t : Layered). cell t.rows row col) (sym e)
-
-  pub second_cell : d ≡ two → w ≤ col → cell v.rows row col ≡ cell d.rows row (col - w)
-  second_cell e p =
-      ap (λ (t : Layered). cell t.rows row col) (sym seen) ∙ cell_second one two properties row col h in_one (omega arith)
-      ∙ ap (λ (t : Layered). cell t.rows row (col - length one.schema)) (sym e) ∙ ap (λ n. cell d.rows row (col - n)) (sym wide)
-
-  pub first_domain : d ≡ one → col < w → domain_at v.schema col ≡ domain_at d.schema col
-  first_domain e p =
-      ap (λ (t : Layered). domain_at t.schema col) (sym seen) ∙ domain_first one two properties col h (omega arith) ∙ ap (λ (t : Layered). domain_at t.schema col) (sym e)
-
-  pub second_domain : d ≡ two → w ≤ col → domain_at v.schema col ≡ domain_at d.schema (col - w)
-  second_domain e p =
-      ap (λ (t : Layered). domain_at t.schema col) (sym seen) ∙ domain_second one two properties col h (omega arith)
-      ∙ ap (λ (t : Layered). domain_at t.schema (col - length one.schema)) (sym e) ∙ ap (λ n. domain_at d.schema (col - n)) (sym wide)
 
 -- Of a table's columns, v is what is seen, and d is the table that is read.
 module _ (base v d : Layered) (columns read : List ℕ) (properties : List Attribute) (l row col : ℕ)

@@ -1,14 +1,13 @@
 -- What a derived table is made of: positions and columns, which no contract speaks of.
-use Rattle.std.specs.Prelude.{◌≡◌, take, if◌then◌else◌, ℕ, zero, suc, Bool, filter, ◌∷◌, ◌+◌, ◌<◌, ◌≤◌, max, pos, List, [], ◌++◌, length, map, slice_index_or, All}
+use Rattle.std.specs.Prelude.{◌≡◌, take, if◌then◌else◌, ℕ, zero, suc, Bool, filter, ◌∷◌, ◌+◌, ◌<◌, ◌≤◌, pos, List, [], ◌++◌, length, map, slice_index_or, All}
 use Rattle.mk_value.specs.Heading.{Domain, Attribute, IsHeading}
 use Rattle.mk_value.specs.Data.{Datum, integer, AreRowsOf}
 use Rattle.mk_value.specs.Tables.{domain_at, IsComparable}
 use Rattle.derived.specs.Criteria.{Bounds}
 use Rattle.derived.specs.Layers.{Layered}
-use Rattle.derived.specs.Joining.{zipped}
 use Rattle.derived.specs.Rows.{is_named, rows_at}
 use Rattle.derived.specs.declared.derived.Node.{Node}
-use Rattle.derived.specs.declared.derived.Node.TheVariants.{Leaf, Held, Rows, Columns, Extended, Beside}
+use Rattle.derived.specs.declared.derived.Node.TheVariants.{Leaf, Held, Rows, Columns, Extended}
 
 -- the place of the property of a name, or the number of properties where there is none
 abbrev pub column_of : List Attribute → List ℕ → ℕ
@@ -55,33 +54,24 @@ layered schema rows (Columns base columns properties) =
     record { schema = properties; rows = map (values_at columns) base.value.rows; layers = base.value.layers + 1 }
 layered schema rows (Extended base more) =
     record { schema = base.value.schema; rows = base.value.rows ++ more; layers = base.value.layers + 1 }
-layered schema rows (Beside one two properties) =
-    record { schema = properties; rows = zipped (λ a b. a ++ b) one.value.rows two.value.rows; layers = max one.value.layers two.value.layers + 1 }
 
 -- a whole table
 pub record IsWhole (t : Layered) : Type 0 where
   pub schema : IsHeading t.schema
   pub rows : AreRowsOf t.rows t.schema
 
--- two tables stand side by side under a schema: they have as many rows, and the schema is the one of the first and then the second's
-pub record AreBeside (one two : Layered) (properties : List Attribute) : Type 0 where
-  pub whole : AreRowsOf one.rows one.schema
-  pub as_many : length one.rows ≡ length two.rows
-  pub schema : properties ≡ one.schema ++ two.schema
-
 -- the properties stand in these columns of a schema under other names
 pub record AreColumns (schema : List Attribute) (columns : List ℕ) (properties : List Attribute) : Type 0 where
   pub in_range : All (λ j. j < length schema) columns
   pub kinds : map (λ a. a.domain) properties ≡ map (λ j. domain_at schema j) columns
 
--- what a node keeps besides: positions and columns are in range, kinds agree, and two tables side by side have as many rows
+-- what a node keeps besides: positions and columns are in range, kinds agree, and rows are of the schema
 abbrev pub IsNode : {T : Type 0} → Node T → Type 0
 IsNode (Leaf t) = Unit {0}
 IsNode (Held h) = Unit {0}
 IsNode (Rows base positions) = All (λ i. i < length base.value.rows) positions
 IsNode (Columns base columns properties) = AreColumns base.value.schema columns properties
 IsNode (Extended base more) = AreRowsOf more base.value.schema
-IsNode (Beside one two properties) = AreBeside one.value two.value properties
 
 -- a whole node
 pub record IsWholeNode {T : Type 0} (schema : T → List Attribute) (rows : T → List (List Datum)) (node : Node T) : Type 0 where

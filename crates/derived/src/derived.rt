@@ -39,8 +39,6 @@ enum Node<T: TableRead + Same + Drop> {
     Columns(Box<Derived<T>>, Columns, Schema),
     /// The rows of a table, then these.
     Extended(Box<Derived<T>>, Rows),
-    /// The rows of two tables side by side, under this schema.
-    Beside(Box<Derived<T>>, Box<Derived<T>>, Schema),
 }
 
 impl<T: TableRead + Same + Drop> Model for Derived<T> {
@@ -75,7 +73,6 @@ impl<T: TableRead + Same + Drop> TableRead for Derived<T> {
             Node::Rows(base, _) => base.schema(),
             Node::Columns(_, _, schema) => schema,
             Node::Extended(base, _) => base.schema(),
-            Node::Beside(_, _, schema) => schema,
         }
     }
 
@@ -86,7 +83,6 @@ impl<T: TableRead + Same + Drop> TableRead for Derived<T> {
             Node::Rows(_, positions) => positions.len(),
             Node::Columns(base, _, _) => base.size(),
             Node::Extended(base, more) => base.size() + more.len(),
-            Node::Beside(one, _, _) => one.size(),
         }
     }
 
@@ -102,14 +98,6 @@ impl<T: TableRead + Same + Drop> TableRead for Derived<T> {
                     base.get(row, col)
                 } else {
                     held_cell(more, base.schema(), row - size, col).copy()
-                }
-            }
-            Node::Beside(one, two, _) => {
-                let width = one.schema().len();
-                if col < width {
-                    one.get(row, col)
-                } else {
-                    two.get(row, col - width)
                 }
             }
         }
@@ -129,14 +117,6 @@ impl<T: TableRead + Same + Drop> TableRead for Derived<T> {
                     base.cmp_cell(row, col, with)
                 } else {
                     cmp_value(held_cell(more, base.schema(), row - size, col), with)
-                }
-            }
-            Node::Beside(one, two, _) => {
-                let width = one.schema().len();
-                if col < width {
-                    one.cmp_cell(row, col, with)
-                } else {
-                    two.cmp_cell(row, col - width, with)
                 }
             }
         }
@@ -164,14 +144,6 @@ impl<T: TableRead + Same + Drop> TableRead for Derived<T> {
                     return base.cmp_cell(b, col, first).reverse();
                 }
                 cmp_value(first, held_cell(more, base.schema(), b - size, col))
-            }
-            Node::Beside(one, two, _) => {
-                let width = one.schema().len();
-                if col < width {
-                    one.cmp_rows(a, b, col)
-                } else {
-                    two.cmp_rows(a, b, col - width)
-                }
             }
         }
     }

@@ -5,7 +5,7 @@ use Rattle.mk_value.specs.Order.{value_cmp}
 use Rattle.mk_value.specs.Tables.{IsComparable}
 use Rattle.mk_value.specs.Values.{datum_of}
 use Rattle.derived.specs.Layers.{Layered}
-use Rattle.derived.proofs.Cells.{first_in, second_in, first_cell, second_cell, first_domain, second_domain, column_at, column_cell, column_domain}
+use Rattle.derived.proofs.Cells.{column_at, column_cell, column_domain}
 use Rattle.derived.proofs.derived.DerivedTableRead.+cmp_cell.Goals as goal
 
 pub cmp_cell-requires-in-Columns : goal.cmp_cell-requires-in-Columns
@@ -22,37 +22,3 @@ returns-in-Columns g t c =
     let inside = rw c.in-Columns.is at c.self.invariant in
     let same = column_cell c.in-Columns.base.value c.args.self.now c.deref-in-Columns.result.now c.in-Columns.columns c.as_slice-in-Columns.result.now c.in-Columns.field-2 _ c.args.row c.args.col view inside.inside c.requires.row_in c.requires.col_in c.deref-in-Columns.ensures c.as_slice-in-Columns.ensures in
     c.cmp_cell-in-Columns.ensures ∙ ap (λ (d : Datum). value_cmp d (datum_of c.args.with.now)) (sym same)
-
-pub cmp_cell-requires-then-col-width : goal.cmp_cell-requires-then-col-width
-cmp_cell-requires-then-col-width g t c κs within =
-    let view = rw c.in-Beside.is at c.self.view_is in
-    let inside = rw c.in-Beside.is at c.self.invariant in
-    let wide = c.len-width.ensures.value ∙ ap length (c.schema-in-Beside.ensures.value ∙ ap (λ (d : Layered). d.schema) c.deref-in-Beside.ensures) in
-    let both = first_in c.in-Beside.one.value c.in-Beside.two.value c.args.self.now c.deref-then-col-width.result.now c.in-Beside.field-2 _ c.args.row c.args.col c.len-width.result view inside.inside c.requires.row_in c.requires.col_in wide c.deref-then-col-width.ensures c.if-col-width.true in
-    let kind = subst (λ (e : Domain). IsComparable (datum_of c.args.with.now) e) (first_domain c.in-Beside.one.value c.in-Beside.two.value c.args.self.now c.deref-then-col-width.result.now c.in-Beside.field-2 _ c.args.row c.args.col c.len-width.result view inside.inside c.requires.row_in c.requires.col_in wide c.deref-then-col-width.ensures c.if-col-width.true) c.requires.comparable in
-    search rules
-
-pub returns-then-col-width : goal.returns-then-col-width
-returns-then-col-width g t c =
-    let view = rw c.in-Beside.is at c.self.view_is in
-    let inside = rw c.in-Beside.is at c.self.invariant in
-    let wide = c.len-width.ensures.value ∙ ap length (c.schema-in-Beside.ensures.value ∙ ap (λ (d : Layered). d.schema) c.deref-in-Beside.ensures) in
-    let same = first_cell c.in-Beside.one.value c.in-Beside.two.value c.args.self.now c.deref-then-col-width.result.now c.in-Beside.field-2 _ c.args.row c.args.col c.len-width.result view inside.inside c.requires.row_in c.requires.col_in wide c.deref-then-col-width.ensures c.if-col-width.true in
-    c.cmp_cell-then-col-width.ensures ∙ ap (λ (d : Datum). value_cmp d (datum_of c.args.with.now)) (sym same)
-
-pub cmp_cell-requires-else-col-width : goal.cmp_cell-requires-else-col-width
-cmp_cell-requires-else-col-width g t c κs within =
-    let view = rw c.in-Beside.is at c.self.view_is in
-    let inside = rw c.in-Beside.is at c.self.invariant in
-    let wide = c.len-width.ensures.value ∙ ap length (c.schema-in-Beside.ensures.value ∙ ap (λ (d : Layered). d.schema) c.deref-in-Beside.ensures) in
-    let both = second_in c.in-Beside.one.value c.in-Beside.two.value c.args.self.now c.deref-else-col-width.result.now c.in-Beside.field-2 _ c.args.row c.args.col c.len-width.result view inside.inside c.requires.row_in c.requires.col_in wide c.deref-else-col-width.ensures c.if-col-width.false in
-    let kind = subst (λ (e : Domain). IsComparable (datum_of c.args.with.now) e) (second_domain c.in-Beside.one.value c.in-Beside.two.value c.args.self.now c.deref-else-col-width.result.now c.in-Beside.field-2 _ c.args.row c.args.col c.len-width.result view inside.inside c.requires.row_in c.requires.col_in wide c.deref-else-col-width.ensures c.if-col-width.false) c.requires.comparable in
-    search rules
-
-pub returns-else-col-width : goal.returns-else-col-width
-returns-else-col-width g t c =
-    let view = rw c.in-Beside.is at c.self.view_is in
-    let inside = rw c.in-Beside.is at c.self.invariant in
-    let wide = c.len-width.ensures.value ∙ ap length (c.schema-in-Beside.ensures.value ∙ ap (λ (d : Layered). d.schema) c.deref-in-Beside.ensures) in
-    let same = second_cell c.in-Beside.one.value c.in-Beside.two.value c.args.self.now c.deref-else-col-width.result.now c.in-Beside.field-2 _ c.args.row c.args.col c.len-width.result view inside.inside c.requires.row_in c.requires.col_in wide c.deref-else-col-width.ensures c.if-col-width.false in
-    c.cmp_cell-else-col-width.ensures ∙ ap (λ (d : Datum). value_cmp d (datum_of c.args.with.now)) (sym same)
