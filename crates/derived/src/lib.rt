@@ -21,6 +21,8 @@ mod passing;
 mod slicing;
 mod sorting;
 mod stacking;
+#[cfg(test)]
+mod tests;
 
 pub use columns::{project, rename, without};
 pub use criteria::{Criterion, Key};
