@@ -20,6 +20,8 @@ mod memo;
 mod parts;
 mod shared;
 mod spine;
+#[cfg(test)]
+mod tests;
 
 pub use column::BytesCol;
 pub use home::BytesHome;

@@ -1,0 +1,287 @@
+//! Worked rows, and edits beside a plain list.
+ghost use Rattle.std.specs.Prelude.{◌≡◌, ◌+◌, ◌≤◌, length, IfOk};
+
+use crate::{BytesCol, BytesHome};
+use mk_value::{Bytes, Span, Spans};
+use std::alloc::Global;
+use std::cmp::Ordering;
+use std::process::Abort;
+use std::test::Fail;
+
+/// The longest short value.
+const SHORT: [u8; 512] = [b'c'; 512];
+
+/// The shortest memo.
+const MEMO: [u8; 513] = [b'd'; 513];
+
+/// The column of an empty value, b, the longest short value and the shortest memo.
+fn of_all_sizes(alloc: Global) -> Result<BytesCol, Fail>
+    ensures { IfOk result (λ column. length column.values ≡ 4) }
+{
+    let values = vec![in alloc;
+        Bytes::new(alloc),
+        Bytes::from_slice(alloc, b"b")?,
+        Bytes::from_slice(alloc, &SHORT)?,
+        Bytes::from_slice(alloc, &MEMO)?,
+    ]?;
+    Ok(BytesCol::from_values(alloc, &values, None)?)
+}
+
+/// Asserts the value at a place.
+fn holds<R: Abort>(rt: &R, column: &BytesCol, at: usize, want: &[u8]) -> Result<(), Fail> {
+    assert!(rt; at < column.len());
+    let value = column.get(at)?;
+    assert!(rt; value.as_slice() == want, "at {at}");
+    Ok(())
+}
+
+/// Values of 0, 1, 512 and 513 bytes.
+#[test]
+fn values(rt: HostRuntime) -> Result<(), Fail> {
+    let column = of_all_sizes(rt.alloc())?;
+    assert!(rt; column.len() == 4 && !column.is_empty());
+    holds(&rt, &column, 0, b"")?;
+    holds(&rt, &column, 1, b"b")?;
+    holds(&rt, &column, 2, &SHORT)?;
+    holds(&rt, &column, 3, &MEMO)
+}
+
+/// The sizes, and what they tell: 1 and 512 bytes are short, 513 a memo.
+#[test]
+fn sizes(rt: HostRuntime) -> Result<(), Fail> {
+    let column = of_all_sizes(rt.alloc())?;
+    let sizes = column.sizes();
+    assert!(rt; sizes.len() == 4);
+    assert!(rt; sizes.get(0) == 0 && sizes.get(2) == 512 && sizes.get(3) == 513);
+    assert!(rt; column.short_len() == 513);
+    let rows = column.memo_rows(rt.alloc())?;
+    assert!(rt; rows.as_slice() == [3].as_slice());
+    Ok(())
+}
+
+/// The short values joined are b and then c 512 times.
+#[test]
+fn fills_short(rt: HostRuntime) -> Result<(), Fail> {
+    let column = of_all_sizes(rt.alloc())?;
+    let mut bytes = [0; 2];
+    assert!(rt; column.short_len() == 513);
+    column.fill_short(0, &mut bytes);
+    assert!(rt; bytes == *b"bc");
+    column.fill_short(511, &mut bytes);
+    assert!(rt; bytes == *b"cc");
+    Ok(())
+}
+
+/// The last two bytes of the memo.
+#[test]
+fn fills_memo(rt: HostRuntime) -> Result<(), Fail> {
+    let column = of_all_sizes(rt.alloc())?;
+    assert!(rt; column.len() == 4);
+    assert!(rt; column.get(3)?.len() == 513);
+    let mut bytes = [0; 2];
+    column.fill_memo(3, 511, &mut bytes);
+    assert!(rt; bytes == *b"dd");
+    Ok(())
+}
+
+/// The first byte that differs decides, and a proper prefix is less.
+#[test]
+fn order(rt: HostRuntime) -> Result<(), Fail> {
+    let column = of_all_sizes(rt.alloc())?;
+    assert!(rt; column.len() == 4);
+    assert!(rt; column.cmp_at(0, 1) == Ordering::Less);
+    assert!(rt; column.cmp_at(3, 2) == Ordering::Greater);
+    assert!(rt; column.cmp_with(1, b"bb") == Ordering::Less);
+    assert!(rt; column.cmp_with(1, b"b") == Ordering::Equal);
+    Ok(())
+}
+
+/// A home whose one memo stands at a place.
+fn home(alloc: Global, place: u64) -> Result<BytesHome, Fail> {
+    let memo = Span { place, len: 513 };
+    let span = Span { place: 192, len: 9 };
+    Ok(BytesHome {
+        sizes: span,
+        short: span,
+        memos: Spans::from(vec![in alloc; memo]?),
+    })
+}
+
+/// Asserts that the column's home has its one memo at a place.
+fn stands<R: Abort>(rt: &R, column: &BytesCol, place: u64) {
+    match column.home() {
+        Some(home) => assert!(rt; home.memos.as_slice() == [Span { place, len: 513 }].as_slice()),
+        None => assert!(rt; false),
+    }
+}
+
+/// An edit of no values keeps the home, any other takes it, and a copy keeps its home and its values.
+#[test]
+fn homes(rt: HostRuntime) -> Result<(), Fail> {
+    let mut column = of_all_sizes(rt.alloc())?;
+    column.settle(home(rt.alloc(), 208)?);
+    column.insert(2, b"x", 0)?;
+    assert!(rt; column.len() == 4);
+    column.remove(1, 0)?;
+    stands(&rt, &column, 208);
+    let copy = column.same()?;
+    assert!(rt; column.len() == 4);
+    column.set(1, b"other")?;
+    assert!(rt; column.home().is_none());
+    stands(&rt, &copy, 208);
+    holds(&rt, &copy, 1, b"b")
+}
+
+/// A list of copies of a value.
+fn copies(alloc: Global, value: &[u8], count: usize) -> Result<Vec<Bytes>, Fail> {
+    let mut list = Vec::new(alloc);
+    for _copy in 0..count {
+        list.push(Bytes::from_slice(alloc, value)?)?;
+    }
+    Ok(list)
+}
+
+/// A copy of a list.
+fn copy_of(list: &Vec<Bytes>) -> Result<Vec<Bytes>, Fail> {
+    let mut copy = Vec::new(*list.allocator());
+    for value in list {
+        copy.push(value.copy()?)?;
+    }
+    Ok(copy)
+}
+
+/// Inserts copies of a value into the column and into the list.
+fn insert<R: Abort>(
+    rt: &R,
+    column: &mut BytesCol,
+    plain: &mut Vec<Bytes>,
+    at: usize,
+    value: &[u8],
+    count: usize,
+) -> Result<(), Fail> {
+    let len = column.len();
+    assert!(rt; len == plain.len() && at <= len && len < 1_000_000 && count < 3_000);
+    column.insert(at, value, count)?;
+    let fresh = copies(*plain.allocator(), value, count)?;
+    plain.splice(at..at, fresh)?;
+    Ok(())
+}
+
+/// Removes values from the column and from the list.
+fn remove<R: Abort>(
+    rt: &R,
+    column: &mut BytesCol,
+    plain: &mut Vec<Bytes>,
+    at: usize,
+    count: usize,
+) -> Result<(), Fail> {
+    let len = column.len();
+    assert!(rt; len == plain.len() && at <= len && count <= len - at);
+    column.remove(at, count)?;
+    let none = Vec::new(*plain.allocator());
+    plain.splice(at..at + count, none)?;
+    Ok(())
+}
+
+/// Sets a value in the column and in the list.
+fn set<R: Abort>(
+    rt: &R,
+    column: &mut BytesCol,
+    plain: &mut Vec<Bytes>,
+    at: usize,
+    value: &[u8],
+) -> Result<(), Fail> {
+    assert!(rt; at < column.len() && at < plain.len());
+    column.set(at, value)?;
+    plain[at] = Bytes::from_slice(*plain.allocator(), value)?;
+    Ok(())
+}
+
+/// Asserts that the column has the values of the list.
+fn compare<R: Abort>(rt: &R, column: &BytesCol, plain: &[Bytes]) -> Result<(), Fail> {
+    assert!(rt; column.len() == plain.len());
+    for (at, value) in plain.iter().enumerate() {
+        holds(rt, column, at, value.as_slice())?;
+    }
+    Ok(())
+}
+
+/// The values of the list of at most 512 bytes, joined.
+fn short_of(plain: &Vec<Bytes>) -> Result<Vec<u8>, Fail> {
+    let mut short = Vec::new(*plain.allocator());
+    for value in plain {
+        if value.len() <= 512 {
+            short.extend_from_slice(value.as_slice())?;
+        }
+    }
+    Ok(short)
+}
+
+/// Asserts that the column has the short bytes of the list, all of them and those from the middle on.
+fn compare_short<R: Abort>(rt: &R, column: &BytesCol, plain: &Vec<Bytes>) -> Result<(), Fail> {
+    let want = short_of(plain)?;
+    let len = want.len();
+    assert!(rt; column.short_len() == len as u64);
+    let mut bytes = vec![in *plain.allocator(); 0u8; len]?;
+    column.fill_short(0, &mut bytes);
+    assert!(rt; bytes == want);
+    column.fill_short((len / 2) as u64, &mut bytes[len / 2..]);
+    assert!(rt; bytes == want);
+    Ok(())
+}
+
+/// The value of a random number: short or a memo, of one letter.
+fn value_of(alloc: Global, number: u64) -> Result<Vec<u8>, Fail> {
+    let len = [0, 1, 5, 100, 512, 513, 600][(number % 7) as usize];
+    Ok(vec![in alloc; (number / 8 % 26) as u8 + b'a'; len]?)
+}
+
+/// One edit of the column and the list, as a random number says.
+fn edit<R: Abort>(
+    rt: &R,
+    column: &mut BytesCol,
+    plain: &mut Vec<Bytes>,
+    number: u64,
+) -> Result<(), Fail> {
+    let value = value_of(*plain.allocator(), number / 8)?;
+    let len = plain.len();
+    let at = (number / 128 % (len as u64 / 2 + 1)) as usize;
+    let count = (number / 16 % 700) as usize;
+    match number % 5 {
+        0 => insert(rt, column, plain, len, &value, 1),
+        1 => insert(rt, column, plain, at, &value, 1),
+        2 => insert(rt, column, plain, at, &value, count),
+        3 => remove(rt, column, plain, at, count.min(len / 2)),
+        _ if len > 0 => set(rt, column, plain, at, &value),
+        _ => Ok(()),
+    }
+}
+
+/// Asserts that the column and its blocks are those of the list.
+fn compare_all<R: Abort>(rt: &R, column: &BytesCol, plain: &Vec<Bytes>) -> Result<(), Fail> {
+    compare(rt, column, plain)?;
+    compare_short(rt, column, plain)
+}
+
+/// Three hundred edits beside a plain list, and copies that stay as they were.
+#[test]
+fn edits_beside_a_list(rt: HostRuntime) -> Result<(), Fail> {
+    let mut column = BytesCol::from_values(rt.alloc(), &[], None)?;
+    let mut plain = Vec::new(rt.alloc());
+    let mut copy = column.same()?;
+    let mut plain_copy = Vec::new(rt.alloc());
+    let mut number = 7u64;
+    for turn in 0..300u32 {
+        number = number
+            .wrapping_mul(6_364_136_223_846_793_005)
+            .wrapping_add(1_442_695_040_888_963_407);
+        edit(&rt, &mut column, &mut plain, number >> 33)?;
+        if turn % 20 == 19 {
+            compare_all(&rt, &column, &plain)?;
+            compare_all(&rt, &copy, &plain_copy)?;
+            copy = column.same()?;
+            plain_copy = copy_of(&plain)?;
+        }
+    }
+    Ok(())
+}
