@@ -186,7 +186,7 @@ fn edit<R: Abort>(
     }
 }
 
-/// Three hundred edits beside a plain list, and copies that stay as they were.
+/// A thousand edits beside a plain list, and copies that stay as they were.
 #[test]
 fn edits_beside_a_list(rt: HostRuntime) -> Result<(), Fail> {
     let mut column = IntCol::from_values(rt.alloc(), &[], None)?;
@@ -194,13 +194,13 @@ fn edits_beside_a_list(rt: HostRuntime) -> Result<(), Fail> {
     let mut copy = column.same()?;
     let mut plain_copy = Vec::new(rt.alloc());
     let mut number = 7u64;
-    for turn in 0..300u32 {
+    for turn in 0..1000u32 {
         number = number
             .wrapping_mul(6_364_136_223_846_793_005)
             .wrapping_add(1_442_695_040_888_963_407);
         edit(&rt, &mut column, &mut plain, number >> 33)?;
         is_cut(&rt, &column);
-        if turn % 20 == 19 {
+        if turn % 50 == 49 {
             compare(&rt, &column, &plain);
             compare(&rt, &copy, &plain_copy);
             copy = column.same()?;
