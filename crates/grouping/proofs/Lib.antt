@@ -1,0 +1,15 @@
+pub mod Agreeing
+pub mod Ascending
+pub mod CountTables
+pub mod DistinctRows
+pub mod Duplicates
+pub mod Entries
+pub mod Equal
+pub mod GroupTables
+pub mod Indexes
+pub mod KeyColumns
+pub mod Limits
+pub mod Orders
+pub mod Others
+pub mod Positions
+pub mod Walked

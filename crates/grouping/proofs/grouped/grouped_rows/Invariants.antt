@@ -1,0 +1,7 @@
+use Rattle.std.proofs.Common.{◌≡◌, map, take}
+use Rattle.grouping.specs.Groups.{grouped_key}
+use Rattle.grouping.specs.Index.{keys_of}
+use Rattle.grouping.proofs.grouped.grouped_rows.Given as goal
+
+abbrev pub invariant-loop-group : goal.invariant-loop-group
+invariant-loop-group g l = l.rows ≡ map (grouped_key l.columns l.table.rows l.index) (take l.group (keys_of l.index))

@@ -1,0 +1,4 @@
+pub mod Groups
+pub mod Index
+pub mod OrderLaws
+pub mod WholeOrder

@@ -1,0 +1,47 @@
+//! What the key of a table is made of: its properties, the others, and the index of the keys of all rows.
+ghost use Rattle.std.specs.Prelude.{◌≡◌, map, None, IfOk};
+ghost use Rattle.derived.specs.Refusals.{absent};
+ghost use Rattle.derived.specs.Rows.{once, others, properties_of, values_of};
+
+use crate::RowIndex;
+use crate::columns::{named_columns, other_columns, properties_in, rows_in};
+use derived::Derived;
+use mk_value::{Memory, Name, Props, Same, Schema, TableRead};
+use std::alloc::Global;
+
+/// The properties of these names, a repeated name once.
+pub(crate) fn key_properties(alloc: Global, schema: &Schema, keys: &[Name]) -> Result<Props, Memory>
+    requires { absent schema.now keys.now ≡ None }
+    ensures { IfOk result (λ props. props ≡ properties_of schema.now (once keys.now)) }
+{
+    let columns = named_columns(alloc, schema, keys)?;
+    properties_in(alloc, schema, &columns)
+}
+
+/// The properties of all other names.
+pub(crate) fn other_properties(
+    alloc: Global,
+    schema: &Schema,
+    keys: &[Name],
+) -> Result<Props, Memory>
+    ensures { IfOk result (λ props. props ≡ properties_of schema.now (others schema.now keys.now)) }
+{
+    let _width = schema.len();
+    let columns = other_columns(alloc, schema, keys)?;
+    properties_in(alloc, schema, &columns)
+}
+
+/// The index of the keys of all rows.
+pub(crate) fn key_index<T: TableRead + Same + Drop>(
+    alloc: Global,
+    table: &Derived<T>,
+    keys: &[Name],
+) -> Result<RowIndex, Memory>
+    requires { absent table.now.schema keys.now ≡ None }
+    ensures { IfOk result (λ index. index ≡ map (values_of table.now.schema (once keys.now)) table.now.rows) }
+{
+    let _size = table.size();
+    let columns = named_columns(alloc, table.schema(), keys)?;
+    let rows = rows_in(alloc, table, &columns)?;
+    RowIndex::new(alloc, rows)
+}
