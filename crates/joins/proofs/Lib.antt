@@ -1,0 +1,9 @@
+pub mod Counting
+pub mod Defaults
+pub mod KeyTests
+pub mod Listing
+pub mod Matches
+pub mod Names
+pub mod Sides
+pub mod Unnests
+pub mod Wholes

@@ -1,0 +1,9 @@
+-- Rows that other rows have or have not.
+use Rattle.std.specs.Prelude.{Bool, true, false, not, List}
+use Rattle.mk_value.specs.Data.{Datum}
+use Rattle.derived.specs.Equality.{is_row_among}
+
+-- whether a row is kept: where it is one of these, or where it is none of them
+abbrev pub is_kept : Bool → List (List Datum) → List Datum → Bool
+is_kept true rows row = is_row_among rows row
+is_kept false rows row = not (is_row_among rows row)
