@@ -4,6 +4,7 @@ pub mod KeyTests
 pub mod Listing
 pub mod Matches
 pub mod Names
+pub mod Rows
 pub mod Sides
 pub mod Unnests
 pub mod Wholes

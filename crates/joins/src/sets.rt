@@ -1,0 +1,217 @@
+//! Two tables of one schema as sets of rows: two rows are the same where all their values are, views row by row.
+ghost use Rattle.std.specs.Prelude.{◌≡◌, ◌≤◌, length, None, IfErr, IfOk, OnOk};
+ghost use Rattle.std.specs.List.{filter};
+ghost use Rattle.std.specs.Result.{result_err};
+ghost use Rattle.mk_value.specs.Limits.{max_rows};
+ghost use Rattle.derived.specs.Layers.{table_of};
+ghost use Rattle.derived.specs.Nodes.{ArePositions};
+ghost use Rattle.derived.specs.Operators.{different, intersect, minus, union, unique, with_rows};
+ghost use Rattle.derived.specs.Refusals.{AnswersDue, different_due, other_schema, union_due};
+ghost use Rattle.joins.specs.Counted.{AnswersCounted, IsRefusedAt};
+ghost use Rattle.joins.specs.Sets.{is_kept};
+
+use derived::{Derived, DerivedError, concat, copy_row, copy_rows, gather};
+use grouping::{RowIndex, unique};
+use mk_value::{Memory, Positions, Row, Same, TableRead};
+use std::alloc::Global;
+
+/// The first's rows that the second has, in the first's order; equal rows of the first as often as they stand there.
+///
+/// # Errors
+///
+/// `OtherSchema` exactly where names or kinds differ. Else `Memory`.
+pub fn intersect<T: TableRead + Same + Drop>(
+    alloc: Global,
+    a: Derived<T>,
+    b: Derived<T>,
+) -> Result<Derived<T>, DerivedError>
+    ensures due { AnswersDue (other_schema (table_of a) (table_of b)) result }
+    ensures ok { IfOk result (λ d. table_of d ≡ intersect (table_of a) (table_of b)) }
+{
+    keep(alloc, a, &b, true)
+}
+
+/// The first's rows that the second has not, in the first's order. A row of the second takes out each row that equals it.
+///
+/// # Errors
+///
+/// `OtherSchema` exactly where names or kinds differ. Else `Memory`.
+pub fn minus<T: TableRead + Same + Drop>(
+    alloc: Global,
+    a: Derived<T>,
+    b: Derived<T>,
+) -> Result<Derived<T>, DerivedError>
+    ensures due { AnswersDue (other_schema (table_of a) (table_of b)) result }
+    ensures ok { IfOk result (λ d. table_of d ≡ minus (table_of a) (table_of b)) }
+{
+    keep(alloc, a, &b, false)
+}
+
+/// What the first has alone, then what the second has alone, each in its order.
+///
+/// # Errors
+///
+/// The first that is due: `OtherSchema` where names or kinds differ, `TooManyRows`. Else `Memory`, which may also come before the
+/// rows are counted.
+pub fn different<T: TableRead + Same + Drop>(
+    alloc: Global,
+    a: Derived<T>,
+    b: Derived<T>,
+) -> Result<Derived<T>, DerivedError>
+    ensures due { AnswersCounted (different_due (table_of a) (table_of b)) result }
+    ensures ok { IfOk result (λ d. table_of d ≡ different (table_of a) (table_of b)) }
+{
+    check_same(&a, &b)?;
+    differing(alloc, a, b)
+}
+
+/// The rows of both, the first's and then the second's, each of equal rows where it stands first.
+///
+/// # Errors
+///
+/// The first that is due: `OtherSchema` where names or kinds differ, `TooManyRows`, for which each of equal rows counts once. Else
+/// `Memory`, which may also come before the rows are counted.
+pub fn union<T: TableRead + Same + Drop>(
+    alloc: Global,
+    a: Derived<T>,
+    b: Derived<T>,
+) -> Result<Derived<T>, DerivedError>
+    ensures due { AnswersCounted (union_due (table_of a) (table_of b)) result }
+    ensures ok { IfOk result (λ d. table_of d ≡ union (table_of a) (table_of b)) }
+{
+    check_same(&a, &b)?;
+    united(alloc, a, b)
+}
+
+/// What each of two tables of one schema has alone.
+fn differing<T: TableRead + Same + Drop>(
+    alloc: Global,
+    a: Derived<T>,
+    b: Derived<T>,
+) -> Result<Derived<T>, DerivedError>
+    requires { other_schema (table_of a) (table_of b) ≡ None }
+    ensures ok { IfOk result (λ d. table_of d ≡ different (table_of a) (table_of b)) }
+    ensures few { OnOk result (length (different (table_of a) (table_of b)).rows ≤ max_rows) }
+    ensures err { IfErr result (IsRefusedAt (length (different (table_of a) (table_of b)).rows)) }
+{
+    let of_second = kept_positions(alloc, &b, &a, false)?;
+    let first = kept(alloc, a, &b, false)?;
+    let second = gather(alloc, b, of_second)?;
+    concat(alloc, first, second)
+}
+
+/// The rows of two tables of one schema, each of equal rows once.
+fn united<T: TableRead + Same + Drop>(
+    alloc: Global,
+    a: Derived<T>,
+    b: Derived<T>,
+) -> Result<Derived<T>, DerivedError>
+    requires { other_schema (table_of a) (table_of b) ≡ None }
+    ensures ok { IfOk result (λ d. table_of d ≡ union (table_of a) (table_of b)) }
+    ensures few { OnOk result (length (union (table_of a) (table_of b)).rows ≤ max_rows) }
+    ensures err { IfErr result (IsRefusedAt (length (union (table_of a) (table_of b)).rows)) }
+{
+    let first = unique(alloc, a)?;
+    let second = unique_besides(alloc, b, &first)?;
+    concat(alloc, first, second)
+}
+
+/// The rows of a table that another has not, each of equal rows once.
+fn unique_besides<T: TableRead + Same + Drop>(
+    alloc: Global,
+    table: Derived<T>,
+    other: &Derived<T>,
+) -> Result<Derived<T>, DerivedError>
+    ensures due { AnswersDue None result }
+    ensures ok { IfOk result (λ d. table_of d ≡ minus (unique (table_of table)) (table_of other.now)) }
+{
+    let rows = unique(alloc, table)?;
+    Ok(kept(alloc, rows, other, false)?)
+}
+
+/// Refuses two tables of different schemas.
+fn check_same<T: TableRead + Same + Drop>(
+    a: &Derived<T>,
+    b: &Derived<T>,
+) -> Result<(), DerivedError>
+    ensures { result_err result ≡ other_schema (table_of a.now) (table_of b.now) }
+{
+    if !a.schema().is_same(b.schema()) {
+        return Err(DerivedError::OtherSchema);
+    }
+    Ok(())
+}
+
+/// The first's rows that the second has, or those that it has not; refused where the schemas differ.
+fn keep<T: TableRead + Same + Drop>(
+    alloc: Global,
+    a: Derived<T>,
+    b: &Derived<T>,
+    among: bool,
+) -> Result<Derived<T>, DerivedError>
+    ensures due { AnswersDue (other_schema (table_of a) (table_of b.now)) result }
+    ensures ok { IfOk result (λ d. table_of d ≡ with_rows (table_of a) (filter (is_kept among b.now.rows) a.rows)) }
+{
+    check_same(&a, b)?;
+    Ok(kept(alloc, a, b, among)?)
+}
+
+/// The first's rows that the second has, or those that it has not.
+fn kept<T: TableRead + Same + Drop>(
+    alloc: Global,
+    a: Derived<T>,
+    b: &Derived<T>,
+    among: bool,
+) -> Result<Derived<T>, Memory>
+    ensures { IfOk result (λ d. table_of d ≡ with_rows (table_of a) (filter (is_kept among b.now.rows) a.rows)) }
+{
+    let positions = kept_positions(alloc, &a, b, among)?;
+    gather(alloc, a, positions)
+}
+
+/// The positions of the first's rows that the second has, or of those that it has not.
+fn kept_positions<T: TableRead + Same + Drop>(
+    alloc: Global,
+    a: &Derived<T>,
+    b: &Derived<T>,
+    among: bool,
+) -> Result<Positions, Memory>
+    ensures kept { IfOk result (ArePositions (is_kept among b.now.rows) a.now.rows (length a.now.rows)) }
+    ensures few { IfOk result (λ positions. length positions ≤ max_rows) }
+{
+    let rows = copy_rows(alloc, b)?;
+    let index = RowIndex::new(alloc, rows)?;
+    positions_by(alloc, a, &index, among)
+}
+
+/// The positions of the rows that an index has, or of those that it has not.
+fn positions_by<T: TableRead + Same + Drop>(
+    alloc: Global,
+    table: &Derived<T>,
+    index: &RowIndex,
+    among: bool,
+) -> Result<Positions, Memory>
+    ensures kept { IfOk result (ArePositions (is_kept among index.now) table.now.rows (length table.now.rows)) }
+    ensures few { IfOk result (λ positions. length positions ≤ max_rows) }
+{
+    let mut positions = Positions::new(alloc);
+    for at in 0..table.size() {
+        let row = copy_row(alloc, table, at)?;
+        if !is_row_kept(index, &row, among) {
+            continue;
+        }
+        positions.push(at as u32)?;
+    }
+    Ok(positions)
+}
+
+/// Whether a row is kept: where the index has it, or where the index has it not.
+fn is_row_kept(index: &RowIndex, row: &Row, among: bool) -> bool
+    ensures { result ≡ is_kept among index.now row.now }
+{
+    if among {
+        index.has(row)
+    } else {
+        !index.has(row)
+    }
+}
