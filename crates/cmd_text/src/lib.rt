@@ -14,8 +14,6 @@ mod reader;
 mod reading;
 mod refusal;
 mod reply;
-#[cfg(test)]
-mod tests;
 mod verb;
 
 pub use command::Command;

@@ -6,7 +6,7 @@
 //! many layers as the chain has.
 //!
 //! Crates above make their tables by `held` of rows made anew, by `gather` of positions into a derived table, by `extend` with
-//! rows behind those of one, and by `copy_row` and `copy_rows`.
+//! rows behind those of one, and by `copy_row` and `copy_rows`; `lookup` finds properties by name.
 //!
 //! The definitions of all operators, those of groups and joins too, stand in `specs/`: what rows, in what order, under which schema,
 //! and which refusal is due. This crate knows nothing of expressions, files or columns in memory.
@@ -17,12 +17,11 @@ mod columns;
 mod criteria;
 mod derived;
 mod error;
+pub mod lookup;
 mod passing;
 mod slicing;
 mod sorting;
 mod stacking;
-#[cfg(test)]
-mod tests;
 
 pub use columns::{project, rename, without};
 pub use criteria::{Criterion, Key};

@@ -9,8 +9,9 @@ ghost use Rattle.derived.specs.Nodes.{ArePositions, AreResolved};
 ghost use Rattle.derived.specs.Operators.{range, select};
 ghost use Rattle.derived.specs.Refusals.{AnswersDue, range_due};
 
-use crate::checks::{check_criteria, column};
+use crate::checks::check_criteria;
 use crate::derived::{Columns, gather};
+use crate::lookup::column;
 use crate::{Criterion, Derived, DerivedError};
 use mk_value::{Memory, Positions, Same, Schema, TableRead};
 use std::alloc::Global;

@@ -11,7 +11,8 @@ ghost use Rattle.grouping.specs.Groups.{counted_keys};
 
 use crate::RowIndex;
 use crate::keyed::{key_index, key_properties};
-use crate::keys::{check_named, check_plain, count_distinct, is_among};
+use crate::keys::{check_named, check_plain, count_distinct};
+use derived::lookup::is_among;
 use derived::{Derived, DerivedError, held};
 use mk_value::{Kind, MAX_PROPERTIES, Memory, Name, Prop, Rows, Same, Schema, TableRead, Value};
 use std::alloc::Global;

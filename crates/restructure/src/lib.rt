@@ -10,8 +10,6 @@
 mod conversion;
 mod laws;
 mod restructuring;
-#[cfg(test)]
-mod tests;
 
 pub use laws::{by_name, rests_on_what_it_was, there_and_back};
 pub use restructuring::restructure;

@@ -10,8 +10,6 @@ mod laws;
 mod names;
 mod printing;
 mod reading;
-#[cfg(test)]
-mod tests;
 
 pub use error::StructError;
 pub use laws::{one_first_offence, one_structure};

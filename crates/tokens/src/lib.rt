@@ -17,8 +17,6 @@ mod pieces;
 mod quoted;
 mod run;
 mod standing;
-#[cfg(test)]
-mod tests;
 mod token;
 
 pub use cutting::cut;

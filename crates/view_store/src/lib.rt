@@ -17,8 +17,6 @@ mod root;
 mod shared;
 mod structure;
 mod table;
-#[cfg(test)]
-mod tests;
 mod walk;
 
 pub use error::EditError;

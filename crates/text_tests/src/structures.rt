@@ -1,6 +1,7 @@
-use crate::{StructError, parse, print};
+//! Structure texts, read, refused and printed.
 use mk_value::{Kind, Text};
-use std::test::*;
+use std::test::Fail;
+use struct_text::{StructError, parse, print};
 
 /// The 65th property's name begins at byte 376: two bytes, ten properties of five bytes, and 54 of six.
 const MANY: &str =

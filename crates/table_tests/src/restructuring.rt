@@ -1,41 +1,15 @@
+//! Tables of one row under another schema.
 ghost use Rattle.std.specs.Prelude.{IfOk};
 ghost use Rattle.mk_value.specs.Heading.{IsDomain};
 ghost use Rattle.mk_value.specs.Kinds.{domain_of};
 
-use crate::restructure;
-use mk_value::{
-    Bytes, Kind, Name, Prop, Props, Row, Rows, Schema, Text, Value, print_row, rows_fit,
-};
+use crate::rows::{push, row_of, schema, text, view_of};
+use mk_value::{Bytes, Kind, Props, Row, Rows, Schema, Text, Value, print_row, rows_fit};
+use restructure::restructure;
 use std::alloc::Global;
 use std::process::Abort;
 use std::test::Fail;
 use view_store::{Table, from_rows};
-
-/// Appends a property.
-fn push(props: &mut Props, text: &str, kind: Kind) -> Result<(), Fail>
-    requires { IsDomain (domain_of kind) }
-{
-    let Some(name) = Name::from_bytes(text.as_bytes()) else {
-        return Err(Fail::new("no name"));
-    };
-    props.push(Prop { name, kind })?;
-    Ok(())
-}
-
-fn schema(props: Props) -> Result<Schema, Fail> {
-    if !props.are_within_limits() {
-        return Err(Fail::new("no schema"));
-    }
-    Ok(Schema::of(props))
-}
-
-/// The kind of views of a schema.
-fn view_of(schema: Schema) -> Kind
-    ensures { IsDomain (domain_of result) }
-{
-    let _properties = schema.len();
-    Kind::V(schema)
-}
 
 /// The kind that a letter names; views are `[z:I]`.
 fn kind(alloc: Global, letter: char) -> Result<Kind, Fail>
@@ -69,19 +43,8 @@ fn schema_of(alloc: Global, list: &[(&str, char)]) -> Result<Schema, Fail> {
     schema(props)
 }
 
-fn text(alloc: Global, content: &str) -> Result<Value, Fail> {
-    Ok(Value::S(Text::from_str(alloc, content)?))
-}
-
 fn bytes(alloc: Global, content: &[u8]) -> Result<Value, Fail> {
     Ok(Value::B(Bytes::from_slice(alloc, content)?))
-}
-
-/// A row of one value.
-fn row_of(alloc: Global, value: Value) -> Result<Row, Fail> {
-    let mut row = Row::new(alloc);
-    row.push(value)?;
-    Ok(row)
 }
 
 /// A row of two values.

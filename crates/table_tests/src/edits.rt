@@ -1,45 +1,10 @@
-ghost use Rattle.std.specs.Prelude.{◌≤◌};
-ghost use Rattle.mk_value.specs.Heading.{IsDomain};
-ghost use Rattle.mk_value.specs.Kinds.{domain_of};
-
-use super::*;
-use mk_value::{
-    Kind, MAX_ROWS, Name, Path, Prop, Props, Row, Rows, Same, Schema, Step, TableRead, Text, Value,
-};
+//! Views by name, and edits of them.
+use crate::rows::{name, push, row_of, schema, text, view_of};
+use mk_value::{Kind, MAX_ROWS, Path, Props, Row, Rows, Same, Schema, Step, TableRead, Value};
 use std::alloc::Global;
 use std::process::Abort;
 use std::test::Fail;
-
-fn name(text: &str) -> Result<Name, Fail> {
-    match Name::from_bytes(text.as_bytes()) {
-        Some(name) => Ok(name),
-        None => Err(Fail::new("no name")),
-    }
-}
-
-/// Appends a property.
-fn push(props: &mut Props, text: &str, kind: Kind) -> Result<(), Fail>
-    requires { IsDomain (domain_of kind) }
-{
-    let name = name(text)?;
-    props.push(Prop { name, kind })?;
-    Ok(())
-}
-
-fn schema(props: Props) -> Result<Schema, Fail> {
-    if !props.are_within_limits() {
-        return Err(Fail::new("no schema"));
-    }
-    Ok(Schema::of(props))
-}
-
-/// The kind of views of a schema.
-fn view_of(schema: Schema) -> Kind
-    ensures { IsDomain (domain_of result) }
-{
-    let _properties = schema.len();
-    Kind::V(schema)
-}
+use view_store::{EditError, MAX_VIEWS, Root, Shared, empty_table, structure_fits};
 
 /// `name:S,age:I`
 fn people(alloc: Global) -> Result<Schema, Fail> {
@@ -110,17 +75,6 @@ fn path(alloc: Global, text: &str, props: &str) -> Result<Path, Fail> {
         path.push(Step { row: 0, prop })?;
     }
     Ok(path)
-}
-
-fn text(alloc: Global, content: &str) -> Result<Value, Fail> {
-    Ok(Value::S(Text::from_str(alloc, content)?))
-}
-
-/// A row of one value.
-fn row_of(alloc: Global, value: Value) -> Result<Row, Fail> {
-    let mut row = Row::new(alloc);
-    row.push(value)?;
-    Ok(row)
 }
 
 /// A row of a text and a number.

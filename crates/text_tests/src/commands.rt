@@ -1,12 +1,15 @@
-use super::*;
-use mk_value::{Literal, Literals, Path, Text, Texts};
+//! Command lines, read or refused, and replies.
+use crate::shown;
+use cmd_text::{CmdError, Command, Refusal, Reply, Space, read_command, reply_text};
+use mk_value::{Literals, Path, Text, Texts};
 use std::alloc::Global;
+use std::process::Abort;
 use std::test::Fail;
 
 /// What a line reads as, or how it is refused.
 fn reading(alloc: Global, line: &[u8]) -> Result<String, Fail> {
     match read_command(alloc, line) {
-        Ok(command) => shown(alloc, &command),
+        Ok(command) => described(alloc, &command),
         Err(CmdError::Syntax(place)) => Ok(format!(in alloc; "syntax {place}")?),
         Err(CmdError::Floating(place)) => Ok(format!(in alloc; "floating {place}")?),
         Err(CmdError::Repeated) => Ok(String::from_str(alloc, "repeated")?),
@@ -15,7 +18,7 @@ fn reading(alloc: Global, line: &[u8]) -> Result<String, Fail> {
     }
 }
 
-fn shown(alloc: Global, command: &Command) -> Result<String, Fail> {
+fn described(alloc: Global, command: &Command) -> Result<String, Fail> {
     match command {
         Command::Nothing => Ok(String::from_str(alloc, "nothing")?),
         Command::Getas(name, schema) => {
@@ -52,7 +55,7 @@ fn shown_edit(alloc: Global, command: &Command) -> Result<String, Fail> {
         }
         Command::Set(path, row, prop, value) => {
             let (path, prop) = (shown_path(alloc, path)?, prop.as_str());
-            let value = shown_value(alloc, value)?;
+            let value = shown::literal(alloc, value)?;
             Ok(format!(in alloc; "set {path} {row} {prop} {value}")?)
         }
         Command::Remove(path, place, rows) => {
@@ -76,212 +79,154 @@ fn shown_values(alloc: Global, values: &Literals) -> Result<String, Fail> {
     let mut out = String::new(alloc);
     for value in values.as_slice() {
         out.push_str(" ")?;
-        out.push_str(shown_value(alloc, value)?.as_str())?;
+        out.push_str(shown::literal(alloc, value)?.as_str())?;
     }
     Ok(out)
 }
 
-fn shown_value(alloc: Global, value: &Literal) -> Result<String, Fail> {
-    match value {
-        Literal::Number(number) => Ok(format!(in alloc; "{number}")?),
-        Literal::Text(text) => {
-            let content = text.as_str();
-            Ok(format!(in alloc; "'{content}'")?)
-        }
-        Literal::Bytes(bytes) => {
-            let content = bytes.as_slice();
-            Ok(format!(in alloc; "{content:?}")?)
-        }
-        Literal::View(rows) => {
-            let count = rows.len();
-            Ok(format!(in alloc; "rows {count}")?)
-        }
+/// Each line reads, or is refused, as is said beside it.
+fn all_read(rt: &impl Abort, alloc: Global, table: &[(&str, &str)]) -> Result<(), Fail> {
+    for (line, want) in table {
+        assert_eq!(rt; reading(alloc, line.as_bytes())?.as_str(), *want, "{line}");
     }
+    Ok(())
 }
+
+const COMMANDS: [(&str, &str); 12] = [
+    ("", "nothing"),
+    ("   ", "nothing"),
+    ("  getas   people[name:S,age:I] ", "getas people 2"),
+    ("drop people", "drop people"),
+    ("struct", "struct"),
+    ("add people \"Ann\" 31", "add people 'Ann' 31"),
+    ("insert c 0 64", "insert c 0 64"),
+    ("set people 0 age 40", "set people 0 age 40"),
+    ("remove people 3 0", "remove people 3 0"),
+    ("size people", "size people"),
+    ("show people", "show people"),
+    (" quit  ", "quit"),
+];
 
 #[test]
 fn each_command_reads(rt: HostRuntime) -> Result<(), Fail> {
-    let table = [
-        ("", "nothing"),
-        ("   ", "nothing"),
-        ("  getas   people[name:S,age:I] ", "getas people 2"),
-        ("drop people", "drop people"),
-        ("struct", "struct"),
-        ("add people \"Ann\" 31", "add people 'Ann' 31"),
-        ("insert c 0 64", "insert c 0 64"),
-        ("set people 0 age 40", "set people 0 age 40"),
-        ("remove people 3 0", "remove people 3 0"),
-        ("size people", "size people"),
-        ("show people", "show people"),
-        (" quit  ", "quit"),
-    ];
-    for (line, want) in table {
-        assert_eq!(rt;
-            reading(rt.alloc(), line.as_bytes())?.as_str(),
-            want,
-            "{line}"
-        );
-    }
-    Ok(())
+    all_read(&rt, rt.alloc(), &COMMANDS)
 }
+
+const VALUES: [(&str, &str); 7] = [
+    ("add t", "add t"),
+    ("add t 1\"x\"", "add t 1 'x'"),
+    ("add p 7 5000000000 \"x\"", "add p 7 5000000000 'x'"),
+    ("add t 1-2 x\"78\"{(1),(2)}", "add t 1 -2 [120] rows 2"),
+    ("insert t 0 2 {} \"\"", "insert t 0 2 rows 0 ''"),
+    (
+        "add n 2147483647 -9223372036854775808",
+        "add n 2147483647 -9223372036854775808",
+    ),
+    ("add d/0/a/1/b 8", "add d/0/a/1/b 8"),
+];
 
 #[test]
 fn values_are_literals_side_by_side(rt: HostRuntime) -> Result<(), Fail> {
-    let table = [
-        ("add t", "add t"),
-        ("add t 1\"x\"", "add t 1 'x'"),
-        ("add p 7 5000000000 \"x\"", "add p 7 5000000000 'x'"),
-        ("add t 1-2 x\"78\"{(1),(2)}", "add t 1 -2 [120] rows 2"),
-        ("insert t 0 2 {} \"\"", "insert t 0 2 rows 0 ''"),
-        (
-            "add n 2147483647 -9223372036854775808",
-            "add n 2147483647 -9223372036854775808",
-        ),
-        ("add d/0/a/1/b 8", "add d/0/a/1/b 8"),
-    ];
-    for (line, want) in table {
-        assert_eq!(rt;
-            reading(rt.alloc(), line.as_bytes())?.as_str(),
-            want,
-            "{line}"
-        );
-    }
-    Ok(())
+    all_read(&rt, rt.alloc(), &VALUES)
 }
+
+const NAMES: [(&str, &str); 4] = [
+    ("size quit", "size quit"),
+    ("show struct/0/getas", "show struct/0/getas"),
+    ("drop drop", "drop drop"),
+    ("set set 0 set 1", "set set 0 set 1"),
+];
 
 #[test]
 fn words_of_commands_name_views(rt: HostRuntime) -> Result<(), Fail> {
-    let table = [
-        ("size quit", "size quit"),
-        ("show struct/0/getas", "show struct/0/getas"),
-        ("drop drop", "drop drop"),
-        ("set set 0 set 1", "set set 0 set 1"),
-    ];
-    for (line, want) in table {
-        assert_eq!(rt;
-            reading(rt.alloc(), line.as_bytes())?.as_str(),
-            want,
-            "{line}"
-        );
-    }
-    Ok(())
+    all_read(&rt, rt.alloc(), &NAMES)
 }
+
+const PIECES: [(&str, &str); 7] = [
+    ("foo %", "syntax 4"),
+    ("quit x \"", "syntax 7"),
+    ("add n 0 9223372036854775808", "syntax 8"),
+    ("insert t -0 1", "syntax 9"),
+    ("add t 1-2x\"78\"", "syntax 7"),
+    ("\tquit", "syntax 0"),
+    ("quit\r", "syntax 4"),
+];
 
 #[test]
 fn a_piece_that_is_no_token_wins(rt: HostRuntime) -> Result<(), Fail> {
-    let table = [
-        ("foo %", "syntax 4"),
-        ("quit x \"", "syntax 7"),
-        ("add n 0 9223372036854775808", "syntax 8"),
-        ("insert t -0 1", "syntax 9"),
-        ("add t 1-2x\"78\"", "syntax 7"),
-        ("\tquit", "syntax 0"),
-        ("quit\r", "syntax 4"),
-    ];
-    for (line, want) in table {
-        assert_eq!(rt;
-            reading(rt.alloc(), line.as_bytes())?.as_str(),
-            want,
-            "{line}"
-        );
-    }
-    Ok(())
+    all_read(&rt, rt.alloc(), &PIECES)
 }
+
+const TOKENS: [(&str, &str); 14] = [
+    ("foo", "syntax 0"),
+    ("  quit x", "syntax 7"),
+    ("struct 1", "syntax 7"),
+    ("drop 5", "syntax 5"),
+    ("drop a/0/b", "syntax 6"),
+    ("insert t -1 0", "syntax 9"),
+    ("insert t 0 -1", "syntax 11"),
+    ("add t 1 x", "syntax 8"),
+    ("add t {(1}", "syntax 9"),
+    ("add t {()}", "syntax 8"),
+    ("set t 0 1 a", "syntax 8"),
+    ("set t 0 a 1 2", "syntax 12"),
+    ("show sort(people)", "syntax 9"),
+    ("1", "syntax 0"),
+];
 
 #[test]
 fn the_first_token_that_cannot_go_on(rt: HostRuntime) -> Result<(), Fail> {
-    let table = [
-        ("foo", "syntax 0"),
-        ("  quit x", "syntax 7"),
-        ("struct 1", "syntax 7"),
-        ("drop 5", "syntax 5"),
-        ("drop a/0/b", "syntax 6"),
-        ("insert t -1 0", "syntax 9"),
-        ("insert t 0 -1", "syntax 11"),
-        ("add t 1 x", "syntax 8"),
-        ("add t {(1}", "syntax 9"),
-        ("add t {()}", "syntax 8"),
-        ("set t 0 1 a", "syntax 8"),
-        ("set t 0 a 1 2", "syntax 12"),
-        ("show sort(people)", "syntax 9"),
-        ("1", "syntax 0"),
-    ];
-    for (line, want) in table {
-        assert_eq!(rt;
-            reading(rt.alloc(), line.as_bytes())?.as_str(),
-            want,
-            "{line}"
-        );
-    }
-    Ok(())
+    all_read(&rt, rt.alloc(), &TOKENS)
 }
+
+const EARLY_ENDS: [(&str, &str); 9] = [
+    ("drop", "syntax 4"),
+    ("drop  ", "syntax 6"),
+    ("size", "syntax 4"),
+    ("size t/", "syntax 7"),
+    ("size t/0/", "syntax 9"),
+    ("remove t 0", "syntax 10"),
+    ("set t 0 a ", "syntax 10"),
+    ("add t {(1", "syntax 9"),
+    ("insert", "syntax 6"),
+];
 
 #[test]
 fn a_line_that_ends_early_is_refused_at_its_end(rt: HostRuntime) -> Result<(), Fail> {
-    let table = [
-        ("drop", "syntax 4"),
-        ("drop  ", "syntax 6"),
-        ("size", "syntax 4"),
-        ("size t/", "syntax 7"),
-        ("size t/0/", "syntax 9"),
-        ("remove t 0", "syntax 10"),
-        ("set t 0 a ", "syntax 10"),
-        ("add t {(1", "syntax 9"),
-        ("insert", "syntax 6"),
-    ];
-    for (line, want) in table {
-        assert_eq!(rt;
-            reading(rt.alloc(), line.as_bytes())?.as_str(),
-            want,
-            "{line}"
-        );
-    }
-    Ok(())
+    all_read(&rt, rt.alloc(), &EARLY_ENDS)
 }
+
+const STRUCTURES: [(&str, &str); 14] = [
+    ("getas", "syntax 5"),
+    ("getas  ", "syntax 7"),
+    ("getasx", "syntax 0"),
+    ("  getas\"", "syntax 2"),
+    ("getas[a:I]", "syntax 0"),
+    ("getas x[a:I  ", "syntax 11"),
+    ("  getas  x[a:I]]", "syntax 15"),
+    ("getas x[a:I]\t", "syntax 12"),
+    ("getas x[a:I,a:S]", "repeated"),
+    ("getas x[a:F]", "floating 10"),
+    ("getas x[a:F,a:I]", "floating 10"),
+    ("getas x[a:M]", "syntax 10"),
+    ("getas d[a[b[c[e[f[g[h[j[i:I]]]]]]]]]", "too large"),
+    ("getas d[a[b[c[e[f[g[h[i:I]]]]]]]]", "getas d 1"),
+];
 
 #[test]
 fn a_line_that_gives_a_structure(rt: HostRuntime) -> Result<(), Fail> {
-    let table = [
-        ("getas", "syntax 5"),
-        ("getas  ", "syntax 7"),
-        ("getasx", "syntax 0"),
-        ("  getas\"", "syntax 2"),
-        ("getas[a:I]", "syntax 0"),
-        ("getas x[a:I  ", "syntax 11"),
-        ("  getas  x[a:I]]", "syntax 15"),
-        ("getas x[a:I]\t", "syntax 12"),
-        ("getas x[a:I,a:S]", "repeated"),
-        ("getas x[a:F]", "floating 10"),
-        ("getas x[a:F,a:I]", "floating 10"),
-        ("getas x[a:M]", "syntax 10"),
-        ("getas d[a[b[c[e[f[g[h[j[i:I]]]]]]]]]", "too large"),
-        ("getas d[a[b[c[e[f[g[h[i:I]]]]]]]]", "getas d 1"),
-    ];
-    for (line, want) in table {
-        assert_eq!(rt;
-            reading(rt.alloc(), line.as_bytes())?.as_str(),
-            want,
-            "{line}"
-        );
-    }
-    Ok(())
+    all_read(&rt, rt.alloc(), &STRUCTURES)
 }
+
+const BRACES: [(&str, &str); 3] = [
+    ("add d {({({({({({({(7)})})})})})})}", "add d rows 1"),
+    ("add d {({({({({({({({})})})})})})})}", "add d rows 1"),
+    ("add d {({({({({({({({({})})})})})})})})}", "syntax 22"),
+];
 
 #[test]
 fn braces_stand_eight_deep(rt: HostRuntime) -> Result<(), Fail> {
-    let table = [
-        ("add d {({({({({({({(7)})})})})})})}", "add d rows 1"),
-        ("add d {({({({({({({({})})})})})})})}", "add d rows 1"),
-        ("add d {({({({({({({({({})})})})})})})})}", "syntax 22"),
-    ];
-    for (line, want) in table {
-        assert_eq!(rt;
-            reading(rt.alloc(), line.as_bytes())?.as_str(),
-            want,
-            "{line}"
-        );
-    }
-    Ok(())
+    all_read(&rt, rt.alloc(), &BRACES)
 }
 
 #[test]

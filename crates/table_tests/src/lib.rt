@@ -1,0 +1,11 @@
+//! Tests of nested tables: edits of the views of a root, and tables under another schema.
+//!
+//! They stand above the crates that they test, since a crate with tests in it is proved once more with them.
+#![tactic(auto)]
+
+#[cfg(test)]
+mod edits;
+#[cfg(test)]
+mod restructuring;
+#[cfg(test)]
+mod rows;
