@@ -1,71 +1,24 @@
 //! The loops of the crate `bench_bit_pack` in plain Rust, for comparison: rustc --edition 2021 -O baseline.rs && ./baseline
+#[path = "../lanes.rs"]
+mod lanes;
+
+use lanes::{Lane, Narrow, Nothing, Wide8, Wide16, Wide32, Wide64};
 use std::hint::black_box;
 use std::time::Instant;
 
 const COUNT: usize = 1_048_576;
 
-trait Lane {
-    fn read(bytes: &[u8], at: usize) -> i64;
-    fn write(bytes: &mut [u8], at: usize, value: i64);
-}
-
-struct Narrow<const BITS: usize>;
-
-impl<const BITS: usize> Lane for Narrow<BITS> {
-
-    fn read(bytes: &[u8], at: usize) -> i64 {
-        let per = 8 / BITS;
-        i64::from((bytes[at / per] >> (BITS * (at % per))) & ((1 << BITS) - 1))
-    }
-    fn write(bytes: &mut [u8], at: usize, value: i64) {
-        let per = 8 / BITS;
-        let from = BITS * (at % per);
-        let mask = ((1u8 << BITS) - 1) << from;
-        let byte = &mut bytes[at / per];
-        *byte = *byte & !mask | (value as u8) << from;
-    }
-}
-
-macro_rules! wide {
-    ($name:ident, $int:ty, $size:literal) => {
-        struct $name;
-        impl Lane for $name {
-            fn read(bytes: &[u8], at: usize) -> i64 {
-                let part = bytes[$size * at..$size * at + $size].try_into().unwrap();
-                <$int>::from_le_bytes(part) as i64
-            }
-            fn write(bytes: &mut [u8], at: usize, value: i64) {
-                bytes[$size * at..$size * at + $size].copy_from_slice(&(value as $int).to_le_bytes());
-            }
-        }
-    };
-}
-
-wide!(W8, i8, 1);
-wide!(W16, i16, 2);
-wide!(W32, i32, 4);
-wide!(W64, i64, 8);
-
-struct W0;
-impl Lane for W0 {
-
-    fn read(_bytes: &[u8], _at: usize) -> i64 {
-        0
-    }
-    fn write(_bytes: &mut [u8], _at: usize, _value: i64) {}
-}
-
 macro_rules! at_width {
     ($width:expr, $function:ident($($argument:expr),*)) => {
         match $width {
-            0 => $function::<W0>($($argument),*),
+            0 => $function::<Nothing>($($argument),*),
             1 => $function::<Narrow<1>>($($argument),*),
             2 => $function::<Narrow<2>>($($argument),*),
             4 => $function::<Narrow<4>>($($argument),*),
-            8 => $function::<W8>($($argument),*),
-            16 => $function::<W16>($($argument),*),
-            32 => $function::<W32>($($argument),*),
-            _ => $function::<W64>($($argument),*),
+            8 => $function::<Wide8>($($argument),*),
+            16 => $function::<Wide16>($($argument),*),
+            32 => $function::<Wide32>($($argument),*),
+            _ => $function::<Wide64>($($argument),*),
         }
     };
 }

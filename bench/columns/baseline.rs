@@ -1,5 +1,9 @@
 //! The loops of the crate `bench_columns` in plain Rust, over columns of the same structure, for comparison: rustc --edition
 //! 2021 -O baseline.rs && ./baseline
+#[path = "../lanes.rs"]
+mod lanes;
+
+use lanes::{Lane, Narrow, Nothing, Wide8, Wide16, Wide32, Wide64};
 use std::cmp::Ordering;
 use std::hint::black_box;
 use std::rc::Rc;
@@ -8,56 +12,6 @@ use std::time::Instant;
 const COUNT: usize = 1_048_576;
 const MEMOS: usize = 131_072;
 const EDITS: usize = 1_000;
-
-trait Lane {
-    fn read(bytes: &[u8], at: usize) -> i64;
-    fn write(bytes: &mut [u8], at: usize, value: i64);
-}
-
-struct Narrow<const BITS: usize>;
-
-impl<const BITS: usize> Lane for Narrow<BITS> {
-    fn read(bytes: &[u8], at: usize) -> i64 {
-        let per = 8 / BITS;
-        i64::from((bytes[at / per] >> (BITS * (at % per))) & ((1 << BITS) - 1))
-    }
-    fn write(bytes: &mut [u8], at: usize, value: i64) {
-        let per = 8 / BITS;
-        let from = BITS * (at % per);
-        let mask = ((1u8 << BITS) - 1) << from;
-        let byte = &mut bytes[at / per];
-        *byte = *byte & !mask | (value as u8) << from;
-    }
-}
-
-macro_rules! wide {
-    ($name:ident, $int:ty, $size:literal) => {
-        struct $name;
-        impl Lane for $name {
-            fn read(bytes: &[u8], at: usize) -> i64 {
-                let part = bytes[$size * at..$size * at + $size].try_into().unwrap();
-                <$int>::from_le_bytes(part) as i64
-            }
-            fn write(bytes: &mut [u8], at: usize, value: i64) {
-                bytes[$size * at..$size * at + $size].copy_from_slice(&(value as $int).to_le_bytes());
-            }
-        }
-    };
-}
-
-wide!(Wide8, i8, 1);
-wide!(Wide16, i16, 2);
-wide!(Wide32, i32, 4);
-wide!(Wide64, i64, 8);
-
-struct Nothing;
-
-impl Lane for Nothing {
-    fn read(_bytes: &[u8], _at: usize) -> i64 {
-        0
-    }
-    fn write(_bytes: &mut [u8], _at: usize, _value: i64) {}
-}
 
 #[derive(Clone, Copy, PartialEq, Eq, PartialOrd, Ord)]
 enum Width {

@@ -16,8 +16,6 @@ mod lanes;
 mod lists;
 mod packed;
 mod runs;
-#[cfg(test)]
-mod tests;
 mod widths;
 
 pub use error::PackError;

@@ -7,3 +7,4 @@ pub mod Edits
 pub mod Columns
 pub mod Sizes
 pub mod Fills
+pub mod Orders

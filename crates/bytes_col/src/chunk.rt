@@ -38,8 +38,11 @@ impl Model for Chunk {
 impl Clone for Chunk {
     ghost is_clone = { λ a b. b ≡ a };
 
+    /// A copy is made to be written to, so it has room for one more short value.
     fn clone(&self) -> Result<Chunk, AllocError> {
-        let bytes = Vec::from_slice(*self.bytes.allocator(), &self.bytes)?;
+        let room = self.bytes.len().saturating_add(SHORT_MOST);
+        let mut bytes = Vec::with_capacity(*self.bytes.allocator(), room)?;
+        bytes.extend_from_slice(&self.bytes)?;
         Ok(Chunk {
             cells: Vec::from_clones(*self.cells.allocator(), &self.cells)?,
             bytes,
@@ -58,6 +61,27 @@ impl Chunk {
             bytes: Vec::new(alloc),
             short: 0,
         }
+    }
+
+    /// No values, and room for so many with so many short bytes together.
+    fn with_room(alloc: Global, values: usize, bytes: usize) -> Result<Chunk, Memory>
+        ensures { IfOk result (λ chunk. chunk ≡ []) }
+    {
+        Ok(Chunk {
+            cells: Vec::with_capacity(alloc, values)?,
+            bytes: Vec::with_capacity(alloc, bytes)?,
+            short: 0,
+        })
+    }
+
+    /// Makes room for about so many of another chunk's values.
+    pub(crate) fn reserve(&mut self, other: &Chunk, count: usize) -> Result<(), Memory>
+        ensures { self.new ≡ self.old }
+    {
+        let each = other.short.checked_div(other.len()).unwrap_or(0);
+        self.cells.reserve(count)?;
+        self.bytes.reserve(each.saturating_mul(count))?;
+        Ok(())
     }
 
     /// How many values there are.
@@ -169,7 +193,8 @@ impl Chunk {
     fn packed(&self) -> Result<Chunk, Memory>
         ensures { IfOk result (λ chunk. chunk ≡ self.now) }
     {
-        let mut chunk = Chunk::new(*self.bytes.allocator());
+        let room = self.short_len() + SHORT_MOST;
+        let mut chunk = Chunk::with_room(*self.bytes.allocator(), self.len(), room)?;
         for at in 0..self.len() {
             chunk.add(self, at, 1)?;
         }

@@ -7,6 +7,7 @@ ghost use Rattle.bytes_col.specs.Column.{Column, is_short, short_bytes, sizes_of
 
 use crate::cell::SHORT_MOST;
 use crate::home::BytesHome;
+use crate::order::order;
 use crate::shared::SharedSpine;
 use int_col::IntCol;
 use mk_value::{Bytes, Memory, Positions};
@@ -153,7 +154,7 @@ impl BytesCol {
         requires { at < length self.now.values }
         ensures { result ≡ slice_cmp nat_cmp (slice_index_or self.now.values at []) with.now }
     {
-        self.spine.spine().value(at).cmp(with)
+        order(self.spine.spine().value(at), with)
     }
 
     /// How the values at two places compare, as in `cmp_with`.
@@ -163,7 +164,7 @@ impl BytesCol {
         ensures { result ≡ slice_cmp nat_cmp (slice_index_or self.now.values a []) (slice_index_or self.now.values b []) }
     {
         let spine = self.spine.spine();
-        spine.value(a).cmp(spine.value(b))
+        order(spine.value(a), spine.value(b))
     }
 
     /// The sizes of the values in bytes. They have no home of their own.

@@ -17,11 +17,10 @@ mod ends;
 mod fill;
 mod home;
 mod memo;
+mod order;
 mod parts;
 mod shared;
 mod spine;
-#[cfg(test)]
-mod tests;
 
 pub use column::BytesCol;
 pub use home::BytesHome;

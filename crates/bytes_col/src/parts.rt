@@ -67,12 +67,23 @@ impl Parts {
         self.last.add(chunk, at, 1)
     }
 
+    /// Makes room for so many of a chunk's values, where the last chunk has none yet.
+    fn prepare(&mut self, chunk: &Chunk, count: usize) -> Result<(), Memory>
+        ensures { OnOk result (added self.new ≡ added self.old) }
+    {
+        if self.last.len() == 0 {
+            self.last.reserve(chunk, count)?;
+        }
+        Ok(())
+    }
+
     /// Adds the values of a chunk from place `from` up to `to`.
     pub(crate) fn add(&mut self, chunk: &Chunk, from: usize, to: usize) -> Result<(), Memory>
         requires order { from ≤ to }
         requires within { to ≤ length chunk.now }
         ensures { OnOk result (added self.new ≡ added self.old ++ take (to - from) (drop from chunk.now)) }
     {
+        self.prepare(chunk, to - from)?;
         for at in from..to {
             self.add_one(chunk, at)?;
         }

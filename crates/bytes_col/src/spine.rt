@@ -1,6 +1,6 @@
 //! The list of a column's chunks.
-ghost use Rattle.std.specs.Prelude.{◌≡◌, ℕ, pos, ◌+◌, ◌-◌, ◌%◌, ◌^◌, ◌<◌, ◌≤◌, List, [], ◌∷◌, ◌++◌, length, slice_set, slice_index_or, take, drop, replicate, map, None, IfOk, OnOk, OnErr};
-ghost use Rattle.std.specs.Bool.{OnTrue};
+ghost use Rattle.std.specs.Prelude.{◌≡◌, ℕ, pos, ◌+◌, ◌-◌, ◌%◌, ◌^◌, ◌<◌, ◌≤◌, ◌⊎◌, List, [], ◌∷◌, ◌++◌, length, slice_set, slice_index_or, take, drop, replicate, map, None, IfOk, OnOk, OnErr};
+ghost use Rattle.std.specs.Bool.{OnTrue, OnFalse};
 ghost use Rattle.int_col.specs.Cuts.{ends_from};
 ghost use Rattle.bytes_col.specs.Column.{short_bytes, sizes_of};
 ghost use Rattle.bytes_col.specs.Spine.{joined, counts_of, start_of, AreFew, HasSizes, IsPlace, LastTakes};
@@ -272,8 +272,7 @@ impl Spine {
         }
         let after = touched.after + 1;
         let stop = self.start(after);
-        let last = edit.size_after(&touched) % CHUNK_MOST;
-        if last + (stop - touched.stop) > CHUNK_MOST {
+        if !fits_behind(edit.size_after(&touched), stop - touched.stop) {
             return touched;
         }
         Touched {
@@ -393,6 +392,16 @@ impl Spine {
         push_moved(&mut ends, &self.ends, after, self.start(after), stop)?;
         Ok(ends)
     }
+}
+
+/// Whether so many values more fit into the last of the chunks that `size` values are cut into.
+fn fits_behind(size: usize, more: usize) -> bool
+    requires { more ≤ 16777216 }
+    ensures yes { OnTrue result ((size ≡ 0) ⊎ ((0 < size % 512) × (size % 512 + more ≤ 512))) }
+    ensures no { OnFalse result ((0 < size) × ((size % 512 ≡ 0) ⊎ (512 < size % 512 + more))) }
+{
+    let last = size % CHUNK_MOST;
+    size == 0 || (last != 0 && last + more <= CHUNK_MOST)
 }
 
 /// Adds the ends of the chunks, the first of which begins at `from`, and gives the last end.

@@ -16,8 +16,6 @@ mod held;
 mod segment;
 mod shared;
 mod spine;
-#[cfg(test)]
-mod tests;
 
 pub use column::IntCol;
 pub use held::Held;

@@ -59,8 +59,7 @@ impl SharedSegment {
         ensures len { length self.new ≡ length self.old }
         ensures err { OnErr result (self.new ≡ self.old) }
     {
-        let segment = Rc::make_mut(&mut self.inner)?;
-        segment.set(at, value)
+        Rc::make_mut(&mut self.inner)?.set(at, value)
     }
 
     /// Adds a value that the segment takes.

@@ -11,5 +11,5 @@ loop-at-preserved c =
     let at = c.loop-at.at in
     c.in_ok-add_one.ensures
     ∙ ap (λ z. z ++ replicate 1 (get_or xs at [])) c.loop-at.invariant
-    ∙ append_assoc (added c.args.self.now) (take (at - from) (drop from xs)) (replicate 1 (get_or xs at []))
-    ∙ ap (λ z. added c.args.self.now ++ z) (sym (part_more xs from at (omega arith) (omega arith)))
+    ∙ append_assoc (added c.prepare.new.self) (take (at - from) (drop from xs)) (replicate 1 (get_or xs at []))
+    ∙ ap (λ z. added c.prepare.new.self ++ z) (sym (part_more xs from at (omega arith) (omega arith)))

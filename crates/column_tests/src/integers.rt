@@ -1,8 +1,8 @@
-//! Worked rows, and edits beside a plain list.
+//! Columns of integers: worked rows, and edits beside a plain list.
 ghost use Rattle.std.specs.Prelude.{◌+◌, ◌≤◌, length};
 
-use crate::IntCol;
 use bit_pack::{Width, width_for};
+use int_col::IntCol;
 use mk_value::Span;
 use std::alloc::Global;
 use std::process::Abort;

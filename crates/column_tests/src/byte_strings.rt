@@ -1,7 +1,7 @@
-//! Worked rows, and edits beside a plain list.
+//! Columns of byte strings: worked rows, and edits beside a plain list.
 ghost use Rattle.std.specs.Prelude.{◌≡◌, ◌+◌, ◌≤◌, length, IfOk};
 
-use crate::{BytesCol, BytesHome};
+use bytes_col::{BytesCol, BytesHome};
 use mk_value::{Bytes, Span, Spans};
 use std::alloc::Global;
 use std::cmp::Ordering;
@@ -105,6 +105,28 @@ fn home(alloc: Global, place: u64) -> Result<BytesHome, Fail> {
         short: span,
         memos: Spans::from(vec![in alloc; memo]?),
     })
+}
+
+/// A copy of a home names the same blocks, and its memos are a list of its own.
+#[test]
+fn home_copied(rt: HostRuntime) -> Result<(), Fail> {
+    let first = home(rt.alloc(), 208)?;
+    let mut copy = first.copy(rt.alloc())?;
+    assert!(rt; copy.sizes == Span { place: 192, len: 9 } && copy.short == copy.sizes);
+    assert!(rt;
+        copy.memos.as_slice()
+            == [Span {
+                place: 208,
+                len: 513
+            }]
+            .as_slice()
+    );
+    copy.memos.push(Span {
+        place: 736,
+        len: 600,
+    })?;
+    assert!(rt; first.memos.len() == 1 && copy.memos.len() == 2);
+    Ok(())
 }
 
 /// Asserts that the column's home has its one memo at a place.

@@ -1,5 +1,5 @@
-//! Worked rows: each expected value is computed by hand.
-use crate::{
+//! Packed integers: worked rows, each expected value computed by hand.
+use bit_pack::{
     Bytes, PackError, Values, Width, get, is_least, least_width, pack, pack_into, pack_range,
     packed_byte, put, unpack, unpack_into, width_for,
 };
