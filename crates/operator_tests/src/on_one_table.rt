@@ -170,7 +170,12 @@ fn slices_go_by_steps(rt: HostRuntime) -> Result<(), Fail> {
     answer(&rt, rt.alloc(), &SLICES)
 }
 
-const GROUPED: [Case; 5] = [
+const GROUPED: [Case; 6] = [
+    (
+        PEOPLE,
+        &[OnOne::Counts(&["age"], "n")],
+        "t[age:I,n:I]{(20,1),(31,2)}",
+    ),
     (
         PEOPLE,
         &[OnOne::Project(&["age"]), OnOne::Unique],
@@ -214,7 +219,15 @@ const BOOK: Source = (
 /// The second view is empty.
 const VIEWS: Source = ("b[n:S,s[q:I]]", r#"{("d",{(1),(2)}),("e",{}),("f",{(3)})}"#);
 
-const APART: [Case; 4] = [
+const EMPTY_VIEW: Source = ("b[n:S,s[q:I]]", r#"{("e",{})}"#);
+
+const APART: [Case; 6] = [
+    (
+        EMPTY_VIEW,
+        &[OnOne::JoinProp("s", true)],
+        r#"t[n:S,q:I]{("e",0)}"#,
+    ),
+    (EMPTY_VIEW, &[OnOne::JoinProp("s", false)], "t[n:S,q:I]{}"),
     (
         BOOK,
         &[OnOne::JoinProp("phones", false)],
@@ -276,7 +289,8 @@ fn operators_stand_on_one_another(rt: HostRuntime) -> Result<(), Fail> {
 const PARENTS: Source = ("p[name:S,age:I,kids[name:S,age:I]]", "{}");
 
 /// An absent property comes before a view, a view before a bound of another kind.
-const REFUSED_ROWS: [Case; 7] = [
+const REFUSED_ROWS: [Case; 8] = [
+    (TENS, &[OnOne::Slice(0, 5, 0)], "ZeroStep"),
     (
         PARENTS,
         &[OnOne::Sort(&[("kids", false), ("shoe", false)])],
