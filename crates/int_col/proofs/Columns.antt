@@ -1,18 +1,23 @@
 -- Laws of a column as its segments.
 use Rattle.std.proofs.Common.{◌≡◌, ℕ, zero, suc, ◌+◌, ◌-◌, ◌<◌, ◌≤◌, ℤ, Option, List, [], ◌∷◌, ◌++◌, length, get_or, set, take, drop, max, refl, sym, ap, subst, ◌∙◌, arith, sum}
-use Rattle.std.proofs.lemmas.List.{append_assoc, append-nil, take_at, map-append, set_at, get_or_at, length-take-le, length_push, get_or_default, take_more}
+use Rattle.std.proofs.lemmas.List.{append-nil, take_at, get_or_default, take_more}
 use Rattle.mk_value.specs.declared.span.Span.{Span}
 use Rattle.bit_pack.specs.declared.widths.Width.{Width}
 use Rattle.bit_pack.specs.Width.{bit_count, IsLeastWidth}
 use Rattle.bit_pack.proofs.LeastWidth.{least-append}
-use Rattle.int_col.specs.Cuts.{AreCuts, ends_from}
+use Rattle.runs.specs.declared.edit.Edit.{Edit}
+use Rattle.runs.specs.declared.edit.Touched.{Touched}
+use Rattle.runs.specs.Edits.{Applies, Covers, TakesNeighbors, AreApartBefore, AreApartBehind, size_after}
+use Rattle.runs.specs.Joined.{joined, counts_of}
+use Rattle.runs.proofs.Lists.{drop-cons-at, last_parts, set_last}
+use Rattle.runs.proofs.Joined.{joined-append, length-joined, length-counts, drop-joined, get_or-counts, count_is, counts-pushed, counts-replaced}
+use Rattle.int_col.specs.Cuts.{AreCuts}
 use Rattle.int_col.specs.Column.{IsColumn, segment_values}
-use Rattle.int_col.specs.Spine.{joined, cuts_of, column_of, IsSpine, LastTakes}
-use Rattle.int_col.proofs.CutLaws.{ends_from-append, length-ends_from, AreCuts-last-more}
-use Rattle.int_col.proofs.Joined.{joined-append, length-joined, length-joined-take, drop-joined, get_or-cuts, length-cuts}
-use Rattle.int_col.proofs.Places.{drop-cons-at}
+use Rattle.int_col.specs.Spine.{column_of, IsSpine, LastTakes}
+use Rattle.int_col.proofs.CutLaws.{AreCuts-last-more}
+use Rattle.int_col.proofs.Edits.{touched_apart}
 
-pub IsColumn-of : (ss : List (List ℤ)) (home : Option Span) → length (joined ss) ≤ 16777216 → AreCuts (cuts_of ss) → IsColumn (column_of ss home)
+pub IsColumn-of : (ss : List (List ℤ)) (home : Option Span) → length (joined ss) ≤ 16777216 → AreCuts (counts_of ss) → IsColumn (column_of ss home)
 IsColumn-of ss home few cut = record {
   few = few;
   cut = cut;
@@ -23,9 +28,9 @@ IsColumn-of ss home few cut = record {
 pub segment_values-of : (ss : List (List ℤ)) (home : Option Span) (k : ℕ) → k < length ss → segment_values (column_of ss home) k ≡ get_or ss k []
 segment_values-of ss home k l =
     let s : List ℤ = get_or ss k [] in
-    let rest : drop (sum (take k (cuts_of ss))) (joined ss) ≡ s ++ joined (drop (suc k) ss) =
-    ap (λ n. drop n (joined ss)) (sym (length-joined-take k ss)) ∙ drop-joined k ss ∙ ap joined (drop-cons-at ss k l) in
-    ap (λ n. take n (drop (sum (take k (cuts_of ss))) (joined ss))) (get_or-cuts ss k l)
+    let rest : drop (sum (take k (counts_of ss))) (joined ss) ≡ s ++ joined (drop (suc k) ss) =
+    drop-joined k ss ∙ ap joined (drop-cons-at ss k [] l) in
+    ap (λ n. take n (drop (sum (take k (counts_of ss))) (joined ss))) (get_or-counts ss k l)
     ∙ ap (take (length s)) rest
     ∙ take_at s (joined (drop (suc k) ss)) (length s) refl
 
@@ -39,46 +44,47 @@ least-more ss k s w u t l here before own wider =
     ∙ ap (λ x. joined (take k ss) ++ x) (append-nil (get_or ss k s) ∙ sym here) in
     subst P (sym is) (least-append w u t (joined (take k ss)) s before own wider)
 
--- a value more in the last segment
-last_parts : (ss : List (List ℤ)) (s : List ℤ) (last : ℕ) → suc last ≡ length ss → s ≡ get_or ss last s → ss ≡ take last ss ++ s ∷ []
-last_parts [] s last len here = absurd (omega arith)
-last_parts (x ∷ []) s zero len here = ap (λ y. y ∷ []) (sym here)
-last_parts (x ∷ []) s (suc last) len here = absurd (omega arith)
-last_parts (x ∷ y ∷ ss) s zero len here = absurd (omega arith)
-last_parts (x ∷ y ∷ ss) s (suc last) len here = ap (λ z. x ∷ z) (last_parts (y ∷ ss) s last (omega arith) here)
+-- a spine's runs are as long as the values are together
+pub len_is : (ss : List (List ℤ)) (counts : List ℕ) → IsSpine ss counts → sum counts ≡ length (joined ss)
+len_is ss counts h = ap sum h.counted ∙ sym (length-joined ss)
 
-pub set_last : (ss : List (List ℤ)) (s t : List ℤ) (last : ℕ) → suc last ≡ length ss → s ≡ get_or ss last s → set ss last t ≡ take last ss ++ t ∷ []
-set_last ss s t last len here =
-    ap (λ z. set z last t) (last_parts ss s last len here)
-    ∙ set_at (take last ss) s [] t last (length-take-le last ss (omega arith))
+-- an edit of the values is one of the runs
+pub applies_to_runs : (ss : List (List ℤ)) (counts : List ℕ) (e : Edit) → IsSpine ss counts → Applies (length (joined ss)) e → Applies (sum counts) e
+applies_to_runs ss counts e h a =
+    let P : ℕ → Type 0 = λ n. Applies n e in
+    subst P (sym (len_is ss counts h)) a
 
-pub joined-pushed : (ss : List (List ℤ)) (s : List ℤ) (v : ℤ) (last : ℕ) → suc last ≡ length ss → s ≡ get_or ss last s → joined (set ss last (s ++ v ∷ [])) ≡ joined ss ++ v ∷ []
-joined-pushed ss s v last len here =
-    ap joined (set_last ss s (s ++ v ∷ []) last len here)
-    ∙ joined-append (take last ss) ((s ++ v ∷ []) ∷ [])
-    ∙ ap (λ z. joined (take last ss) ++ z) (append-nil (s ++ v ∷ []))
-    ∙ sym (append_assoc (joined (take last ss)) s (v ∷ []))
-    ∙ ap (λ z. z ++ v ∷ []) (ap (λ z. joined (take last ss) ++ z) (sym (append-nil s)) ∙ sym (joined-append (take last ss) (s ∷ [])) ∙ ap joined (sym (last_parts ss s last len here)))
+pub touched_parts : (ss : List (List ℤ)) (counts : List ℕ) (e : Edit) (t : Touched) → IsSpine ss counts → Covers counts e t → TakesNeighbors 2048 counts e t → Covers (counts_of ss) e t × AreApartBefore 2048 (counts_of ss) t.first (size_after e t) × AreApartBehind 2048 (size_after e t) (drop t.after (counts_of ss))
+touched_parts ss counts e t h c taken =
+    let P : List ℕ → Type 0 = λ cs. Covers cs e t in
+    let Q : List ℕ → Type 0 = λ cs. TakesNeighbors 2048 cs e t in
+    let covers : Covers (counts_of ss) e t = subst P h.counted c in
+    let apart = touched_apart (counts_of ss) e t h.cut covers (subst Q h.counted taken) in
+    (covers, apart.0, apart.1)
 
-pub IsSpine-pushed : (ss : List (List ℤ)) (es : List ℕ) (s : List ℤ) (v : ℤ) (last end : ℕ) → IsSpine ss es → suc last ≡ length ss → s ≡ get_or ss last s → length s < 2048 → length (joined ss) < 16777216 → end ≡ get_or es last 0 + 1 → IsSpine (set ss last (s ++ v ∷ [])) (set es last end)
-IsSpine-pushed ss es s v last end h len here room few is =
-    let init : List ℕ = cuts_of (take last ss) in
-    let n : ℕ = length s in
-    let front : length (take last ss) ≡ last = length-take-le last ss (omega arith) in
-    let old : cuts_of ss ≡ init ++ n ∷ [] = ap cuts_of (last_parts ss s last len here) ∙ map-append length (take last ss) (s ∷ []) in
-    let new : cuts_of (set ss last (s ++ v ∷ [])) ≡ init ++ (n + 1) ∷ [] =
-    ap cuts_of (set_last ss s (s ++ v ∷ []) last len here) ∙ map-append length (take last ss) ((s ++ v ∷ []) ∷ []) ∙ ap (λ m. init ++ m ∷ []) (length_push s v) in
-    let ends : es ≡ ends_from 0 init ++ (0 + sum init + n) ∷ [] = h.placed ∙ ap (ends_from 0) old ∙ ends_from-append 0 init (n ∷ []) in
-    let first : length (ends_from 0 init) ≡ last = length-ends_from 0 init ∙ length-cuts (take last ss) ∙ front in
-    let at_last : get_or es last 0 ≡ 0 + sum init + n = ap (λ z. get_or z last 0) ends ∙ get_or_at (ends_from 0 init) (0 + sum init + n) [] 0 last first in
+-- segments in place of those from a up to b
+pub IsSpine-replaced : (ss fresh : List (List ℤ)) (counts made new : List ℕ) (a b : ℕ) → IsSpine ss counts → made ≡ counts_of fresh → AreCuts (take a (counts_of ss) ++ (counts_of fresh ++ drop b (counts_of ss))) → new ≡ take a counts ++ (made ++ drop b counts) → IsSpine (take a ss ++ (fresh ++ drop b ss)) new
+IsSpine-replaced ss fresh counts made new a b h are cut is =
+    let same = counts-replaced ss fresh a b in
     record {
-      few = omega (arith, ap length (joined-pushed ss s v last len here), length_push (joined ss) v);
-      cut = subst AreCuts (sym new) (AreCuts-last-more init n (subst AreCuts old h.cut) room);
-      placed =
-          ap (λ z. set z last end) ends
-          ∙ set_at (ends_from 0 init) (0 + sum init + n) [] end last first
-          ∙ ap (λ e. ends_from 0 init ++ e ∷ []) (let e : end ≡ 0 + sum init + (n + 1) = omega (arith, is, at_last) in e)
-          ∙ sym (ap (ends_from 0) new ∙ ends_from-append 0 init ((n + 1) ∷ []));
+      cut = subst AreCuts (sym same) cut;
+      counted = is ∙ ap (λ cs. take a cs ++ (made ++ drop b cs)) h.counted ∙ ap (λ ns. take a (counts_of ss) ++ (ns ++ drop b (counts_of ss))) are ∙ sym same;
+    }
+
+pub IsSpine-pushed : (ss : List (List ℤ)) (counts new : List ℕ) (s : List ℤ) (v : ℤ) (last : ℕ) → IsSpine ss counts → suc last ≡ length ss → s ≡ get_or ss last s → length s < 2048 → new ≡ set counts (length counts - 1) (get_or counts (length counts - 1) 0 + 1) → IsSpine (set ss last (s ++ v ∷ [])) new
+IsSpine-pushed ss counts new s v last h len here room is =
+    let n : ℕ = length s in
+    let cs : List ℕ = counts_of ss in
+    let there : length counts - 1 ≡ last = omega (arith, ap length h.counted, length-counts ss) in
+    let whole : suc last ≡ length cs = omega (arith, length-counts ss) in
+    let count : n ≡ get_or cs last 0 = sym (count_is ss last s (omega arith) here) in
+    let read : n ≡ get_or cs last n = count ∙ sym (get_or_default cs last n 0 (omega arith)) in
+    let old : cs ≡ take last cs ++ n ∷ [] = last_parts cs n last whole read in
+    let longer : counts_of (set ss last (s ++ v ∷ [])) ≡ take last cs ++ (n + 1) ∷ [] =
+    counts-pushed ss s v last len here ∙ ap (λ m. set cs last (m + 1)) (sym count) ∙ set_last cs n (n + 1) last whole read in
+    record {
+      cut = subst AreCuts (sym longer) (AreCuts-last-more (take last cs) n (subst AreCuts old h.cut) room);
+      counted = is ∙ ap (λ k. set counts k (get_or counts k 0 + 1)) there ∙ ap (λ cs. set cs last (get_or cs last 0 + 1)) h.counted ∙ sym (counts-pushed ss s v last len here);
     }
 
 -- the last segment has room where it takes one more value
@@ -88,3 +94,10 @@ last_room ss s v last takes len here =
     let segment : length s ≡ length (get_or ss (length ss - 1) []) =
     ap length (here ∙ get_or_default ss last s [] (omega arith)) ∙ ap (λ k. length (get_or ss k [])) (sym before) in
     omega (arith, takes.takes.room)
+
+-- and so has the last run
+pub run_room : (ss : List (List ℤ)) (counts : List ℕ) (s : List ℤ) (v : ℤ) (last : ℕ) → IsSpine ss counts → LastTakes ss v → suc last ≡ length ss → s ≡ get_or ss last s → get_or counts (length counts - 1) 0 < 2048
+run_room ss counts s v last h takes len here =
+    let there : length counts - 1 ≡ last = omega (arith, ap length h.counted, length-counts ss) in
+    let count : get_or counts (length counts - 1) 0 ≡ length s = ap (λ k. get_or counts k 0) there ∙ ap (λ cs. get_or cs last 0) h.counted ∙ count_is ss last s (omega arith) here in
+    omega (arith, last_room ss s v last takes len here)

@@ -1,16 +1,10 @@
 -- Laws of cuts and of where they end.
 use Rattle.std.proofs.Common.{◌≡◌, ℕ, zero, suc, ◌+◌, ◌-◌, ◌*◌, ◌/◌, ◌%◌, ◌<◌, ◌≤◌, inl, inr, List, [], ◌∷◌, ◌++◌, length, map, get_or, take, drop, replicate, refl, sym, ap, subst, ◌∙◌, arith, sum}
 use Rattle.std.proofs.lemmas.List.{append-nil, replicate_more}
-use Rattle.std.proofs.lemmas.List.Sums.{sum_by-cons, sum_by-append}
 use Rattle.std.proofs.lemmas.Bool.{cases_lt}
-use Rattle.int_col.specs.Edit.{LeftApart, RightApart}
-use Rattle.int_col.specs.Cuts.{Precedes, AreCuts, rest_cut, full_cuts, ends_from}
-
-pub sum-cons : (c : ℕ) (cs : List ℕ) → sum (c ∷ cs) ≡ c + sum cs
-sum-cons c cs = sum_by-cons (λ n. n) c cs
-
-pub sum-append : (xs ys : List ℕ) → sum (xs ++ ys) ≡ sum xs + sum ys
-sum-append xs ys = sum_by-append (λ n. n) xs ys
+use Rattle.runs.specs.Edits.{AreApartBefore, AreApartBehind}
+use Rattle.runs.proofs.Counts.{sum-cons, sum-append}
+use Rattle.int_col.specs.Cuts.{Precedes, AreCuts, rest_cut, full_cuts}
 
 -- a last cut c may stand right before these cuts
 pub Precedes-more : (c d : ℕ) (cs : List ℕ) → c ≤ d → Precedes c cs → Precedes d cs
@@ -67,57 +61,6 @@ cut_neighbours [] k h l = absurd (omega arith)
 cut_neighbours (c ∷ []) k h l = absurd (omega arith)
 cut_neighbours (c ∷ d ∷ cs) zero h l = h.2
 cut_neighbours (c ∷ d ∷ cs) (suc k) h l = cut_neighbours (d ∷ cs) k h.3 (omega arith)
-
--- k cuts are at most 2,048 times k together
-pub sum-take-few : (k : ℕ) (cs : List ℕ) → AreCuts cs → sum (take k cs) ≤ 2048 * k
-sum-take-few zero cs h = omega arith
-sum-take-few (suc k) [] h = omega arith
-sum-take-few (suc k) (c ∷ cs) h = let few : c ≤ 2048 = h.1 in omega (arith, sum-cons c (take k cs), sum-take-few k cs h.3)
-
--- the first k + 1 are those before and one more
-pub sum-take-suc : (k : ℕ) (cs : List ℕ) → k < length cs → sum (take (suc k) cs) ≡ sum (take k cs) + get_or cs k 0
-sum-take-suc k [] l = absurd (omega arith)
-sum-take-suc zero (c ∷ cs) l = omega (arith, sum-cons c [])
-sum-take-suc (suc k) (c ∷ cs) l = omega (arith, sum-cons c (take (suc k) cs), sum-cons c (take k cs), sum-take-suc k cs (omega arith))
-
--- where each cut ends
-
-pub length-ends_from : (n : ℕ) (cs : List ℕ) → length (ends_from n cs) ≡ length cs
-length-ends_from n [] = refl
-length-ends_from n (c ∷ cs) = ap suc (length-ends_from (n + c) cs)
-
-pub get_or-ends_from : (n : ℕ) (cs : List ℕ) (k : ℕ) → k < length cs → get_or (ends_from n cs) k 0 ≡ n + sum (take (suc k) cs)
-get_or-ends_from n [] k l = absurd (omega arith)
-get_or-ends_from n (c ∷ cs) zero l = omega (arith, sum-cons c [])
-get_or-ends_from n (c ∷ cs) (suc k) l = omega (arith, get_or-ends_from (n + c) cs k (omega arith), sum-cons c (take (suc k) cs))
-
-pub ends_from-append : (n : ℕ) (xs ys : List ℕ) → ends_from n (xs ++ ys) ≡ ends_from n xs ++ ends_from (n + sum xs) ys
-ends_from-append n [] ys = ap (λ m. ends_from m ys) (let e : n ≡ n + 0 = omega arith in e)
-ends_from-append n (x ∷ xs) ys =
-    ap (λ es. (n + x) ∷ es) (ends_from-append (n + x) xs ys ∙ ap (λ m. ends_from (n + x) xs ++ ends_from m ys) (let e : n + x + sum xs ≡ n + sum (x ∷ xs) = omega (arith, sum-cons x xs) in e))
-
-pub take-ends_from : (n k : ℕ) (cs : List ℕ) → take k (ends_from n cs) ≡ ends_from n (take k cs)
-take-ends_from n zero cs = refl
-take-ends_from n (suc k) [] = refl
-take-ends_from n (suc k) (c ∷ cs) = ap (λ es. (n + c) ∷ es) (take-ends_from (n + c) k cs)
-
-pub drop-ends_from : (n k : ℕ) (cs : List ℕ) → drop k (ends_from n cs) ≡ ends_from (n + sum (take k cs)) (drop k cs)
-drop-ends_from n zero cs = ap (λ m. ends_from m cs) (let e : n ≡ n + 0 = omega arith in e)
-drop-ends_from n (suc k) [] = refl
-drop-ends_from n (suc k) (c ∷ cs) =
-    drop-ends_from (n + c) k cs ∙ ap (λ m. ends_from m (drop k cs)) (let e : n + c + sum (take k cs) ≡ n + sum (c ∷ take k cs) = omega (arith, sum-cons c (take k cs)) in e)
-
--- ends that begin at p, moved so that those at m are at n
-shifted : (m n p : ℕ) (cs : List ℕ) → m ≤ p → ends_from (p - m + n) cs ≡ map (λ e. e - m + n) (ends_from p cs)
-shifted m n p [] le = refl
-shifted m n p (c ∷ cs) le =
-    let first : p - m + n + c ≡ p + c - m + n = omega arith in
-    ap (λ e. e ∷ ends_from (p - m + n + c) cs) first
-    ∙ ap (λ es. (p + c - m + n) ∷ es) (ap (λ e. ends_from e cs) first ∙ shifted m n (p + c) cs (omega arith))
-
-pub ends_from-shift : (m n : ℕ) (cs : List ℕ) → map (λ e. e - m + n) (ends_from m cs) ≡ ends_from n cs
-ends_from-shift m n cs =
-    sym (ap (λ e. ends_from e cs) (let e : n ≡ m - m + n = omega arith in e) ∙ shifted m n m cs (omega arith))
 
 -- whole segments and what is left
 
@@ -214,7 +157,7 @@ Meet-nil [] = tt
 Meet-nil (x ∷ []) = tt
 Meet-nil (x ∷ y ∷ xs) = Meet-nil (y ∷ xs)
 
-last_apart : (n : ℕ) (ys : List ℕ) → AreCuts ys → RightApart n ys → Meet (full_cuts n) ys
+last_apart : (n : ℕ) (ys : List ℕ) → AreCuts ys → AreApartBehind 2048 n ys → Meet (full_cuts n) ys
 last_apart n [] h apart = Meet-nil (full_cuts n)
 last_apart n (d ∷ ds) h apart =
     let some : 0 < d = h.0 in
@@ -230,7 +173,7 @@ last_apart n (d ∷ ds) h apart =
     ]
 
 -- n values in place of the segments from a up to b
-pub AreCuts-replaced : (cs : List ℕ) (a b n : ℕ) → AreCuts cs → a ≤ length cs → LeftApart cs a n → RightApart n (drop b cs) → AreCuts (take a cs ++ (full_cuts n ++ drop b cs))
+pub AreCuts-replaced : (cs : List ℕ) (a b n : ℕ) → AreCuts cs → a ≤ length cs → AreApartBefore 2048 cs a n → AreApartBehind 2048 n (drop b cs) → AreCuts (take a cs ++ (full_cuts n ++ drop b cs))
 AreCuts-replaced cs zero b n h in_range left right =
     AreCuts-append (full_cuts n) (drop b cs) (AreCuts-full_cuts n) (AreCuts-drop b cs h) (last_apart n (drop b cs) (AreCuts-drop b cs h) right)
 AreCuts-replaced cs (suc k) b n h in_range left right =

@@ -1,6 +1,4 @@
 pub mod CutLaws
-pub mod Joined
-pub mod Places
 pub mod Lists
 pub mod Edits
 pub mod Segments

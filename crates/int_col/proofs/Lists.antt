@@ -1,26 +1,7 @@
--- Laws of lists in parts.
-use Rattle.std.proofs.Common.{◌≡◌, ℕ, suc, ◌+◌, ◌-◌, ◌≤◌, List, [], ◌∷◌, ◌++◌, length, take, drop, replicate, sym, ap, ◌∙◌, arith}
-use Rattle.std.proofs.lemmas.List.{append_assoc, take-append-drop, drop-drop, drop-take, take-take, take_at, length-take-le, length-drop, take-replicate, drop-replicate}
-
--- the front of a list and some more
-pub take-append-more : {X : Type 0} (xs ys : List X) (r : ℕ) → take (length xs + r) (xs ++ ys) ≡ xs ++ take r ys
-take-append-more [] ys r = ap (λ n. take n ys) (let e : 0 + r ≡ r = omega arith in e)
-take-append-more (x ∷ xs) ys r =
-    ap (λ n. take n (x ∷ (xs ++ ys))) (let e : suc (length xs) + r ≡ suc (length xs + r) = omega arith in e) ∙ ap (λ zs. x ∷ zs) (take-append-more xs ys r)
-
--- a list in two parts at a later place
-pub take-split : {X : Type 0} (xs : List X) (m n : ℕ) → m ≤ n → take n xs ≡ take m xs ++ take (n - m) (drop m xs)
-take-split xs m n le =
-    let sum : n ≡ m + (n - m) = omega arith in
-    sym (take-append-drop m (take n xs))
-    ∙ ap (λ ys. ys ++ drop m (take n xs)) (take-take m n xs le)
-    ∙ ap (λ k. take m xs ++ drop m (take k xs)) sum
-    ∙ ap (λ ys. take m xs ++ ys) (drop-take m (n - m) xs)
-
-pub drop-split : {X : Type 0} (xs : List X) (m n : ℕ) → m ≤ n → drop m xs ≡ take (n - m) (drop m xs) ++ drop n xs
-drop-split xs m n le =
-    let sum : m + (n - m) ≡ n = omega arith in
-    sym (take-append-drop (n - m) (drop m xs)) ∙ ap (λ ys. take (n - m) (drop m xs) ++ ys) (drop-drop (n - m) m xs ∙ ap (λ k. drop k xs) sum)
+-- Laws of values that are copied, and of copies that others are written over.
+use Rattle.std.proofs.Common.{◌≡◌, ℕ, ◌+◌, ◌-◌, ◌≤◌, List, ◌++◌, length, take, drop, replicate, sym, ap, ◌∙◌, arith}
+use Rattle.std.proofs.lemmas.List.{append_assoc, drop-drop, take_at, length-take-le, length-drop, take-replicate, drop-replicate}
+use Rattle.runs.proofs.Lists.{take-append-more, take-split}
 
 -- what a copy has reached: `done` values of `from` on, and r more
 pub copied_more : {X : Type 0} (whole xs ys zs rest : List X) (from done r : ℕ) → done ≤ length xs → from + done + r ≤ length whole → ys ≡ take r (drop (from + done) whole) ++ rest → take done xs ≡ take done (drop from whole) → take (done + r) (take done xs ++ (ys ++ zs)) ≡ take (done + r) (drop from whole)

@@ -19,8 +19,3 @@ rest_cut (suc n) = suc n ∷ []
 -- n values cut into segments of 2,048 and a last one of what is left
 abbrev pub full_cuts : ℕ → List ℕ
 full_cuts n = replicate (n / 2048) 2048 ++ rest_cut (n % 2048)
-
--- where each cut ends, if the first begins at n
-abbrev pub ends_from : ℕ → List ℕ → List ℕ
-ends_from n [] = []
-ends_from n (c ∷ cs) = (n + c) ∷ ends_from (n + c) cs

@@ -2,4 +2,3 @@ pub mod Cuts
 pub mod Column
 pub mod Segment
 pub mod Spine
-pub mod Edit

@@ -6,7 +6,6 @@ ghost use Rattle.bit_pack.specs.Packed.{Packed, packed_len};
 ghost use Rattle.int_col.specs.Cuts.{full_cuts};
 ghost use Rattle.int_col.specs.Column.{Column, IsColumn, segment_values, home_after, HasPackedBytes, ArePackedBytes};
 
-use crate::edit::Edit;
 use crate::held::Held;
 use crate::shared::SharedSpine;
 use bit_pack::Width;

@@ -9,8 +9,6 @@
 #![tactic(auto)]
 
 mod column;
-mod edit;
-mod ends;
 mod fill;
 mod held;
 mod segment;

@@ -1,10 +1,9 @@
 //! What copies of a column share: each segment, and the spine that lists them.
 ghost use Rattle.std.specs.Prelude.{◌≡◌, ℕ, ◌+◌, ◌-◌, ◌<◌, ◌≤◌, [], ◌∷◌, ◌++◌, length, take, drop, replicate, slice_set, IfOk, OnOk, OnErr};
-ghost use Rattle.int_col.specs.Cuts.{AreCuts, full_cuts};
+ghost use Rattle.int_col.specs.Cuts.{full_cuts};
 ghost use Rattle.int_col.specs.Segment.{Takes};
-ghost use Rattle.int_col.specs.Spine.{joined, cuts_of};
+ghost use Rattle.runs.specs.Joined.{joined, counts_of};
 
-use crate::edit::Edit;
 use crate::segment::Segment;
 use crate::spine::Spine;
 use mk_value::Memory;
@@ -102,7 +101,7 @@ impl SharedSpine {
     pub(crate) fn of(alloc: Global, values: &[i64]) -> Result<SharedSpine, Memory>
         requires { length values.now ≤ 16777216 }
         ensures values { IfOk result (λ spine. joined spine ≡ values.now) }
-        ensures cuts { IfOk result (λ spine. cuts_of spine ≡ full_cuts (length values.now)) }
+        ensures cuts { IfOk result (λ spine. counts_of spine ≡ full_cuts (length values.now)) }
     {
         let spine = Spine::of(alloc, values)?;
         Ok(SharedSpine {
@@ -120,7 +119,7 @@ impl SharedSpine {
     pub(crate) fn set(&mut self, at: usize, value: i64) -> Result<(), Memory>
         requires { at < length (joined self.old) }
         ensures values { OnOk result (joined self.new ≡ slice_set (joined self.old) at value) }
-        ensures cuts { cuts_of self.new ≡ cuts_of self.old }
+        ensures cuts { counts_of self.new ≡ counts_of self.old }
         ensures err { OnErr result (self.new ≡ self.old) }
     {
         let spine = Rc::make_mut(&mut self.inner)?;

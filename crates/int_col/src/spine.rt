@@ -1,27 +1,28 @@
 //! The list of a column's segments.
-ghost use Rattle.std.specs.Prelude.{◌≡◌, ℕ, ℤ, ◌+◌, ◌-◌, ◌%◌, ◌^◌, ◌<◌, ◌≤◌, ◌⊎◌, List, [], ◌∷◌, ◌++◌, length, slice_get, slice_set, slice_index, slice_index_or, take, drop, Some, IfOk, OnOk, OnErr, replicate};
-ghost use Rattle.std.specs.Bool.{OnTrue, OnFalse};
+ghost use Rattle.std.specs.Prelude.{◌≡◌, ℕ, ℤ, ◌+◌, ◌-◌, ◌<◌, ◌≤◌, List, [], ◌∷◌, ◌++◌, length, sum, slice_get, slice_set, slice_index_or, take, drop, Some, All, IfOk, OnOk, OnErr, replicate};
+ghost use Rattle.std.specs.Bool.{OnTrue};
 ghost use Rattle.bit_pack.specs.Width.{IsLeastWidth};
 ghost use Rattle.bit_pack.specs.Packed.{Packed};
-ghost use Rattle.int_col.specs.Cuts.{AreCuts, full_cuts, ends_from};
-ghost use Rattle.int_col.specs.Spine.{joined, cuts_of, start_of, IsPlace, LastTakes};
-ghost use Rattle.int_col.specs.Edit.{Applies, Covers, size_after, values_after, replaced, LeftApart, RightApart};
+ghost use Rattle.runs.specs.Runs.{IsPlace};
+ghost use Rattle.runs.specs.Edits.{Applies, Covers, AreApartBefore, AreApartBehind, size_after, items_after, replaced};
+ghost use Rattle.runs.specs.Joined.{joined, counts_of};
+ghost use Rattle.int_col.specs.Cuts.{AreCuts, full_cuts};
+ghost use Rattle.int_col.specs.Spine.{LastTakes};
 
-use crate::edit::{Edit, Touched};
-use crate::ends::{first_end_above, first_ends, push_moved};
 use crate::held::Held;
 use crate::segment::SEGMENT_MOST;
 use crate::shared::SharedSegment;
 use bit_pack::Width;
 use mk_value::Memory;
+use runs::{Edit, Place, Runs, Touched};
 use std::alloc::{AllocError, Global};
 use std::marker::Model;
 
-/// The segments in order, and where each ends.
+/// The segments in order, and how they cut the list of values.
 #[derive(Drop)]
 pub(crate) struct Spine {
     segments: Vec<SharedSegment>,
-    ends: Vec<usize>,
+    runs: Runs<SEGMENT_MOST>,
 }
 
 impl Model for Spine {
@@ -32,24 +33,16 @@ impl Model for Spine {
 
     ghost view = { λ s. s.segments.items };
 
-    ghost invariant = { λ s. IsSpine s.segments.items s.ends.items };
-}
-
-/// A value's segment, and its place there.
-#[derive(Clone, Copy)]
-pub(crate) struct Place {
-    segment: usize,
-    offset: usize,
+    ghost invariant = { λ s. IsSpine s.segments.items s.runs };
 }
 
 impl Clone for Spine {
     ghost is_clone = { λ a b. b ≡ a };
 
     fn clone(&self) -> Result<Spine, AllocError> {
-        let ends = Vec::from_slice(*self.ends.allocator(), &self.ends)?;
         Ok(Spine {
             segments: clones(*self.segments.allocator(), &self.segments)?,
-            ends,
+            runs: self.runs.clone()?,
         })
     }
 }
@@ -59,21 +52,23 @@ impl Spine {
     pub(crate) fn of(alloc: Global, values: &[i64]) -> Result<Spine, Memory>
         requires { length values.now ≤ 16777216 }
         ensures values { IfOk result (λ spine. joined spine ≡ values.now) }
-        ensures cuts { IfOk result (λ spine. cuts_of spine ≡ full_cuts (length values.now)) }
+        ensures cuts { IfOk result (λ spine. counts_of spine ≡ full_cuts (length values.now)) }
     {
         let segments = cut(alloc, values)?;
-        let mut ends = Vec::new(alloc);
-        push_ends(&mut ends, 0, &segments)?;
-        Ok(Spine { segments, ends })
+        let counts = counts(alloc, &segments)?;
+        Ok(Spine {
+            segments,
+            runs: Runs::from_counts(alloc, &counts)?,
+        })
     }
 
     /// How many segments there are.
     pub(crate) fn segments(&self) -> usize
         ensures count { result ≡ length self.now }
         ensures few { length (joined self.now) ≤ 16777216 }
-        ensures cut { AreCuts (cuts_of self.now) }
+        ensures cut { AreCuts (counts_of self.now) }
     {
-        self.segments.len()
+        self.runs.count()
     }
 
     /// The segment of this number, lent.
@@ -96,30 +91,18 @@ impl Spine {
     pub(crate) fn len(&self) -> usize
         ensures len { result ≡ length (joined self.now) }
         ensures few { result ≤ 16777216 }
-        ensures cut { AreCuts (cuts_of self.now) }
+        ensures cut { AreCuts (counts_of self.now) }
     {
-        self.start(self.segments.len())
+        self.runs.len()
     }
 
-    /// Where segment `k` begins.
-    fn start(&self, k: usize) -> usize
-        requires { k ≤ length self.now }
-        ensures start { result ≡ start_of self.now k }
-        ensures cut { AreCuts (cuts_of self.now) }
-    {
-        if k == 0 { 0 } else { self.ends[k - 1] }
-    }
-
+    /// Where a value stands.
     fn find(&self, at: usize) -> Place
         requires { at < length (joined self.now) }
-        ensures place { IsPlace self.now at result.segment result.offset }
-        ensures small { result.segment + 1 < 2 ^ 64 }
+        ensures in_range { result.run < length self.now }
+        ensures place { IsPlace (counts_of self.now) at result }
     {
-        let segment = first_end_above(&self.ends, at / SEGMENT_MOST, at);
-        Place {
-            segment,
-            offset: at - self.start(segment),
-        }
+        self.runs.find(at)
     }
 
     /// The value at a place.
@@ -128,7 +111,7 @@ impl Spine {
         ensures { slice_get (joined self.now) at ≡ Some result }
     {
         let place = self.find(at);
-        let segment = self.segments[place.segment].segment();
+        let segment = self.segments[place.run].segment();
         segment.get(place.offset)
     }
 
@@ -136,11 +119,11 @@ impl Spine {
     pub(crate) fn set(&mut self, at: usize, value: i64) -> Result<(), Memory>
         requires { at < length (joined self.old) }
         ensures values { OnOk result (joined self.new ≡ slice_set (joined self.old) at value) }
-        ensures cuts { cuts_of self.new ≡ cuts_of self.old }
+        ensures cuts { counts_of self.new ≡ counts_of self.old }
         ensures err { OnErr result (self.new ≡ self.old) }
     {
         let place = self.find(at);
-        let segment = &mut self.segments[place.segment];
+        let segment = &mut self.segments[place.run];
         segment.set(place.offset, value)
     }
 
@@ -149,8 +132,7 @@ impl Spine {
         requires { from + length into.old ≤ length (joined self.now) }
         ensures { into.new ≡ take (length into.old) (drop from (joined self.now)) }
     {
-        // The fields bound the places.
-        let _ = &self.segments;
+        let _few = self.len();
         let mut done = 0;
         while done < into.len() {
             done += self.copy_some(from + done, &mut into[done..]);
@@ -166,125 +148,40 @@ impl Spine {
         ensures values { into.new ≡ take result (drop from (joined self.now)) ++ drop result into.old }
     {
         let place = self.find(from);
-        let segment = self.segments[place.segment].segment();
+        let segment = self.segments[place.run].segment();
         let count = (segment.len() - place.offset).min(into.len());
         segment.copy_values(place.offset, &mut into[..count]);
         count
     }
 
-    /// The segment that holds place `at`, or the count of segments where none does.
-    fn first_touched(&self, at: usize) -> usize
-        requires { at ≤ length (joined self.now) }
-        ensures in_range { result ≤ length self.now }
-        ensures before { start_of self.now result ≤ at }
+    /// The segments that an edit replaces.
+    fn touched(&self, edit: &Edit) -> Touched
+        requires { Applies (length (joined self.now)) edit.now }
+        ensures covers { Covers (counts_of self.now) edit.now result }
+        ensures before { AreApartBefore 2048 (counts_of self.now) result.first (size_after edit.now result) }
+        ensures behind { AreApartBehind 2048 (size_after edit.now result) (drop result.after (counts_of self.now)) }
     {
-        if at == self.len() {
-            self.segments.len()
-        } else {
-            self.find(at).segment
-        }
-    }
-
-    /// The segment behind the last that holds a place from `start` up to `end`, where segment `first` begins at `start`.
-    fn after_touched(&self, first: usize, start: usize, end: usize) -> usize
-        requires in_range { first ≤ length self.now }
-        requires start { start ≡ start_of self.now first }
-        requires order { start ≤ end }
-        requires within { end ≤ length (joined self.now) }
-        ensures in_range { result ≤ length self.now }
-        ensures order { first ≤ result }
-        ensures behind { end ≤ start_of self.now result }
-    {
-        if end == start {
-            first
-        } else {
-            self.find(end - 1).segment + 1
-        }
-    }
-
-    /// The segments that hold the values from `at` up to `end`, and the one that holds the place between where
-    /// there are no such values.
-    fn covering(&self, at: usize, end: usize) -> Touched
-        requires order { at ≤ end }
-        requires within { end ≤ length (joined self.now) }
-        ensures { Covers self.now at end result }
-    {
-        let first = self.first_touched(at);
-        let start = self.start(first);
-        let after = self.after_touched(first, start, end);
-        let stop = self.start(after);
-        Touched {
-            first,
-            after,
-            start,
-            stop,
-        }
-    }
-
-    /// With the segment before, where the values would fit into it.
-    fn widened_left(&self, edit: &Edit, touched: Touched) -> Touched
-        requires applies { Applies (joined self.now) edit.now }
-        requires covers { Covers self.now edit.now.at edit.now.end touched }
-        ensures covers { Covers self.now edit.now.at edit.now.end result }
-        ensures left { LeftApart (cuts_of self.now) result.first (size_after edit.now result) }
-    {
-        if touched.first == 0 {
-            return touched;
-        }
-        let first = touched.first - 1;
-        let start = self.start(first);
-        if touched.start - start + edit.size_after(&touched) > SEGMENT_MOST {
-            return touched;
-        }
-        Touched {
-            first,
-            start,
-            ..touched
-        }
-    }
-
-    /// With the segment behind, where its values would fit into the last segment of those in place of the touched.
-    fn widened_right(&self, edit: &Edit, touched: Touched) -> Touched
-        requires applies { Applies (joined self.now) edit.now }
-        requires covers { Covers self.now edit.now.at edit.now.end touched }
-        requires left { LeftApart (cuts_of self.now) touched.first (size_after edit.now touched) }
-        ensures covers { Covers self.now edit.now.at edit.now.end result }
-        ensures left { LeftApart (cuts_of self.now) result.first (size_after edit.now result) }
-        ensures right { RightApart (size_after edit.now result) (drop result.after (cuts_of self.now)) }
-    {
-        if touched.after == self.segments.len() {
-            return touched;
-        }
-        let after = touched.after + 1;
-        let stop = self.start(after);
-        if !fits_behind(edit.size_after(&touched), stop - touched.stop) {
-            return touched;
-        }
-        Touched {
-            after,
-            stop,
-            ..touched
-        }
+        self.runs.touched(edit)
     }
 
     /// The values that stand in place of those of the touched segments.
-    fn values_after(&self, edit: &Edit, touched: &Touched) -> Result<Vec<i64>, Memory>
-        requires applies { Applies (joined self.now) edit.now }
-        requires covers { Covers self.now edit.now.at edit.now.end touched.now }
-        ensures { IfOk result (λ values. values.items ≡ values_after (joined self.now) edit.now touched.now) }
+    fn values_after(&self, edit: &Edit, value: i64, touched: &Touched) -> Result<Vec<i64>, Memory>
+        requires applies { Applies (length (joined self.now)) edit.now }
+        requires covers { Covers (counts_of self.now) edit.now touched.now }
+        ensures { IfOk result (λ values. values.items ≡ items_after (joined self.now) edit.now touched.now value) }
     {
-        let mut values = Vec::new(*self.ends.allocator());
-        values.resize(edit.size_after(touched), edit.value)?;
-        self.copy_around(edit, touched, values.as_mut_slice());
+        let mut values = Vec::new(*self.segments.allocator());
+        values.resize(edit.size_after(touched), value)?;
+        self.copy_around(edit, value, touched, values.as_mut_slice());
         Ok(values)
     }
 
     /// Copies the values before and behind those that the edit replaces.
-    fn copy_around(&self, edit: &Edit, touched: &Touched, into: &mut [i64])
-        requires applies { Applies (joined self.now) edit.now }
-        requires covers { Covers self.now edit.now.at edit.now.end touched.now }
-        requires copies { into.old ≡ replicate (size_after edit.now touched.now) edit.now.value }
-        ensures { into.new ≡ values_after (joined self.now) edit.now touched.now }
+    fn copy_around(&self, edit: &Edit, value: i64, touched: &Touched, into: &mut [i64])
+        requires applies { Applies (length (joined self.now)) edit.now }
+        requires covers { Covers (counts_of self.now) edit.now touched.now }
+        requires copies { into.old ≡ replicate (size_after edit.now touched.now) value }
+        ensures { into.new ≡ items_after (joined self.now) edit.now touched.now value }
     {
         let before = edit.at - touched.start;
         self.copy_values(touched.start, &mut into[..before]);
@@ -302,12 +199,7 @@ impl Spine {
             return self.push(value);
         }
         let end = at;
-        self.replace(&Edit {
-            at,
-            end,
-            value,
-            count,
-        })
+        self.replace(&Edit { at, end, count }, value)
     }
 
     /// Removes values from a place on.
@@ -316,14 +208,9 @@ impl Spine {
         ensures ok { OnOk result (joined self.new ≡ take at (joined self.old) ++ drop (at + count) (joined self.old)) }
         ensures err { OnErr result (self.new ≡ self.old) }
     {
-        // The fields bound the places.
-        let _ = &self.segments;
-        self.replace(&Edit {
-            at,
-            end: at + count,
-            value: 0,
-            count: 0,
-        })
+        let _few = self.len();
+        let end = at + count;
+        self.replace(&Edit { at, end, count: 0 }, 0)
     }
 
     /// Whether the last segment takes one more value.
@@ -346,20 +233,19 @@ impl Spine {
         let last = self.segments.len() - 1;
         let segment = &mut self.segments[last];
         segment.push(value)?;
-        self.ends[last] += 1;
+        self.runs.extend_last();
         Ok(())
     }
 
-    /// Makes an edit: the touched segments are replaced, and all others stay.
-    pub(crate) fn replace(&mut self, edit: &Edit) -> Result<(), Memory>
-        requires { Applies (joined self.old) edit.now }
-        ensures ok { OnOk result (joined self.new ≡ replaced (joined self.old) edit.now.at edit.now.end edit.now.count edit.now.value) }
+    /// Makes an edit, with copies of the value: the touched segments are replaced, and all others stay.
+    fn replace(&mut self, edit: &Edit, value: i64) -> Result<(), Memory>
+        requires { Applies (length (joined self.old)) edit.now }
+        ensures ok { OnOk result (joined self.new ≡ replaced (joined self.old) edit.now.at edit.now.end edit.now.count value) }
         ensures err { OnErr result (self.new ≡ self.old) }
     {
-        let touched = self.widened_left(edit, self.covering(edit.at, edit.end));
-        let touched = self.widened_right(edit, touched);
-        let values = self.values_after(edit, &touched)?;
-        let fresh = cut(*self.ends.allocator(), &values)?;
+        let touched = self.touched(edit);
+        let values = self.values_after(edit, value, &touched)?;
+        let fresh = cut(*self.segments.allocator(), &values)?;
         self.put(touched.first, touched.after, fresh)
     }
 
@@ -367,33 +253,16 @@ impl Spine {
     fn put(&mut self, first: usize, after: usize, fresh: Vec<SharedSegment>) -> Result<(), Memory>
         requires order { first ≤ after }
         requires in_range { after ≤ length self.old }
-        requires cut { AreCuts (cuts_of (take first self.old ++ (fresh.items ++ drop after self.old))) }
-        requires few { length (joined (take first self.old ++ (fresh.items ++ drop after self.old))) ≤ 16777216 }
+        requires cut { AreCuts (take first (counts_of self.old) ++ (counts_of fresh.items ++ drop after (counts_of self.old))) }
+        requires few { sum (take first (counts_of self.old) ++ (counts_of fresh.items ++ drop after (counts_of self.old))) ≤ 16777216 }
         ensures ok { OnOk result (self.new ≡ take first self.old ++ (fresh.items ++ drop after self.old)) }
         ensures err { OnErr result (self.new ≡ self.old) }
     {
-        let ends = self.ends_with(first, after, &fresh)?;
+        let counts = counts(*self.segments.allocator(), &fresh)?;
+        let runs = self.runs.replaced(first, after, &counts)?;
         replace_range(&mut self.segments, first, after, fresh)?;
-        self.ends = ends;
+        self.runs = runs;
         Ok(())
-    }
-
-    /// Where the segments end, with others in place of those from `first` up to `after`.
-    fn ends_with(
-        &self,
-        first: usize,
-        after: usize,
-        fresh: &[SharedSegment],
-    ) -> Result<Vec<usize>, Memory>
-        requires order { first ≤ after }
-        requires in_range { after ≤ length self.now }
-        requires few { length (joined (take first self.now ++ (fresh.now ++ drop after self.now))) ≤ 16777216 }
-        ensures { IfOk result (λ ends. ends.items ≡ ends_from 0 (cuts_of (take first self.now ++ (fresh.now ++ drop after self.now)))) }
-    {
-        let mut ends = first_ends(*self.ends.allocator(), &self.ends, first)?;
-        let stop = push_ends(&mut ends, self.start(first), fresh)?;
-        push_moved(&mut ends, &self.ends, after, self.start(after), stop)?;
-        Ok(ends)
     }
 }
 
@@ -419,35 +288,23 @@ fn widest(segments: &[SharedSegment]) -> Width
     width
 }
 
-/// Whether so many values more fit into the last of the segments that `size` values are cut into.
-fn fits_behind(size: usize, more: usize) -> bool
-    requires { more ≤ 2048 }
-    ensures yes { OnTrue result ((size ≡ 0) ⊎ ((0 < size % 2048) × (size % 2048 + more ≤ 2048))) }
-    ensures no { OnFalse result ((0 < size) × ((size % 2048 ≡ 0) ⊎ (2048 < size % 2048 + more))) }
+/// How many values each segment has.
+fn counts(alloc: Global, segments: &[SharedSegment]) -> Result<Vec<usize>, Memory>
+    ensures counts { IfOk result (λ counts. counts.items ≡ counts_of segments.now) }
+    ensures few { IfOk result (λ counts. All (λ n. n ≤ 2048) counts.items) }
 {
-    let last = size % SEGMENT_MOST;
-    size == 0 || (last != 0 && last + more <= SEGMENT_MOST)
-}
-
-/// Adds the ends of the segments, the first of which begins at `from`, and gives the last end.
-fn push_ends(out: &mut Vec<usize>, from: usize, segments: &[SharedSegment]) -> Result<usize, Memory>
-    requires { from + length (joined segments.now) ≤ 16777216 }
-    ensures items { OnOk result (out.new.items ≡ out.old.items ++ ends_from from (cuts_of segments.now)) }
-    ensures last { IfOk result (λ last. last ≡ from + length (joined segments.now)) }
-{
-    let mut end = from;
+    let mut counts = Vec::with_capacity(alloc, segments.len())?;
     for shared in segments {
-        end += shared.segment().len();
-        out.push(end)?;
+        counts.push(shared.segment().len())?;
     }
-    Ok(end)
+    Ok(counts)
 }
 
 /// Cuts values into segments: full ones, and a last one of what is left.
 fn cut(alloc: Global, values: &[i64]) -> Result<Vec<SharedSegment>, Memory>
     requires { length values.now ≤ 16777216 }
     ensures values { IfOk result (λ segments. joined segments.items ≡ values.now) }
-    ensures cuts { IfOk result (λ segments. cuts_of segments.items ≡ full_cuts (length values.now)) }
+    ensures cuts { IfOk result (λ segments. counts_of segments.items ≡ full_cuts (length values.now)) }
 {
     let mut segments = Vec::new(alloc);
     let mut from = 0;

@@ -192,3 +192,7 @@ length-items_after {X} ss e t v a c =
     let far : length (take (t.stop - e.end) (drop e.end xs)) ≡ t.stop - e.end = length-take (t.stop - e.end) (drop e.end xs) ∙ (omega (arith, length-drop e.end xs)) in
     length-append (take (e.at - t.start) (drop t.start xs)) (replicate e.count v ++ take (t.stop - e.end) (drop e.end xs))
     ∙ (omega (arith, near, far, length-append (replicate e.count v) (take (t.stop - e.end) (drop e.end xs)), length-replicate e.count v))
+
+pub size_few_of : {X : Type 0} (ss : List (List X)) (e : Edit) (t : Touched) → Applies (length (joined ss)) e → Covers (counts_of ss) e t → size_after e t ≤ 16777216
+size_few_of ss e t a c =
+    omega (arith, a.few, a.within, c.stop, start_within (counts_of ss) t.after c.in_range, length-joined ss)

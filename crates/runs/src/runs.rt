@@ -62,6 +62,14 @@ impl<const MOST: usize> Runs<MOST> {
         Ok(Runs { ends })
     }
 
+    /// How many runs there are.
+    pub fn count(&self) -> usize
+        ensures count { result ≡ length self.now }
+        ensures few { sum self.now ≤ 16777216 }
+    {
+        self.ends.len()
+    }
+
     /// How many items there are.
     pub fn len(&self) -> usize
         ensures len { result ≡ sum self.now }

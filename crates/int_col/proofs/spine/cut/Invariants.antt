@@ -1,13 +1,13 @@
 use Rattle.std.proofs.Common.{◌≡◌, ◌-◌, ◌%◌, ◌<◌, ◌≤◌, length, take}
 use Rattle.int_col.specs.Cuts.{full_cuts}
-use Rattle.int_col.specs.Spine.{joined, cuts_of}
+use Rattle.runs.specs.Joined.{joined, counts_of}
 use Rattle.int_col.proofs.spine.cut.Given as goal
 
 abbrev pub invariant-loop-from : goal.invariant-loop-from
 invariant-loop-from l = record {
   in_range : l.from ≤ length l.values;
   values : joined l.segments.items ≡ take l.from l.values;
-  cuts : cuts_of l.segments.items ≡ full_cuts l.from;
+  cuts : counts_of l.segments.items ≡ full_cuts l.from;
   whole : l.from < length l.values → l.from % 2048 ≡ 0;
 }
 

@@ -1,8 +1,9 @@
 use Rattle.std.proofs.Common.{◌≡◌, ◌∙◌, ◌+◌, ◌-◌, ◌++◌, ℕ, List, ℤ, ap, arith, length, take, drop}
 use Rattle.std.proofs.lemmas.List.{length-take, length-take-le, length-drop, length-append, length-replicate, drop_all}
-use Rattle.int_col.specs.Edit.{size_after}
-use Rattle.int_col.specs.Spine.{joined}
-use Rattle.int_col.proofs.Places.{start_within}
+use Rattle.runs.specs.Edits.{size_after}
+use Rattle.runs.specs.Joined.{joined, counts_of}
+use Rattle.runs.proofs.Places.{start_within}
+use Rattle.runs.proofs.Joined.{length-joined}
 use Rattle.int_col.proofs.Edits.{arranged}
 use Rattle.int_col.proofs.spine.Spine.copy_around.Goals as goal
 
@@ -10,20 +11,20 @@ pub copy_values-requires-2 : goal.copy_values-requires-2
 copy_values-requires-2 c =
     let e = c.args.edit.now in
     let t = c.args.touched.now in
-    let size : length c.args.into.now ≡ size_after e t = ap length c.requires.copies ∙ length-replicate (size_after e t) e.value in
+    let size : length c.args.into.now ≡ size_after e t = ap length c.requires.copies ∙ length-replicate (size_after e t) c.args.value in
     let front : length (take (e.at - t.start) c.args.into.now) ≡ e.at - t.start = length-take-le (e.at - t.start) c.args.into.now (omega arith) in
     let copied : length c.copy_values.new.into ≡ e.at - t.start = c.copy_values.auto.into ∙ front in
     let all : length (c.copy_values.new.into ++ drop (e.at - t.start) c.args.into.now) ≡ size_after e t =
     length-append c.copy_values.new.into (drop (e.at - t.start) c.args.into.now) ∙ (omega (arith, length-drop (e.at - t.start) c.args.into.now)) in
-    let stop = start_within c.args.self.now t.after c.requires.covers.in_range in
-    omega (arith, c.requires.covers.stop, c.requires.covers.behind, length-take (length (c.copy_values.new.into ++ drop (e.at - t.start) c.args.into.now) - (e.at - t.start + e.count)) (drop (e.at - t.start + e.count) (c.copy_values.new.into ++ drop (e.at - t.start) c.args.into.now)))
+    let stop = start_within (counts_of c.args.self.now) t.after c.requires.covers.in_range in
+    omega (arith, length-joined c.args.self.now, c.requires.covers.stop, c.requires.covers.behind, length-take (length (c.copy_values.new.into ++ drop (e.at - t.start) c.args.into.now) - (e.at - t.start + e.count)) (drop (e.at - t.start + e.count) (c.copy_values.new.into ++ drop (e.at - t.start) c.args.into.now)))
 
 pub returns : goal.returns
 returns c =
     let e = c.args.edit.now in
     let t = c.args.touched.now in
     let k : ℕ = e.at - t.start + e.count in
-    let size : length c.args.into.now ≡ size_after e t = ap length c.requires.copies ∙ length-replicate (size_after e t) e.value in
+    let size : length c.args.into.now ≡ size_after e t = ap length c.requires.copies ∙ length-replicate (size_after e t) c.args.value in
     let front : length (take (e.at - t.start) c.args.into.now) ≡ e.at - t.start = length-take-le (e.at - t.start) c.args.into.now (omega arith) in
     let copied : length c.copy_values.new.into ≡ e.at - t.start = c.copy_values.auto.into ∙ front in
     let middle : List ℤ = c.copy_values.new.into ++ drop (e.at - t.start) c.args.into.now in
@@ -31,6 +32,6 @@ returns c =
     length-append c.copy_values.new.into (drop (e.at - t.start) c.args.into.now) ∙ (omega (arith, length-drop (e.at - t.start) c.args.into.now)) in
     let rest : length (drop k middle) ≡ t.stop - e.end = length-drop k middle ∙ (omega arith) in
     let part : length (take (length middle - k) (drop k middle)) ≡ t.stop - e.end = length-take-le (length middle - k) (drop k middle) (omega (arith, length-drop k middle)) ∙ (omega arith) in
-    arranged (joined c.args.self.now) e t c.args.into.now c.copy_values.new.into c.copy_values-2.new.into (drop (length middle - k) (drop k middle)) (length (take (length middle - k) (drop k middle)))
+    arranged (joined c.args.self.now) e t c.args.value c.args.into.now c.copy_values.new.into c.copy_values-2.new.into (drop (length middle - k) (drop k middle)) (length (take (length middle - k) (drop k middle)))
     c.requires.copies copied (c.copy_values.ensures ∙ ap (λ n. take n (drop t.start (joined c.args.self.now))) front) c.copy_values-2.ensures part
     (drop_all (length middle - k) (drop k middle) (omega (arith, length-drop k middle)))

@@ -1,13 +1,8 @@
 use Rattle.std.proofs.Common.{◌-◌, length, drop, arith, rules}
 use Rattle.std.proofs.lemmas.List.{places, length-take, length-drop}
-use Rattle.int_col.specs.Spine.{joined}
+use Rattle.runs.specs.Joined.{joined}
 use Rattle.int_col.proofs.Lists.{copied_more}
 use Rattle.int_col.proofs.spine.Spine.copy_values.Goals as goal
-
-pub overflow_add-from : goal.overflow_add-from
-overflow_add-from c =
-    let within = rw (← c.self.view_is) at c.requires in
-    omega (arith, c.self.invariant.few)
 
 pub loop-done-preserved : goal.loop-done-preserved
 loop-done-preserved c = (

@@ -1,30 +1,34 @@
-use Rattle.std.proofs.Common.{◌≡◌, ◌∙◌, ap, arith, length}
+use Rattle.std.proofs.Common.{◌≡◌, ◌∙◌, ap, arith, length, FitsSigned, w64, rules}
+use Rattle.std.proofs.lemmas.Int.{to_z-of_z}
 use Rattle.std.proofs.lemmas.Result.{on_ok_weaker}
+use Rattle.runs.specs.Edits.{size_after}
+use Rattle.runs.specs.Joined.{joined, counts_of}
+use Rattle.runs.proofs.Joined.{joined_after, few_after, length-items_after}
 use Rattle.int_col.specs.Cuts.{full_cuts}
-use Rattle.int_col.specs.Spine.{joined}
-use Rattle.int_col.specs.Edit.{size_after}
-use Rattle.int_col.proofs.Edits.{cuts_after, joined_after, length-replaced, length-values_after}
+use Rattle.int_col.proofs.Edits.{cuts_after}
 use Rattle.int_col.proofs.spine.Spine.replace.Goals as goal
 
 pub put-requires-clause-cut : goal.put-requires-clause-cut
 put-requires-clause-cut c =
-    let t = c.widened_right-touched.result in
-    let size : length c.deref.result.now ≡ size_after c.args.edit.now t =
-    ap length (c.deref.ensures.value ∙ c.in_ok-values.ensures) ∙ length-values_after c.args.self.now c.args.edit.now t c.requires c.widened_right-touched.ensures.covers in
-    cuts_after c.args.self.now c.in_ok-fresh.fresh.items t.first t.after (size_after c.args.edit.now t)
-    (rw c.self.view_is at c.self.invariant.cut) (omega (arith, c.widened_right-touched.ensures.covers.order, c.widened_right-touched.ensures.covers.in_range))
-    (c.in_ok-fresh.ensures.cuts ∙ ap full_cuts size) c.widened_right-touched.ensures.left c.widened_right-touched.ensures.right
+    let fits : FitsSigned w64 c.args.value = search rules in
+    let e = c.args.edit.now in
+    let t = c.touched-touched.result in
+    let size : length c.deref.result.now ≡ size_after e t =
+    ap length (c.deref.ensures.value ∙ rw (to_z-of_z w64 c.args.value fits) at c.in_ok-values.ensures) ∙ length-items_after c.args.self.now e t c.args.value c.requires c.touched-touched.ensures.covers in
+    cuts_after (counts_of c.args.self.now) (counts_of c.in_ok-fresh.fresh.items) t.first t.after (size_after e t)
+    (rw c.self.view_is at c.self.invariant.cut) (omega (arith, c.touched-touched.ensures.covers.order, c.touched-touched.ensures.covers.in_range))
+    (c.in_ok-fresh.ensures.cuts ∙ ap full_cuts size) c.touched-touched.ensures.before c.touched-touched.ensures.behind
 
 pub put-requires-clause-few : goal.put-requires-clause-few
 put-requires-clause-few c =
-    let t = c.widened_right-touched.result in
-    let made = c.in_ok-fresh.ensures.values ∙ c.deref.ensures.value ∙ c.in_ok-values.ensures in
-    omega (arith, ap length (joined_after c.args.self.now c.in_ok-fresh.fresh.items c.args.edit.now t c.widened_right-touched.ensures.covers made), length-replaced (joined c.args.self.now) c.args.edit.now c.requires, c.requires.few)
+    let fits : FitsSigned w64 c.args.value = search rules in
+    few_after c.args.self.now c.in_ok-fresh.fresh.items c.args.edit.now c.touched-touched.result c.args.value c.requires c.touched-touched.ensures.covers
+    (c.in_ok-fresh.ensures.values ∙ c.deref.ensures.value ∙ rw (to_z-of_z w64 c.args.value fits) at c.in_ok-values.ensures)
 
 pub returns-clause-ok : goal.returns-clause-ok
 returns-clause-ok c =
-    let t = c.widened_right-touched.result in
-    let made = c.in_ok-fresh.ensures.values ∙ c.deref.ensures.value ∙ c.in_ok-values.ensures in
+    let fits : FitsSigned w64 c.args.value = search rules in
     on_ok_weaker c.put.result
-    (λ put. ap joined put ∙ joined_after c.args.self.now c.in_ok-fresh.fresh.items c.args.edit.now t c.widened_right-touched.ensures.covers made)
+    (λ put. ap joined put ∙ joined_after c.args.self.now c.in_ok-fresh.fresh.items c.args.edit.now c.touched-touched.result c.args.value c.touched-touched.ensures.covers
+    (c.in_ok-fresh.ensures.values ∙ c.deref.ensures.value ∙ rw (to_z-of_z w64 c.args.value fits) at c.in_ok-values.ensures))
     c.put.ensures.ok
