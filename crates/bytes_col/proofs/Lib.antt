@@ -1,7 +1,6 @@
 pub mod Short
 pub mod Chunks
 pub mod Joined
-pub mod Places
 pub mod PartLaws
 pub mod Edits
 pub mod Columns

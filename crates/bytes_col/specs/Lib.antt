@@ -1,5 +1,4 @@
 pub mod Column
 pub mod Chunk
 pub mod Spine
-pub mod Edit
 pub mod Parts

@@ -12,8 +12,6 @@
 mod cell;
 mod chunk;
 mod column;
-mod edit;
-mod ends;
 mod fill;
 mod home;
 mod memo;

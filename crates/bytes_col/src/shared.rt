@@ -1,6 +1,7 @@
 //! What copies of a column share: each chunk, and the spine that lists them.
 ghost use Rattle.std.specs.Prelude.{◌≡◌, ℕ, pos, ◌+◌, ◌-◌, ◌<◌, ◌≤◌, [], ◌∷◌, ◌++◌, length, take, drop, map, replicate, slice_set, None, IfOk, OnOk, OnErr};
-ghost use Rattle.bytes_col.specs.Spine.{joined, HasSizes};
+ghost use Rattle.runs.specs.Joined.{joined};
+ghost use Rattle.bytes_col.specs.Spine.{HasSizes};
 
 use crate::chunk::Chunk;
 use crate::spine::Spine;

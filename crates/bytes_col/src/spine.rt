@@ -1,55 +1,47 @@
 //! The list of a column's chunks.
-ghost use Rattle.std.specs.Prelude.{◌≡◌, ℕ, pos, ◌+◌, ◌-◌, ◌%◌, ◌^◌, ◌<◌, ◌≤◌, ◌⊎◌, List, [], ◌∷◌, ◌++◌, length, slice_set, slice_index_or, take, drop, replicate, map, None, IfOk, OnOk, OnErr};
-ghost use Rattle.std.specs.Bool.{OnTrue, OnFalse};
-ghost use Rattle.int_col.specs.Cuts.{ends_from};
+ghost use Rattle.std.specs.Prelude.{◌≡◌, ℕ, pos, ◌+◌, ◌-◌, ◌<◌, ◌≤◌, List, [], ◌∷◌, ◌++◌, length, sum, slice_set, slice_index_or, take, drop, replicate, map, None, All, IfOk, OnOk, OnErr};
+ghost use Rattle.std.specs.Bool.{OnTrue};
+ghost use Rattle.runs.specs.Runs.{IsPlace};
+ghost use Rattle.runs.specs.Edits.{Applies, Covers, items_after, replaced};
+ghost use Rattle.runs.specs.Joined.{joined, counts_of};
 ghost use Rattle.bytes_col.specs.Column.{short_bytes, sizes_of};
-ghost use Rattle.bytes_col.specs.Spine.{joined, counts_of, start_of, AreFew, HasSizes, IsPlace, LastTakes};
-ghost use Rattle.bytes_col.specs.Edit.{Applies, Covers, size_after, values_after, replaced};
+ghost use Rattle.bytes_col.specs.Spine.{HasSizes, LastTakes};
 ghost use Rattle.bytes_col.specs.Parts.{added};
 
 use crate::chunk::{CHUNK_MOST, Chunk};
-use crate::edit::{Edit, Touched};
-use crate::ends::{first_end_above, first_ends, push_moved};
 use crate::parts::Parts;
 use crate::shared::SharedChunk;
 use int_col::IntCol;
 use mk_value::{Bytes, Memory};
+use runs::{Edit, Place, Runs, Touched};
 use std::alloc::{AllocError, Global};
 use std::marker::Model;
 
-/// The chunks in order, and where each ends.
+/// The chunks in order, and how they cut the list of values.
 #[derive(Drop)]
 pub(crate) struct Spine {
     chunks: Vec<SharedChunk>,
-    ends: Vec<usize>,
+    runs: Runs<CHUNK_MOST>,
 }
 
 impl Model for Spine {
-    ghost use Rattle.std.specs.Prelude.{List, ℕ};
-    ghost use Rattle.bytes_col.specs.Spine.{IsSpine};
+    ghost use Rattle.std.specs.Prelude.{◌≡◌, List, ℕ};
+    ghost use Rattle.runs.specs.Joined.{counts_of};
 
     ghost Value = { List (List (List ℕ)) };
 
     ghost view = { λ s. s.chunks.items };
 
-    ghost invariant = { λ s. IsSpine s.chunks.items s.ends.items };
-}
-
-/// A value's chunk, and its place there.
-#[derive(Clone, Copy)]
-pub(crate) struct Place {
-    chunk: usize,
-    offset: usize,
+    ghost invariant = { λ s. s.runs ≡ counts_of s.chunks.items };
 }
 
 impl Clone for Spine {
     ghost is_clone = { λ a b. b ≡ a };
 
     fn clone(&self) -> Result<Spine, AllocError> {
-        let ends = Vec::from_slice(*self.ends.allocator(), &self.ends)?;
         Ok(Spine {
             chunks: Vec::from_clones(*self.chunks.allocator(), &self.chunks)?,
-            ends,
+            runs: self.runs.clone()?,
         })
     }
 }
@@ -65,13 +57,15 @@ impl Spine {
             parts.append(value.as_slice())?;
         }
         let chunks = parts.finish()?;
-        let mut ends = Vec::new(alloc);
-        push_ends(&mut ends, 0, &chunks)?;
-        Ok(Spine { chunks, ends })
+        let counts = counts(alloc, &chunks)?;
+        Ok(Spine {
+            chunks,
+            runs: Runs::from_counts(alloc, &counts)?,
+        })
     }
 
     pub(crate) fn allocator(&self) -> Global {
-        *self.ends.allocator()
+        *self.chunks.allocator()
     }
 
     /// The chunks in order.
@@ -86,29 +80,16 @@ impl Spine {
         ensures len { result ≡ length (joined self.now) }
         ensures few { result ≤ 16777216 }
     {
-        self.start(self.chunks.len())
+        self.runs.len()
     }
 
-    /// Where chunk `k` begins.
-    fn start(&self, k: usize) -> usize
-        requires { k ≤ length self.now }
-        ensures start { result ≡ start_of self.now k }
-        ensures total { length (joined self.now) ≤ 16777216 }
-    {
-        if k == 0 { 0 } else { self.ends[k - 1] }
-    }
-
-    /// The chunk of a value, and its place there.
+    /// Where a value stands.
     fn find(&self, at: usize) -> Place
         requires { at < length (joined self.now) }
-        ensures place { IsPlace self.now at result.chunk result.offset }
-        ensures small { result.chunk + 1 < 2 ^ 64 }
+        ensures in_range { result.run < length self.now }
+        ensures place { IsPlace (counts_of self.now) at result }
     {
-        let chunk = first_end_above(&self.ends, at / CHUNK_MOST, at);
-        Place {
-            chunk,
-            offset: at - self.start(chunk),
-        }
+        self.runs.find(at)
     }
 
     /// The value at a place.
@@ -117,7 +98,7 @@ impl Spine {
         ensures { result.now ≡ slice_index_or (joined self.now) at [] }
     {
         let place = self.find(at);
-        let chunk = self.chunks[place.chunk].chunk();
+        let chunk = self.chunks[place.run].chunk();
         chunk.value(place.offset)
     }
 
@@ -131,7 +112,7 @@ impl Spine {
         ensures sizes_err { OnErr result (sizes.new ≡ sizes.old) }
     {
         let place = self.find(at);
-        let chunk = &mut self.chunks[place.chunk];
+        let chunk = &mut self.chunks[place.run];
         chunk.set(place.offset, value, sizes, at)
     }
 
@@ -158,7 +139,7 @@ impl Spine {
         let last = self.chunks.len() - 1;
         let chunk = &mut self.chunks[last];
         chunk.push(value, sizes)?;
-        self.ends[last] += 1;
+        self.runs.extend_last();
         Ok(())
     }
 
@@ -185,101 +166,10 @@ impl Spine {
         ensures values { IfOk result (λ next. added parts.new ≡ added parts.old ++ take (next - from) (drop from (joined self.now))) }
     {
         let place = self.find(from);
-        let chunk = self.chunks[place.chunk].chunk();
+        let chunk = self.chunks[place.run].chunk();
         let count = (chunk.len() - place.offset).min(to - from);
         parts.add(chunk, place.offset, place.offset + count)?;
         Ok(from + count)
-    }
-
-    /// The chunk that holds place `at`, or the count of chunks where none does.
-    fn first_touched(&self, at: usize) -> usize
-        requires { at ≤ length (joined self.now) }
-        ensures in_range { result ≤ length self.now }
-        ensures before { start_of self.now result ≤ at }
-    {
-        if at == self.len() {
-            self.chunks.len()
-        } else {
-            self.find(at).chunk
-        }
-    }
-
-    /// The chunk behind the last that holds a place from `start` up to `end`, where chunk `first` begins at `start`.
-    fn after_touched(&self, first: usize, start: usize, end: usize) -> usize
-        requires in_range { first ≤ length self.now }
-        requires start { start ≡ start_of self.now first }
-        requires order { start ≤ end }
-        requires within { end ≤ length (joined self.now) }
-        ensures in_range { result ≤ length self.now }
-        ensures order { first ≤ result }
-        ensures behind { end ≤ start_of self.now result }
-    {
-        if end == start {
-            first
-        } else {
-            self.find(end - 1).chunk + 1
-        }
-    }
-
-    /// The chunks that hold the values from `at` up to `end`, and the one that holds the place between where there are
-    /// no such values.
-    fn covering(&self, at: usize, end: usize) -> Touched
-        requires order { at ≤ end }
-        requires within { end ≤ length (joined self.now) }
-        ensures { Covers self.now at end result }
-    {
-        let first = self.first_touched(at);
-        let start = self.start(first);
-        let after = self.after_touched(first, start, end);
-        let stop = self.start(after);
-        Touched {
-            first,
-            after,
-            start,
-            stop,
-        }
-    }
-
-    /// With the chunk before, where the values would fit into it.
-    fn widened_left(&self, edit: &Edit, touched: Touched) -> Touched
-        requires applies { Applies (joined self.now) edit.now }
-        requires covers { Covers self.now edit.now.at edit.now.end touched }
-        ensures { Covers self.now edit.now.at edit.now.end result }
-    {
-        if touched.first == 0 {
-            return touched;
-        }
-        let first = touched.first - 1;
-        let start = self.start(first);
-        if touched.start - start + edit.size_after(&touched) > CHUNK_MOST {
-            return touched;
-        }
-        Touched {
-            first,
-            start,
-            ..touched
-        }
-    }
-
-    /// With the chunk behind, where its values would fit into the last chunk of those in place of the touched.
-    fn widened_right(&self, edit: &Edit, touched: Touched) -> Touched
-        requires applies { Applies (joined self.now) edit.now }
-        requires covers { Covers self.now edit.now.at edit.now.end touched }
-        ensures { Covers self.now edit.now.at edit.now.end result }
-    {
-        if touched.after == self.chunks.len() {
-            return touched;
-        }
-        let after = touched.after + 1;
-        let stop = self.start(after);
-        if !fits_behind(edit.size_after(&touched), stop - touched.stop) {
-            return touched;
-        }
-        Touched {
-            after,
-            stop,
-            ..touched
-        }
     }
 
     /// Inserts copies of a value before a place, or at the end, and their sizes.
@@ -334,23 +224,30 @@ impl Spine {
 
     /// Makes an edit, with copies of the value: the touched chunks are replaced, and all others stay.
     fn replace(&mut self, edit: &Edit, value: &[u8]) -> Result<(), Memory>
-        requires { Applies (joined self.old) edit.now }
+        requires { Applies (length (joined self.old)) edit.now }
         ensures ok { OnOk result (joined self.new ≡ replaced (joined self.old) edit.now.at edit.now.end edit.now.count value.now) }
         ensures err { OnErr result (self.new ≡ self.old) }
     {
-        let touched = self.widened_left(edit, self.covering(edit.at, edit.end));
-        let touched = self.widened_right(edit, touched);
+        let touched = self.touched(edit);
         let parts = self.parts_after(edit, &touched, value)?;
         self.put(touched.first, touched.after, parts.finish()?)
     }
 
+    /// The chunks that an edit replaces.
+    fn touched(&self, edit: &Edit) -> Touched
+        requires { Applies (length (joined self.now)) edit.now }
+        ensures { Covers (counts_of self.now) edit.now result }
+    {
+        self.runs.touched(edit)
+    }
+
     /// The values that stand in place of those of the touched chunks.
     fn parts_after(&self, edit: &Edit, touched: &Touched, value: &[u8]) -> Result<Parts, Memory>
-        requires applies { Applies (joined self.now) edit.now }
-        requires covers { Covers self.now edit.now.at edit.now.end touched.now }
-        ensures { IfOk result (λ parts. added parts ≡ values_after (joined self.now) edit.now touched.now value.now) }
+        requires applies { Applies (length (joined self.now)) edit.now }
+        requires covers { Covers (counts_of self.now) edit.now touched.now }
+        ensures { IfOk result (λ parts. added parts ≡ items_after (joined self.now) edit.now touched.now value.now) }
     {
-        let alloc = *self.ends.allocator();
+        let alloc = self.allocator();
         let mut one = Chunk::new(alloc);
         one.append(value)?;
         let mut parts = Parts::new(alloc);
@@ -364,59 +261,28 @@ impl Spine {
     fn put(&mut self, first: usize, after: usize, fresh: Vec<SharedChunk>) -> Result<(), Memory>
         requires order { first ≤ after }
         requires in_range { after ≤ length self.old }
-        requires few { length (joined (take first self.old ++ (fresh.items ++ drop after self.old))) ≤ 16777216 }
+        requires few { sum (take first (counts_of self.old) ++ (counts_of fresh.items ++ drop after (counts_of self.old))) ≤ 16777216 }
         ensures ok { OnOk result (self.new ≡ take first self.old ++ (fresh.items ++ drop after self.old)) }
         ensures err { OnErr result (self.new ≡ self.old) }
     {
-        let ends = self.ends_with(first, after, &fresh)?;
+        let counts = counts(self.allocator(), &fresh)?;
+        let runs = self.runs.replaced(first, after, &counts)?;
         replace_range(&mut self.chunks, first, after, fresh)?;
-        self.ends = ends;
+        self.runs = runs;
         Ok(())
     }
-
-    /// Where the chunks end, with others in place of those from `first` up to `after`.
-    fn ends_with(
-        &self,
-        first: usize,
-        after: usize,
-        fresh: &[SharedChunk],
-    ) -> Result<Vec<usize>, Memory>
-        requires order { first ≤ after }
-        requires in_range { after ≤ length self.now }
-        requires few { length (joined (take first self.now ++ (fresh.now ++ drop after self.now))) ≤ 16777216 }
-        ensures ends { IfOk result (λ ends. ends.items ≡ ends_from 0 (counts_of (take first self.now ++ (fresh.now ++ drop after self.now)))) }
-        ensures few { IfOk result (λ _. AreFew (take first self.now ++ (fresh.now ++ drop after self.now))) }
-    {
-        let mut ends = first_ends(*self.ends.allocator(), &self.ends, first)?;
-        let stop = push_ends(&mut ends, self.start(first), fresh)?;
-        push_moved(&mut ends, &self.ends, after, self.start(after), stop)?;
-        Ok(ends)
-    }
 }
 
-/// Whether so many values more fit into the last of the chunks that `size` values are cut into.
-fn fits_behind(size: usize, more: usize) -> bool
-    requires { more ≤ 16777216 }
-    ensures yes { OnTrue result ((size ≡ 0) ⊎ ((0 < size % 512) × (size % 512 + more ≤ 512))) }
-    ensures no { OnFalse result ((0 < size) × ((size % 512 ≡ 0) ⊎ (512 < size % 512 + more))) }
+/// How many values each chunk has.
+fn counts(alloc: Global, chunks: &[SharedChunk]) -> Result<Vec<usize>, Memory>
+    ensures counts { IfOk result (λ counts. counts.items ≡ counts_of chunks.now) }
+    ensures few { IfOk result (λ counts. All (λ n. n ≤ 512) counts.items) }
 {
-    let last = size % CHUNK_MOST;
-    size == 0 || (last != 0 && last + more <= CHUNK_MOST)
-}
-
-/// Adds the ends of the chunks, the first of which begins at `from`, and gives the last end.
-fn push_ends(out: &mut Vec<usize>, from: usize, chunks: &[SharedChunk]) -> Result<usize, Memory>
-    requires { from + length (joined chunks.now) ≤ 16777216 }
-    ensures items { OnOk result (out.new.items ≡ out.old.items ++ ends_from from (counts_of chunks.now)) }
-    ensures few { IfOk result (λ _. AreFew chunks.now) }
-    ensures last { IfOk result (λ last. last ≡ from + length (joined chunks.now)) }
-{
-    let mut end = from;
+    let mut counts = Vec::with_capacity(alloc, chunks.len())?;
     for shared in chunks {
-        end += shared.chunk().len();
-        out.push(end)?;
+        counts.push(shared.chunk().len())?;
     }
-    Ok(end)
+    Ok(counts)
 }
 
 /// Puts chunks in place of those from `first` up to `after`.

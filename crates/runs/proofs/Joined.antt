@@ -30,6 +30,10 @@ length-joined-take k ss = length-joined (take k ss) ∙ ap sum (sym (take-map le
 joined-parts : {X : Type 0} (k : ℕ) (ss : List (List X)) → joined (take k ss) ++ joined (drop k ss) ≡ joined ss
 joined-parts k ss = sym (joined-append (take k ss) (drop k ss)) ∙ ap joined (take-append-drop k ss)
 
+pub part_within : {X : Type 0} (k : ℕ) (ss : List (List X)) → length (joined (take k ss)) ≤ length (joined ss)
+part_within k ss =
+    omega (arith, ap length (joined-parts k ss), length-append (joined (take k ss)) (joined (drop k ss)))
+
 pub take-joined : {X : Type 0} (k : ℕ) (ss : List (List X)) → take (start_of (counts_of ss) k) (joined ss) ≡ joined (take k ss)
 take-joined k ss =
     ap (take (start_of (counts_of ss) k)) (sym (joined-parts k ss)) ∙ take_at (joined (take k ss)) (joined (drop k ss)) _ (length-joined-take k ss)
@@ -184,15 +188,17 @@ pub few_after : {X : Type 0} (ss fresh : List (List X)) (e : Edit) (t : Touched)
 few_after ss fresh e t v a c made =
     omega (arith, ap sum (counts-replaced ss fresh t.first t.after), length-joined (take t.first ss ++ (fresh ++ drop t.after ss)), ap length (joined_after ss fresh e t v c made), length-replaced (joined ss) e v a, a.few)
 
+pub stop_within : {X : Type 0} (ss : List (List X)) (e : Edit) (t : Touched) → Covers (counts_of ss) e t → t.stop ≤ length (joined ss)
+stop_within ss e t c = omega (arith, start_within (counts_of ss) t.after c.in_range, length-joined ss, c.stop)
+
 pub length-items_after : {X : Type 0} (ss : List (List X)) (e : Edit) (t : Touched) (v : X) → Applies (length (joined ss)) e → Covers (counts_of ss) e t → length (items_after (joined ss) e t v) ≡ size_after e t
 length-items_after {X} ss e t v a c =
     let xs : List X = joined ss in
-    let stop : t.stop ≤ length xs = omega (arith, start_within (counts_of ss) t.after c.in_range, length-joined ss, c.stop) in
+    let stop : t.stop ≤ length xs = stop_within ss e t c in
     let near : length (take (e.at - t.start) (drop t.start xs)) ≡ e.at - t.start = length-take (e.at - t.start) (drop t.start xs) ∙ (omega (arith, length-drop t.start xs, a.order, a.within)) in
     let far : length (take (t.stop - e.end) (drop e.end xs)) ≡ t.stop - e.end = length-take (t.stop - e.end) (drop e.end xs) ∙ (omega (arith, length-drop e.end xs)) in
     length-append (take (e.at - t.start) (drop t.start xs)) (replicate e.count v ++ take (t.stop - e.end) (drop e.end xs))
     ∙ (omega (arith, near, far, length-append (replicate e.count v) (take (t.stop - e.end) (drop e.end xs)), length-replicate e.count v))
 
 pub size_few_of : {X : Type 0} (ss : List (List X)) (e : Edit) (t : Touched) → Applies (length (joined ss)) e → Covers (counts_of ss) e t → size_after e t ≤ 16777216
-size_few_of ss e t a c =
-    omega (arith, a.few, a.within, c.stop, start_within (counts_of ss) t.after c.in_range, length-joined ss)
+size_few_of ss e t a c = omega (arith, a.few, a.within, stop_within ss e t c)

@@ -1,27 +1,29 @@
+use Rattle.std.proofs.Common.{sym, ◌∙◌}
 use Rattle.std.proofs.lemmas.Result.{on_ok_weaker}
-use Rattle.bytes_col.proofs.Places.{IsSpine-set, set_place}
-use Rattle.bytes_col.specs.Spine.{joined}
+use Rattle.runs.specs.Joined.{joined}
+use Rattle.runs.proofs.Joined.{same_counts, set_place}
 use Rattle.bytes_col.proofs.Chunks.{both_ok}
 use Rattle.bytes_col.proofs.Sizes.{sizes_set}
 use Rattle.bytes_col.proofs.spine.Spine.set.Goals as goal
 
 pub invariant_of-self : goal.invariant_of-self
 invariant_of-self c =
-    IsSpine-set c.self.inside.chunks.items c.self.inside.ends.items c.find-place.result.chunk c.index_mut-chunk.result.now c.set.new.self
-    c.self.invariant (rw (← c.self.view_is) at c.find-place.ensures.place).chunk c.index_mut-chunk.ensures.value c.set.ensures.len
+    c.self.invariant
+    ∙ sym (same_counts c.self.inside.chunks.items c.args.at c.find-place.result c.index_mut-chunk.result.now
+    (rw (← c.self.view_is) at c.find-place.ensures.place) c.index_mut-chunk.ensures.value c.set.new.self c.set.ensures.len)
 
 pub returns-clause-ok : goal.returns-clause-ok
 returns-clause-ok c =
     rw (← c.self.view_is)
     (on_ok_weaker c.set.result
-    (λ put. set_place c.self.inside.chunks.items c.args.at c.find-place.result.chunk c.find-place.result.offset c.index_mut-chunk.result.now c.set.new.self c.args.value.now
-    (rw (← c.self.view_is) at c.find-place.ensures.place) c.index_mut-chunk.ensures.value put)
+    (set_place c.self.inside.chunks.items c.args.at c.find-place.result c.index_mut-chunk.result.now
+    (rw (← c.self.view_is) at c.find-place.ensures.place) c.index_mut-chunk.ensures.value c.set.new.self c.args.value.now)
     c.set.ensures.ok)
 
 pub returns-clause-sizes : goal.returns-clause-sizes
 returns-clause-sizes c =
     (both_ok c.set.result
     (λ put sized. sizes_set (joined c.self.inside.chunks.items) _ c.args.sizes.now c.set.new.sizes c.args.at c.args.value.now (rw (← c.self.view_is) at c.requires.sizes)
-    (set_place c.self.inside.chunks.items c.args.at c.find-place.result.chunk c.find-place.result.offset c.index_mut-chunk.result.now c.set.new.self c.args.value.now
-    (rw (← c.self.view_is) at c.find-place.ensures.place) c.index_mut-chunk.ensures.value put) sized)
+    (set_place c.self.inside.chunks.items c.args.at c.find-place.result c.index_mut-chunk.result.now
+    (rw (← c.self.view_is) at c.find-place.ensures.place) c.index_mut-chunk.ensures.value c.set.new.self c.args.value.now put) sized)
     c.set.ensures.ok c.set.ensures.sizes)

@@ -1,9 +1,9 @@
 use Rattle.std.proofs.Common.{◌≡◌, ◌<◌, ◌≤◌, ℕ, List, length, get_or, take, ap, arith}
 use Rattle.std.proofs.lemmas.List.{length-append}
 use Rattle.bytes_col.specs.Column.{short_bytes}
-use Rattle.bytes_col.specs.Spine.{joined}
+use Rattle.runs.specs.Joined.{joined}
 use Rattle.bytes_col.proofs.Short.{short_few}
-use Rattle.bytes_col.proofs.Places.{start_within}
+use Rattle.runs.proofs.Joined.{part_within}
 use Rattle.bytes_col.proofs.Fills.{short_chunk_more}
 use Rattle.bytes_col.proofs.spine.Spine.short_len.Goals as goal
 
@@ -12,7 +12,7 @@ overflow_add-total c =
     let ss : List (List (List ℕ)) = c.args.self.now in
     let k = c.loop-shared.shared-index in
     let l : k < length ss = rw c.chunks-chunks.ensures at c.loop-shared-test.true in
-    omega (arith, c.loop-shared.invariant, c.short_len-total.ensures.few, c.len-few.ensures.len, c.len-few.ensures.few, short_few (joined (take k ss)), start_within ss k (omega arith))
+    omega (arith, c.loop-shared.invariant, c.short_len-total.ensures.few, c.len-few.ensures.len, c.len-few.ensures.few, short_few (joined (take k ss)), part_within k ss)
 
 pub loop-shared-preserved : goal.loop-shared-preserved
 loop-shared-preserved c =

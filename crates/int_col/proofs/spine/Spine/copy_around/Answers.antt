@@ -1,9 +1,8 @@
 use Rattle.std.proofs.Common.{◌≡◌, ◌∙◌, ◌+◌, ◌-◌, ◌++◌, ℕ, List, ℤ, ap, arith, length, take, drop}
 use Rattle.std.proofs.lemmas.List.{length-take, length-take-le, length-drop, length-append, length-replicate, drop_all}
 use Rattle.runs.specs.Edits.{size_after}
-use Rattle.runs.specs.Joined.{joined, counts_of}
-use Rattle.runs.proofs.Places.{start_within}
-use Rattle.runs.proofs.Joined.{length-joined}
+use Rattle.runs.specs.Joined.{joined}
+use Rattle.runs.proofs.Joined.{stop_within}
 use Rattle.int_col.proofs.Edits.{arranged}
 use Rattle.int_col.proofs.spine.Spine.copy_around.Goals as goal
 
@@ -16,8 +15,8 @@ copy_values-requires-2 c =
     let copied : length c.copy_values.new.into ≡ e.at - t.start = c.copy_values.auto.into ∙ front in
     let all : length (c.copy_values.new.into ++ drop (e.at - t.start) c.args.into.now) ≡ size_after e t =
     length-append c.copy_values.new.into (drop (e.at - t.start) c.args.into.now) ∙ (omega (arith, length-drop (e.at - t.start) c.args.into.now)) in
-    let stop = start_within (counts_of c.args.self.now) t.after c.requires.covers.in_range in
-    omega (arith, length-joined c.args.self.now, c.requires.covers.stop, c.requires.covers.behind, length-take (length (c.copy_values.new.into ++ drop (e.at - t.start) c.args.into.now) - (e.at - t.start + e.count)) (drop (e.at - t.start + e.count) (c.copy_values.new.into ++ drop (e.at - t.start) c.args.into.now)))
+    let stop = stop_within c.args.self.now e t c.requires.covers in
+    omega (arith, c.requires.covers.behind, length-take (length (c.copy_values.new.into ++ drop (e.at - t.start) c.args.into.now) - (e.at - t.start + e.count)) (drop (e.at - t.start + e.count) (c.copy_values.new.into ++ drop (e.at - t.start) c.args.into.now)))
 
 pub returns : goal.returns
 returns c =
