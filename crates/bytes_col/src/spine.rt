@@ -13,7 +13,7 @@ use crate::parts::Parts;
 use crate::shared::SharedChunk;
 use int_col::IntCol;
 use mk_value::{Bytes, Memory};
-use runs::{Edit, Place, Runs, Touched};
+use runs::{Edit, Place, Runs, Touched, replace_parts};
 use std::alloc::{AllocError, Global};
 use std::marker::Model;
 
@@ -267,7 +267,7 @@ impl Spine {
     {
         let counts = counts(self.allocator(), &fresh)?;
         let runs = self.runs.replaced(first, after, &counts)?;
-        replace_range(&mut self.chunks, first, after, fresh)?;
+        replace_parts(&mut self.chunks, first, after, fresh)?;
         self.runs = runs;
         Ok(())
     }
@@ -283,20 +283,4 @@ fn counts(alloc: Global, chunks: &[SharedChunk]) -> Result<Vec<usize>, Memory>
         counts.push(shared.chunk().len())?;
     }
     Ok(counts)
-}
-
-/// Puts chunks in place of those from `first` up to `after`.
-fn replace_range(
-    chunks: &mut Vec<SharedChunk>,
-    first: usize,
-    after: usize,
-    fresh: Vec<SharedChunk>,
-) -> Result<(), Memory>
-    requires order { first ≤ after }
-    requires in_range { after ≤ length chunks.old.items }
-    ensures ok { OnOk result (chunks.new.items ≡ take first chunks.old.items ++ (fresh.items ++ drop after chunks.old.items)) }
-    ensures err { OnErr result (chunks.new.items ≡ chunks.old.items) }
-{
-    chunks.splice(first..after, fresh)?;
-    Ok(())
 }

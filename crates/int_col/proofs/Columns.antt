@@ -7,10 +7,11 @@ use Rattle.bit_pack.specs.Width.{bit_count, IsLeastWidth}
 use Rattle.bit_pack.proofs.LeastWidth.{least-append}
 use Rattle.runs.specs.declared.edit.Edit.{Edit}
 use Rattle.runs.specs.declared.edit.Touched.{Touched}
-use Rattle.runs.specs.Edits.{Applies, Covers, TakesNeighbors, AreApartBefore, AreApartBehind, size_after}
+use Rattle.runs.specs.Edits.{Covers, TakesNeighbors, AreApartBefore, AreApartBehind, size_after}
 use Rattle.runs.specs.Joined.{joined, counts_of}
 use Rattle.runs.proofs.Lists.{drop-cons-at, last_parts, set_last}
 use Rattle.runs.proofs.Joined.{joined-append, length-joined, length-counts, drop-joined, get_or-counts, count_is, counts-pushed, counts-replaced}
+use Rattle.runs.proofs.Counted.{runs_replaced, runs_pushed}
 use Rattle.int_col.specs.Cuts.{AreCuts}
 use Rattle.int_col.specs.Column.{IsColumn, segment_values}
 use Rattle.int_col.specs.Spine.{column_of, IsSpine, LastTakes}
@@ -44,16 +45,7 @@ least-more ss k s w u t l here before own wider =
     ∙ ap (λ x. joined (take k ss) ++ x) (append-nil (get_or ss k s) ∙ sym here) in
     subst P (sym is) (least-append w u t (joined (take k ss)) s before own wider)
 
--- a spine's runs are as long as the values are together
-pub len_is : (ss : List (List ℤ)) (counts : List ℕ) → IsSpine ss counts → sum counts ≡ length (joined ss)
-len_is ss counts h = ap sum h.counted ∙ sym (length-joined ss)
-
--- an edit of the values is one of the runs
-pub applies_to_runs : (ss : List (List ℤ)) (counts : List ℕ) (e : Edit) → IsSpine ss counts → Applies (length (joined ss)) e → Applies (sum counts) e
-applies_to_runs ss counts e h a =
-    let P : ℕ → Type 0 = λ n. Applies n e in
-    subst P (sym (len_is ss counts h)) a
-
+-- what an edit of a spine touches
 pub touched_parts : (ss : List (List ℤ)) (counts : List ℕ) (e : Edit) (t : Touched) → IsSpine ss counts → Covers counts e t → TakesNeighbors 2048 counts e t → Covers (counts_of ss) e t × AreApartBefore 2048 (counts_of ss) t.first (size_after e t) × AreApartBehind 2048 (size_after e t) (drop t.after (counts_of ss))
 touched_parts ss counts e t h c taken =
     let P : List ℕ → Type 0 = λ cs. Covers cs e t in
@@ -64,18 +56,16 @@ touched_parts ss counts e t h c taken =
 
 -- segments in place of those from a up to b
 pub IsSpine-replaced : (ss fresh : List (List ℤ)) (counts made new : List ℕ) (a b : ℕ) → IsSpine ss counts → made ≡ counts_of fresh → AreCuts (take a (counts_of ss) ++ (counts_of fresh ++ drop b (counts_of ss))) → new ≡ take a counts ++ (made ++ drop b counts) → IsSpine (take a ss ++ (fresh ++ drop b ss)) new
-IsSpine-replaced ss fresh counts made new a b h are cut is =
-    let same = counts-replaced ss fresh a b in
-    record {
-      cut = subst AreCuts (sym same) cut;
-      counted = is ∙ ap (λ cs. take a cs ++ (made ++ drop b cs)) h.counted ∙ ap (λ ns. take a (counts_of ss) ++ (ns ++ drop b (counts_of ss))) are ∙ sym same;
-    }
+IsSpine-replaced ss fresh counts made new a b h are cut is = record {
+  cut = subst AreCuts (sym (counts-replaced ss fresh a b)) cut;
+  counted = runs_replaced ss counts h.counted fresh made new a b are is;
+}
 
+-- a value more in the last segment
 pub IsSpine-pushed : (ss : List (List ℤ)) (counts new : List ℕ) (s : List ℤ) (v : ℤ) (last : ℕ) → IsSpine ss counts → suc last ≡ length ss → s ≡ get_or ss last s → length s < 2048 → new ≡ set counts (length counts - 1) (get_or counts (length counts - 1) 0 + 1) → IsSpine (set ss last (s ++ v ∷ [])) new
 IsSpine-pushed ss counts new s v last h len here room is =
     let n : ℕ = length s in
     let cs : List ℕ = counts_of ss in
-    let there : length counts - 1 ≡ last = omega (arith, ap length h.counted, length-counts ss) in
     let whole : suc last ≡ length cs = omega (arith, length-counts ss) in
     let count : n ≡ get_or cs last 0 = sym (count_is ss last s (omega arith) here) in
     let read : n ≡ get_or cs last n = count ∙ sym (get_or_default cs last n 0 (omega arith)) in
@@ -84,7 +74,7 @@ IsSpine-pushed ss counts new s v last h len here room is =
     counts-pushed ss s v last len here ∙ ap (λ m. set cs last (m + 1)) (sym count) ∙ set_last cs n (n + 1) last whole read in
     record {
       cut = subst AreCuts (sym longer) (AreCuts-last-more (take last cs) n (subst AreCuts old h.cut) room);
-      counted = is ∙ ap (λ k. set counts k (get_or counts k 0 + 1)) there ∙ ap (λ cs. set cs last (get_or cs last 0 + 1)) h.counted ∙ sym (counts-pushed ss s v last len here);
+      counted = runs_pushed ss counts h.counted s last len here new v is;
     }
 
 -- the last segment has room where it takes one more value
@@ -94,10 +84,3 @@ last_room ss s v last takes len here =
     let segment : length s ≡ length (get_or ss (length ss - 1) []) =
     ap length (here ∙ get_or_default ss last s [] (omega arith)) ∙ ap (λ k. length (get_or ss k [])) (sym before) in
     omega (arith, takes.takes.room)
-
--- and so has the last run
-pub run_room : (ss : List (List ℤ)) (counts : List ℕ) (s : List ℤ) (v : ℤ) (last : ℕ) → IsSpine ss counts → LastTakes ss v → suc last ≡ length ss → s ≡ get_or ss last s → get_or counts (length counts - 1) 0 < 2048
-run_room ss counts s v last h takes len here =
-    let there : length counts - 1 ≡ last = omega (arith, ap length h.counted, length-counts ss) in
-    let count : get_or counts (length counts - 1) 0 ≡ length s = ap (λ k. get_or counts k 0) there ∙ ap (λ cs. get_or cs last 0) h.counted ∙ count_is ss last s (omega arith) here in
-    omega (arith, last_room ss s v last takes len here)

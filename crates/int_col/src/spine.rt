@@ -14,7 +14,7 @@ use crate::segment::SEGMENT_MOST;
 use crate::shared::SharedSegment;
 use bit_pack::Width;
 use mk_value::Memory;
-use runs::{Edit, Place, Runs, Touched};
+use runs::{Edit, Place, Runs, Touched, replace_parts};
 use std::alloc::{AllocError, Global};
 use std::marker::Model;
 
@@ -260,7 +260,7 @@ impl Spine {
     {
         let counts = counts(*self.segments.allocator(), &fresh)?;
         let runs = self.runs.replaced(first, after, &counts)?;
-        replace_range(&mut self.segments, first, after, fresh)?;
+        replace_parts(&mut self.segments, first, after, fresh)?;
         self.runs = runs;
         Ok(())
     }
@@ -314,20 +314,4 @@ fn cut(alloc: Global, values: &[i64]) -> Result<Vec<SharedSegment>, Memory>
         from = to;
     }
     Ok(segments)
-}
-
-/// Puts segments in place of those from `first` up to `after`.
-fn replace_range(
-    segments: &mut Vec<SharedSegment>,
-    first: usize,
-    after: usize,
-    fresh: Vec<SharedSegment>,
-) -> Result<(), Memory>
-    requires order { first ≤ after }
-    requires in_range { after ≤ length segments.old.items }
-    ensures ok { OnOk result (segments.new.items ≡ take first segments.old.items ++ (fresh.items ++ drop after segments.old.items)) }
-    ensures err { OnErr result (segments.new.items ≡ segments.old.items) }
-{
-    segments.splice(first..after, fresh)?;
-    Ok(())
 }

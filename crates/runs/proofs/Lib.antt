@@ -3,3 +3,4 @@ pub mod Counts
 pub mod Places
 pub mod Edits
 pub mod Joined
+pub mod Counted

@@ -10,7 +10,9 @@
 
 mod edit;
 mod ends;
+mod parts;
 mod runs;
 
 pub use edit::{Edit, Touched};
+pub use parts::replace_parts;
 pub use runs::{Place, Runs};

@@ -1,8 +1,9 @@
 use Rattle.std.proofs.Common.{◌≡◌, ◌+◌, ◌-◌, ◌<◌, suc, ap, arith, rules, length}
 use Rattle.std.specs.Vec.{vec_len}
 use Rattle.runs.specs.Joined.{joined}
-use Rattle.runs.proofs.Joined.{joined-pushed, length-counts}
-use Rattle.bytes_col.proofs.Columns.{counted_pushed, len_is, run_room}
+use Rattle.runs.proofs.Joined.{joined-pushed}
+use Rattle.runs.proofs.Counted.{runs_len, runs_count, last_count, runs_pushed}
+use Rattle.bytes_col.proofs.Columns.{last_room}
 use Rattle.bytes_col.proofs.Sizes.{sizes_pushed}
 use Rattle.bytes_col.proofs.spine.Spine.push.Goals as goal
 
@@ -12,14 +13,13 @@ extend_last-requires c =
     let few = rw (← c.self.view_is) at c.requires.few in
     let chunks : vec_len c.self.inside.chunks ≡ length c.self.inside.chunks.items = search rules in
     let last = c.len-last.result - 1 in
-    let len : suc last ≡ length c.self.inside.chunks.items = omega (arith, c.len-last.ensures, takes.some) in (
+    let len : suc last ≡ length c.self.inside.chunks.items = omega (arith, c.len-last.ensures, takes.some) in
+    let room = last_room c.self.inside.chunks.items c.index_mut-chunk.result.now last takes len c.index_mut-chunk.ensures.value in
+    let count = last_count c.self.inside.chunks.items c.self.inside.runs c.self.invariant c.index_mut-chunk.result.now last len c.index_mut-chunk.ensures.value in (
       omega arith,
       (
-        omega (arith, takes.some, ap length c.self.invariant, length-counts c.self.inside.chunks.items),
-        (
-          run_room c.self.inside.chunks.items c.self.inside.runs c.index_mut-chunk.result.now last c.self.invariant takes len c.index_mut-chunk.ensures.value,
-          omega (arith, len_is c.self.inside.chunks.items c.self.inside.runs c.self.invariant),
-        ),
+        omega (arith, takes.some, runs_count c.self.inside.chunks.items c.self.inside.runs c.self.invariant),
+        (omega (arith, room, count), omega (arith, runs_len c.self.inside.chunks.items c.self.inside.runs c.self.invariant)),
       ),
     )
 
@@ -30,8 +30,8 @@ invariant_of-self-2 c =
     let last = c.len-last.result - 1 in
     let len : suc last ≡ length c.self.inside.chunks.items = omega (arith, c.len-last.ensures, takes.some) in
     rw c.in_ok-push.ensures.ok
-    (counted_pushed c.self.inside.chunks.items c.self.inside.runs c.extend_last.new.self c.index_mut-chunk.result.now c.args.value.now last
-    c.self.invariant len c.index_mut-chunk.ensures.value c.extend_last.ensures)
+    (runs_pushed c.self.inside.chunks.items c.self.inside.runs c.self.invariant c.index_mut-chunk.result.now last len c.index_mut-chunk.ensures.value
+    c.extend_last.new.self c.args.value.now c.extend_last.ensures)
 
 pub returns-clause-ok : goal.returns-clause-ok
 returns-clause-ok c =

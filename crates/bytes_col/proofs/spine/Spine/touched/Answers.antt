@@ -1,10 +1,10 @@
 use Rattle.std.proofs.Common.{List, ℕ, subst, arith}
 use Rattle.runs.specs.Edits.{Covers}
-use Rattle.bytes_col.proofs.Columns.{applies_to_runs}
+use Rattle.runs.proofs.Counted.{applies_to_runs}
 use Rattle.bytes_col.proofs.spine.Spine.touched.Goals as goal
 
 pub touched-requires : goal.touched-requires
-touched-requires c = (omega arith, applies_to_runs c.self.inside.chunks.items c.self.inside.runs c.args.edit.now c.self.invariant (rw (← c.self.view_is) at c.requires))
+touched-requires c = (omega arith, applies_to_runs c.self.inside.chunks.items c.self.inside.runs c.self.invariant c.args.edit.now (rw (← c.self.view_is) at c.requires))
 
 pub returns : goal.returns
 returns c =

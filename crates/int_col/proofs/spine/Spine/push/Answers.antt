@@ -1,8 +1,9 @@
 use Rattle.std.proofs.Common.{◌≡◌, ◌+◌, ◌-◌, ◌<◌, suc, ap, arith, rules, length, FitsSigned, w64}
 use Rattle.std.proofs.lemmas.Int.{to_z-of_z}
 use Rattle.std.specs.Vec.{vec_len}
-use Rattle.runs.proofs.Joined.{joined-pushed, length-counts}
-use Rattle.int_col.proofs.Columns.{IsSpine-pushed, len_is, last_room, run_room}
+use Rattle.runs.proofs.Joined.{joined-pushed}
+use Rattle.runs.proofs.Counted.{runs_len, runs_count, last_count}
+use Rattle.int_col.proofs.Columns.{IsSpine-pushed, last_room}
 use Rattle.int_col.proofs.spine.Spine.push.Goals as goal
 
 pub extend_last-requires : goal.extend_last-requires
@@ -11,14 +12,13 @@ extend_last-requires c =
     let few = rw (← c.self.view_is) at c.requires.few in
     let segments : vec_len c.self.inside.segments ≡ length c.self.inside.segments.items = search rules in
     let last = c.len-last.result - 1 in
-    let len : suc last ≡ length c.self.inside.segments.items = omega (arith, c.len-last.ensures, takes.some) in (
+    let len : suc last ≡ length c.self.inside.segments.items = omega (arith, c.len-last.ensures, takes.some) in
+    let room = last_room c.self.inside.segments.items c.index_mut-segment.result.now c.args.value last takes len c.index_mut-segment.ensures.value in
+    let count = last_count c.self.inside.segments.items c.self.inside.runs c.self.invariant.counted c.index_mut-segment.result.now last len c.index_mut-segment.ensures.value in (
       omega arith,
       (
-        omega (arith, takes.some, ap length c.self.invariant.counted, length-counts c.self.inside.segments.items),
-        (
-          run_room c.self.inside.segments.items c.self.inside.runs c.index_mut-segment.result.now c.args.value last c.self.invariant takes len c.index_mut-segment.ensures.value,
-          omega (arith, len_is c.self.inside.segments.items c.self.inside.runs c.self.invariant),
-        ),
+        omega (arith, takes.some, runs_count c.self.inside.segments.items c.self.inside.runs c.self.invariant.counted),
+        (omega (arith, room, count), omega (arith, runs_len c.self.inside.segments.items c.self.inside.runs c.self.invariant.counted)),
       ),
     )
 

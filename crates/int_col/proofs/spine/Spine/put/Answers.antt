@@ -5,6 +5,6 @@ use Rattle.int_col.proofs.spine.Spine.put.Goals as goal
 pub invariant_of-self-2 : goal.invariant_of-self-2
 invariant_of-self-2 c =
     let cut = rw (← c.self.view_is) at c.requires.cut in
-    rw c.in_ok-replace_range.ensures.ok
+    rw c.in_ok-replace_parts.ensures.ok
     (IsSpine-replaced c.self.inside.segments.items c.args.fresh.items c.self.inside.runs c.deref-2.result.now c.in_ok-runs.runs c.args.first c.args.after
     c.self.invariant (c.deref-2.ensures.value ∙ rw c.deref.ensures.value at c.in_ok-counts.ensures.counts) cut c.in_ok-runs.ensures)

@@ -1,9 +1,10 @@
 use Rattle.std.proofs.Common.{arith}
-use Rattle.int_col.proofs.Columns.{applies_to_runs, touched_parts}
+use Rattle.runs.proofs.Counted.{applies_to_runs}
+use Rattle.int_col.proofs.Columns.{touched_parts}
 use Rattle.int_col.proofs.spine.Spine.touched.Goals as goal
 
 pub touched-requires : goal.touched-requires
-touched-requires c = (omega arith, applies_to_runs c.self.inside.segments.items c.self.inside.runs c.args.edit.now c.self.invariant (rw (← c.self.view_is) at c.requires))
+touched-requires c = (omega arith, applies_to_runs c.self.inside.segments.items c.self.inside.runs c.self.invariant.counted c.args.edit.now (rw (← c.self.view_is) at c.requires))
 
 pub returns-clause-covers : goal.returns-clause-covers
 returns-clause-covers c =
