@@ -1,5 +1,6 @@
 //! What copies of a column share: each chunk, and the spine that lists them.
-ghost use Rattle.std.specs.Prelude.{◌≡◌, ℕ, pos, ◌+◌, ◌-◌, ◌<◌, ◌≤◌, [], ◌∷◌, ◌++◌, length, take, drop, map, replicate, slice_set, None, IfOk, OnOk, OnErr};
+ghost use Rattle.std.specs.Prelude.{◌≡◌, ℕ, pos, ◌+◌, ◌-◌, ◌<◌, ◌≤◌, [], ◌∷◌, ◌++◌, length, take, drop, map, replicate, slice_set, slice_index_or, None, IfOk, OnOk, OnErr};
+ghost use Rattle.bytes_col.specs.Chunk.{HasSize};
 ghost use Rattle.bytes_col.specs.Spine.{joined, HasSizes};
 
 use crate::chunk::Chunk;
@@ -59,8 +60,10 @@ impl SharedChunk {
         ensures err { OnErr result (self.new ≡ self.old) }
         ensures sizes_err { OnErr result (sizes.new ≡ sizes.old) }
     {
-        let chunk = Rc::make_mut(&mut self.inner)?;
-        chunk.push(value, sizes)
+        if let Some(own) = Rc::get_mut(&mut self.inner) {
+            return own.push(value, sizes);
+        }
+        Rc::make_mut(&mut self.inner)?.push(value, sizes)
     }
 
     /// Sets a value, and its size.
@@ -72,15 +75,17 @@ impl SharedChunk {
         row: usize,
     ) -> Result<(), Memory>
         requires at { at < length self.old }
-        requires row { row < length sizes.old.values }
+        requires size { HasSize sizes.old row (slice_index_or self.old at []) }
         ensures ok { OnOk result (self.new ≡ slice_set self.old at value.now) }
         ensures sizes { OnOk result (sizes.new ≡ record sizes.old { values = slice_set sizes.old.values row (pos (length value.now)); home = None }) }
         ensures len { length self.new ≡ length self.old }
         ensures err { OnErr result (self.new ≡ self.old) }
         ensures sizes_err { OnErr result (sizes.new ≡ sizes.old) }
     {
-        let chunk = Rc::make_mut(&mut self.inner)?;
-        chunk.set(at, value, sizes, row)
+        if let Some(own) = Rc::get_mut(&mut self.inner) {
+            return own.set(at, value, sizes, row);
+        }
+        Rc::make_mut(&mut self.inner)?.set(at, value, sizes, row)
     }
 }
 
@@ -135,8 +140,10 @@ impl SharedSpine {
         ensures err { OnErr result (self.new ≡ self.old) }
         ensures sizes_err { OnErr result (sizes.new ≡ sizes.old) }
     {
-        let spine = Rc::make_mut(&mut self.inner)?;
-        spine.set(at, value, sizes)
+        if let Some(own) = Rc::get_mut(&mut self.inner) {
+            return own.set(at, value, sizes);
+        }
+        Rc::make_mut(&mut self.inner)?.set(at, value, sizes)
     }
 
     /// Inserts copies of a value before a place, or at the end, and their sizes.
@@ -155,8 +162,10 @@ impl SharedSpine {
         ensures err { OnErr result (self.new ≡ self.old) }
         ensures sizes_err { OnErr result (sizes.new ≡ sizes.old) }
     {
-        let spine = Rc::make_mut(&mut self.inner)?;
-        spine.insert(at, value, count, sizes)
+        if let Some(own) = Rc::get_mut(&mut self.inner) {
+            return own.insert(at, value, count, sizes);
+        }
+        Rc::make_mut(&mut self.inner)?.insert(at, value, count, sizes)
     }
 
     /// Removes values from a place on, and their sizes.
@@ -173,7 +182,9 @@ impl SharedSpine {
         ensures err { OnErr result (self.new ≡ self.old) }
         ensures sizes_err { OnErr result (sizes.new ≡ sizes.old) }
     {
-        let spine = Rc::make_mut(&mut self.inner)?;
-        spine.remove(at, count, sizes)
+        if let Some(own) = Rc::get_mut(&mut self.inner) {
+            return own.remove(at, count, sizes);
+        }
+        Rc::make_mut(&mut self.inner)?.remove(at, count, sizes)
     }
 }

@@ -59,6 +59,9 @@ impl SharedSegment {
         ensures len { length self.new ≡ length self.old }
         ensures err { OnErr result (self.new ≡ self.old) }
     {
+        if let Some(own) = Rc::get_mut(&mut self.inner) {
+            return own.set(at, value);
+        }
         Rc::make_mut(&mut self.inner)?.set(at, value)
     }
 
@@ -68,8 +71,10 @@ impl SharedSegment {
         ensures ok { OnOk result (self.new ≡ self.old ++ value ∷ []) }
         ensures err { OnErr result (self.new ≡ self.old) }
     {
-        let segment = Rc::make_mut(&mut self.inner)?;
-        segment.push(value)
+        if let Some(own) = Rc::get_mut(&mut self.inner) {
+            return own.push(value);
+        }
+        Rc::make_mut(&mut self.inner)?.push(value)
     }
 }
 
@@ -123,8 +128,10 @@ impl SharedSpine {
         ensures cuts { cuts_of self.new ≡ cuts_of self.old }
         ensures err { OnErr result (self.new ≡ self.old) }
     {
-        let spine = Rc::make_mut(&mut self.inner)?;
-        spine.set(at, value)
+        if let Some(own) = Rc::get_mut(&mut self.inner) {
+            return own.set(at, value);
+        }
+        Rc::make_mut(&mut self.inner)?.set(at, value)
     }
 
     /// Inserts copies of a value before a place, or at the end.
@@ -134,8 +141,10 @@ impl SharedSpine {
         ensures ok { OnOk result (joined self.new ≡ take at (joined self.old) ++ (replicate count value ++ drop at (joined self.old))) }
         ensures err { OnErr result (self.new ≡ self.old) }
     {
-        let spine = Rc::make_mut(&mut self.inner)?;
-        spine.insert(at, value, count)
+        if let Some(own) = Rc::get_mut(&mut self.inner) {
+            return own.insert(at, value, count);
+        }
+        Rc::make_mut(&mut self.inner)?.insert(at, value, count)
     }
 
     /// Removes values from a place on.
@@ -144,7 +153,9 @@ impl SharedSpine {
         ensures ok { OnOk result (joined self.new ≡ take at (joined self.old) ++ drop (at + count) (joined self.old)) }
         ensures err { OnErr result (self.new ≡ self.old) }
     {
-        let spine = Rc::make_mut(&mut self.inner)?;
-        spine.remove(at, count)
+        if let Some(own) = Rc::get_mut(&mut self.inner) {
+            return own.remove(at, count);
+        }
+        Rc::make_mut(&mut self.inner)?.remove(at, count)
     }
 }

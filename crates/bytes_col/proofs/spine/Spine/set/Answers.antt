@@ -1,8 +1,8 @@
 use Rattle.std.proofs.lemmas.Result.{on_ok_weaker}
-use Rattle.bytes_col.proofs.Places.{IsSpine-set, set_place}
+use Rattle.bytes_col.proofs.Places.{IsSpine-set, set_place, read_place}
 use Rattle.bytes_col.specs.Spine.{joined}
 use Rattle.bytes_col.proofs.Chunks.{both_ok}
-use Rattle.bytes_col.proofs.Sizes.{sizes_set}
+use Rattle.bytes_col.proofs.Sizes.{sizes_set, size_at}
 use Rattle.bytes_col.proofs.spine.Spine.set.Goals as goal
 
 pub invariant_of-self : goal.invariant_of-self
@@ -25,3 +25,9 @@ returns-clause-sizes c =
     (set_place c.self.inside.chunks.items c.args.at c.find-place.result.chunk c.find-place.result.offset c.index_mut-chunk.result.now c.set.new.self c.args.value.now
     (rw (← c.self.view_is) at c.find-place.ensures.place) c.index_mut-chunk.ensures.value put) sized)
     c.set.ensures.ok c.set.ensures.sizes)
+
+pub set-requires-clause-size : goal.set-requires-clause-size
+set-requires-clause-size c =
+    let place = rw (← c.self.view_is) at c.find-place.ensures.place in
+    size_at (joined c.self.inside.chunks.items) c.args.sizes.now c.args.at _ (rw (← c.self.view_is) at c.requires.sizes) (rw (← c.self.view_is) at c.requires.at)
+    (read_place c.self.inside.chunks.items c.args.at c.find-place.result.chunk c.find-place.result.offset c.index_mut-chunk.result.now place c.index_mut-chunk.ensures.value)
