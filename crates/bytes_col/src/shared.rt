@@ -143,7 +143,8 @@ impl SharedSpine {
         if let Some(own) = Rc::get_mut(&mut self.inner) {
             return own.set(at, value, sizes);
         }
-        Rc::make_mut(&mut self.inner)?.set(at, value, sizes)
+        let spine = Rc::make_mut(&mut self.inner)?;
+        spine.set(at, value, sizes)
     }
 
     /// Inserts copies of a value before a place, or at the end, and their sizes.
@@ -165,7 +166,8 @@ impl SharedSpine {
         if let Some(own) = Rc::get_mut(&mut self.inner) {
             return own.insert(at, value, count, sizes);
         }
-        Rc::make_mut(&mut self.inner)?.insert(at, value, count, sizes)
+        let spine = Rc::make_mut(&mut self.inner)?;
+        spine.insert(at, value, count, sizes)
     }
 
     /// Removes values from a place on, and their sizes.
@@ -185,6 +187,7 @@ impl SharedSpine {
         if let Some(own) = Rc::get_mut(&mut self.inner) {
             return own.remove(at, count, sizes);
         }
-        Rc::make_mut(&mut self.inner)?.remove(at, count, sizes)
+        let spine = Rc::make_mut(&mut self.inner)?;
+        spine.remove(at, count, sizes)
     }
 }

@@ -131,7 +131,8 @@ impl SharedSpine {
         if let Some(own) = Rc::get_mut(&mut self.inner) {
             return own.set(at, value);
         }
-        Rc::make_mut(&mut self.inner)?.set(at, value)
+        let spine = Rc::make_mut(&mut self.inner)?;
+        spine.set(at, value)
     }
 
     /// Inserts copies of a value before a place, or at the end.
@@ -144,7 +145,8 @@ impl SharedSpine {
         if let Some(own) = Rc::get_mut(&mut self.inner) {
             return own.insert(at, value, count);
         }
-        Rc::make_mut(&mut self.inner)?.insert(at, value, count)
+        let spine = Rc::make_mut(&mut self.inner)?;
+        spine.insert(at, value, count)
     }
 
     /// Removes values from a place on.
@@ -156,6 +158,7 @@ impl SharedSpine {
         if let Some(own) = Rc::get_mut(&mut self.inner) {
             return own.remove(at, count);
         }
-        Rc::make_mut(&mut self.inner)?.remove(at, count)
+        let spine = Rc::make_mut(&mut self.inner)?;
+        spine.remove(at, count)
     }
 }
