@@ -333,18 +333,40 @@ impl Chunk {
         self.cells.push(cell);
         self.short += short_size(value);
     }
-    fn add(&mut self, other: &Chunk, at: usize, count: usize) {
+    fn add(&mut self, other: &Chunk, at: usize) {
         let cell = match &other.cells[at] {
             Cell::Short { start, len } => self.stage(&other.bytes[*start..*start + *len]),
             Cell::Memo(memo) => Cell::Memo(memo.clone()),
         };
-        self.cells.resize(self.cells.len() + count, cell);
-        self.short += count * short_size(other.value(at));
+        self.cells.push(cell);
+        self.short += short_size(other.value(at));
     }
-    fn set(&mut self, at: usize, value: &[u8]) {
+    fn reserve(&mut self, other: &Chunk, count: usize) {
+        self.cells.reserve(count);
+        self.bytes.reserve(other.short.checked_div(other.cells.len()).unwrap_or(0) * count);
+    }
+    /// Writes a value over one as long, if that is in memory of its own.
+    fn overwrite(&mut self, at: usize, value: &[u8]) -> bool {
+        match &mut self.cells[at] {
+            Cell::Short { start, len } if *len == value.len() => {
+                self.bytes[*start..*start + *len].copy_from_slice(value);
+                true
+            }
+            Cell::Short { .. } => false,
+            Cell::Memo(memo) => match Rc::get_mut(memo) {
+                Some(own) if own.len() == value.len() => {
+                    own.copy_from_slice(value);
+                    true
+                }
+                _ => false,
+            },
+        }
+    }
+    fn put(&mut self, at: usize, value: &[u8]) {
         if self.bytes.len() / 2 > self.short + LOOSE_MOST {
             let mut packed = Chunk::new();
-            (0..self.cells.len()).for_each(|at| packed.add(self, at, 1));
+            packed.reserve(self, self.cells.len());
+            (0..self.cells.len()).for_each(|at| packed.add(self, at));
             *self = packed;
         }
         let short = self.short - short_size(self.value(at)) + short_size(value);
@@ -365,7 +387,7 @@ impl Parts {
         if self.last.cells.len() == Chunk::MOST {
             self.done.push(Rc::new(std::mem::replace(&mut self.last, Chunk::new())));
         }
-        self.last.add(chunk, at, 1);
+        self.last.add(chunk, at);
     }
     fn finish(mut self) -> Vec<Rc<Chunk>> {
         if !self.last.cells.is_empty() {
@@ -390,6 +412,9 @@ impl Spine<Chunk> {
         let mut one = Chunk::new();
         one.push(value);
         let mut parts = Parts { done: Vec::new(), last: Chunk::new() };
+        if touched.first > 0 && at == self.len() {
+            parts.last.reserve(&self.runs[touched.first - 1], Chunk::MOST);
+        }
         self.add_to(&mut parts, touched.start, at);
         (0..count).for_each(|_| parts.add(&one, 0));
         self.add_to(&mut parts, end, touched.stop);
@@ -417,8 +442,11 @@ impl BytesCol {
     fn set(&mut self, at: usize, value: &[u8]) {
         let spine = Rc::make_mut(&mut self.spine);
         let (k, offset) = spine.find(at);
-        Rc::make_mut(&mut spine.runs[k]).set(offset, value);
-        self.sizes.set(at, value.len() as i64);
+        let chunk = Rc::make_mut(&mut spine.runs[k]);
+        if !chunk.overwrite(offset, value) {
+            chunk.put(offset, value);
+            self.sizes.set(at, value.len() as i64);
+        }
     }
     fn insert(&mut self, at: usize, value: &[u8], count: usize) {
         let spine = Rc::make_mut(&mut self.spine);
@@ -475,8 +503,11 @@ fn time_integers(width: Width) {
     let order = timed(COUNT, || sum = sum.wrapping_add(column.get(places.next().unwrap())));
     let mut random = Random(1);
     let at_random = timed(COUNT, || sum = sum.wrapping_add(column.get(random.place(column.len()))));
+    let mut value = values.iter();
+    let mut places = 0..COUNT;
+    let set = timed(COUNT, || column.set(places.next().unwrap(), *value.next().unwrap()));
     let (mut random, mut value) = (Random(1), values.iter());
-    let set = timed(COUNT, || column.set(random.place(column.len()), *value.next().unwrap()));
+    let set_at_random = timed(COUNT, || column.set(random.place(column.len()), *value.next().unwrap()));
     let mut value = values.iter();
     let insert = timed(EDITS, || column.insert(column.len() / 2, *value.next().unwrap(), 1));
     let remove = timed(EDITS, || column.remove(column.len() / 2, 1));
@@ -490,7 +521,7 @@ fn time_integers(width: Width) {
         sum = sum.wrapping_add(column.get(at));
     }
     println!(
-        "{} bits: append {append:.1} order {order:.1} random {at_random:.1} set {set:.1} insert {insert:.0} remove {remove:.0} shared {shared:.0} ({sum})",
+        "{} bits: append {append:.1} order {order:.1} random {at_random:.1} set {set:.1} set_random {set_at_random:.1} insert {insert:.0} remove {remove:.0} shared {shared:.0} ({sum})",
         width.bits()
     );
 }
@@ -510,8 +541,13 @@ fn time_texts(text: &[u8], count: usize) {
     let at_random = timed(count, || sum += last_byte(&black_box(column.value(random.place(column.len())).to_vec())));
     let mut random = Random(1);
     let compare = timed(count, || sum += u64::from(column.value(random.place(column.len())).cmp(text) == Ordering::Equal));
+    let mut places = 0..count;
+    let set = timed(count, || column.set(places.next().unwrap(), text));
     let mut random = Random(1);
-    let set = timed(count, || column.set(random.place(column.len()), text));
+    let set_at_random = timed(count, || column.set(random.place(column.len()), text));
+    let longer = [text, b"x"].concat();
+    let mut places = 0..count;
+    let set_longer = timed(count, || column.set(places.next().unwrap(), &longer));
     let insert = timed(EDITS, || column.insert(column.len() / 2, text, 1));
     let remove = timed(EDITS, || column.remove(column.len() / 2, 1));
     let mut random = Random(1);
@@ -521,7 +557,7 @@ fn time_texts(text: &[u8], count: usize) {
         black_box(&copy);
     });
     println!(
-        "{} bytes: append {append:.1} order {order:.1} random {at_random:.1} compare {compare:.1} set {set:.1} insert {insert:.0} remove {remove:.0} shared {shared:.0} ({sum})",
+        "{} bytes: append {append:.1} order {order:.1} random {at_random:.1} compare {compare:.1} set {set:.1} set_random {set_at_random:.1} set_longer {set_longer:.1} insert {insert:.0} remove {remove:.0} shared {shared:.0} ({sum})",
         text.len()
     );
 }

@@ -70,6 +70,16 @@ pub fn sum_at_random(column: &IntCol, count: usize) -> i64 {
     sum
 }
 
+/// Sets the values in order.
+pub fn set_in_order(column: &mut IntCol, values: &[i64]) -> Result<(), Memory> {
+    for (at, value) in values.iter().enumerate() {
+        if at < column.len() {
+            column.set(at, *value)?;
+        }
+    }
+    Ok(())
+}
+
 /// Sets each value at a random place.
 pub fn set_at_random(column: &mut IntCol, values: &[i64]) -> Result<(), Memory> {
     let mut random = Random::new();

@@ -58,8 +58,11 @@ fn time_integer_reads<R: Clock + Print>(rt: &R, column: &IntCol) -> Result<i64> 
 /// Times what edits a column of integers.
 fn time_integer_edits<R: Clock + Print>(rt: &R, column: &mut IntCol, values: &[i64]) -> Result<()> {
     let start = Instant::now(rt)?;
-    integers::set_at_random(column, values)?;
+    integers::set_in_order(column, values)?;
     print_time(rt, "set", &start, COUNT)?;
+    let start = Instant::now(rt)?;
+    integers::set_at_random(column, values)?;
+    print_time(rt, "set_random", &start, COUNT)?;
     let start = Instant::now(rt)?;
     integers::insert_in_the_middle(column, values, EDITS as usize)?;
     print_time(rt, "insert", &start, EDITS)?;
@@ -72,13 +75,18 @@ fn time_integer_edits<R: Clock + Print>(rt: &R, column: &mut IntCol, values: &[i
 }
 
 /// Times the calls of a column of so many copies of a text, and prints a line. The sum keeps what was read.
-fn time_texts<R: Clock + Print + AllocGlobal>(rt: &R, text: &[u8], count: u32) -> Result<()> {
+fn time_texts<R: Clock + Print + AllocGlobal>(
+    rt: &R,
+    text: &[u8],
+    longer: &[u8],
+    count: u32,
+) -> Result<()> {
     print!(rt; "{} bytes:", text.len())?;
     let start = Instant::now(rt)?;
     let mut column = texts::append_all(rt.alloc(), text, count as usize)?;
     print_time(rt, "append", &start, count)?;
     let sum = time_text_reads(rt, &column, text, count)?;
-    time_text_edits(rt, &mut column, text, count)?;
+    time_text_edits(rt, &mut column, text, longer, count)?;
     println!(rt; " ({sum})")?;
     Ok(())
 }
@@ -102,16 +110,23 @@ fn time_text_reads<R: Clock + Print>(
     Ok(in_order.wrapping_add(at_random).wrapping_add(equal))
 }
 
-/// Times what edits a column of texts.
+/// Times what edits a column of texts, with a text that is one byte longer at last.
 fn time_text_edits<R: Clock + Print>(
     rt: &R,
     column: &mut BytesCol,
     text: &[u8],
+    longer: &[u8],
     count: u32,
 ) -> Result<()> {
     let start = Instant::now(rt)?;
-    texts::set_at_random(column, text, count as usize)?;
+    texts::set_in_order(column, text)?;
     print_time(rt, "set", &start, count)?;
+    let start = Instant::now(rt)?;
+    texts::set_at_random(column, text, count as usize)?;
+    print_time(rt, "set_random", &start, count)?;
+    let start = Instant::now(rt)?;
+    texts::set_in_order(column, longer)?;
+    print_time(rt, "set_longer", &start, count)?;
     let start = Instant::now(rt)?;
     texts::insert_in_the_middle(column, text, EDITS as usize)?;
     print_time(rt, "insert", &start, EDITS)?;
@@ -138,8 +153,8 @@ fn main(rt: HostRuntime) -> Result<()> {
     ] {
         time_integers(&rt, width)?;
     }
-    time_texts(&rt, &[b'x'; 5], COUNT)?;
-    time_texts(&rt, &[b'x'; 100], COUNT)?;
-    time_texts(&rt, &[b'x'; 600], MEMOS)?;
+    time_texts(&rt, &[b'x'; 5], &[b'x'; 6], COUNT)?;
+    time_texts(&rt, &[b'x'; 100], &[b'x'; 101], COUNT)?;
+    time_texts(&rt, &[b'x'; 600], &[b'x'; 601], MEMOS)?;
     Ok(())
 }

@@ -65,6 +65,16 @@ pub fn count_equal(column: &BytesCol, text: &[u8], count: usize) -> u64 {
     equal
 }
 
+/// Sets each value to the text, in order.
+pub fn set_in_order(column: &mut BytesCol, text: &[u8]) -> Result<(), Memory> {
+    for at in 0..column.len() {
+        if at < column.len() {
+            column.set(at, text)?;
+        }
+    }
+    Ok(())
+}
+
 /// Sets so many copies of the text at random places.
 pub fn set_at_random(column: &mut BytesCol, text: &[u8], count: usize) -> Result<(), Memory> {
     let mut random = Random::new();

@@ -40,6 +40,16 @@ length-short-set [] i v l = absurd (omega arith)
 length-short-set (x ∷ xs) zero v l = omega (arith, length-short-cons v xs, length-short-cons x xs)
 length-short-set (x ∷ xs) (suc i) v l = omega (arith, length-short-cons x (set xs i v), length-short-cons x xs, length-short-set xs i v (omega arith))
 
+-- values of one length have as many short bytes
+pub short_size : (u v : List ℕ) → length u ≡ length v → length (short_bytes (u ∷ [])) ≡ length (short_bytes (v ∷ []))
+short_size u v same = of u ∙ ap (λ n. cond (nat_le n 512) n 0) same ∙ sym (of v)
+  where
+    go : (b : Bool) (w : List ℕ) → length (concat (cond b (w ∷ []) [])) ≡ cond b (length w) 0
+    go true w = ap length (append-nil w)
+    go false w = refl
+    of : (w : List ℕ) → length (short_bytes (w ∷ [])) ≡ cond (nat_le (length w) 512) (length w) 0
+    of w = go (nat_le (length w) 512) w
+
 -- a value has at most 512 short bytes
 pub short_one : (v : List ℕ) → length (short_bytes (v ∷ [])) ≤ 512
 short_one v = go (is_short v) refl

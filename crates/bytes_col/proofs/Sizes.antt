@@ -1,9 +1,11 @@
 -- Laws of the sizes of values.
-use Rattle.std.proofs.Common.{◌≡◌, ℕ, zero, suc, ◌+◌, ℤ, pos, Option, None, List, [], ◌∷◌, ◌++◌, length, map, set, take, drop, replicate, refl, sym, ap, ◌∙◌}
-use Rattle.std.proofs.lemmas.List.{length-map, map-append, map-set, take-map, drop-map}
+use Rattle.std.proofs.Common.{◌≡◌, ℕ, zero, suc, ◌+◌, ◌<◌, ℤ, pos, Option, Some, None, List, [], ◌∷◌, ◌++◌, length, map, get_or, set, take, drop, replicate, refl, sym, ap, ◌∙◌, arith}
+use Rattle.std.proofs.lemmas.List.{length-map, map-append, map-set, set-get_or, get_or-map, take-map, drop-map}
+use Rattle.std.proofs.lemmas.Option.{slice_get-get_or, slice_get_within, get_or_from_slice_get}
 use Rattle.mk_value.specs.declared.span.Span.{Span}
 use Rattle.int_col.specs.Column.{Column as Integers, home_after}
 use Rattle.bytes_col.specs.Column.{sizes_of}
+use Rattle.bytes_col.specs.Chunk.{HasSize}
 use Rattle.bytes_col.specs.Spine.{HasSizes}
 
 sizes-replicate : (n : ℕ) (v : List ℕ) → sizes_of (replicate n v) ≡ replicate n (pos (length v))
@@ -53,3 +55,22 @@ sizes_removed vs new s t at n h is sized home = record {
 
 pub length-sizes : (vs : List (List ℕ)) (s : Integers) → HasSizes vs s → length s.values ≡ length vs
 length-sizes vs s h = ap length h.are ∙ length-map vs (λ x. pos (length x))
+
+-- the size of a value that is set to one as long
+pub size_stays : (s : Integers) (row : ℕ) (v old : List ℕ) → HasSize s row old → length v ≡ length old → s ≡ record s { values = set s.values row (pos (length v)); home = None }
+size_stays s row v old h same =
+    let is : get_or s.values row (pos (length v)) ≡ pos (length v) = get_or_from_slice_get s.values row (pos (length v)) (pos (length v)) (h.size ∙ ap (λ n. Some (pos n)) (sym same)) in
+    let values : s.values ≡ set s.values row (pos (length v)) = sym (ap (set s.values row) (sym is) ∙ set-get_or s.values row (pos (length v))) in
+    ap (λ zs. record s { values = zs }) values ∙ ap (λ z. record s { values = set s.values row (pos (length v)); home = z }) h.nowhere
+
+pub row_within : (s : Integers) (row : ℕ) (v : List ℕ) → HasSize s row v → row < length s.values
+row_within s row v h = slice_get_within s.values row (pos (length v)) h.size
+
+-- the size of a value that a place leads to
+pub size_at : (vs : List (List ℕ)) (s : Integers) (at : ℕ) (v : List ℕ) → HasSizes vs s → at < length vs → v ≡ get_or vs at [] → HasSize s at v
+size_at vs s at v h l is =
+    let here : get_or s.values at (pos 0) ≡ pos (length v) = ap (λ zs. get_or zs at (pos 0)) h.are ∙ get_or-map (λ x. pos (length x)) vs at [] (pos 0) l ∙ ap (λ x. pos (length x)) (sym is) in
+    record {
+      size = slice_get-get_or s.values at (pos 0) (omega (arith, length-sizes vs s h)) ∙ ap (λ z. Some z) here;
+      nowhere = h.nowhere;
+    }

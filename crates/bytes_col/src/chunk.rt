@@ -1,7 +1,8 @@
 //! A run of values.
 ghost use Rattle.std.specs.Prelude.{◌≡◌, ℕ, pos, ◌+◌, ◌-◌, ◌*◌, ◌<◌, ◌≤◌, [], ◌∷◌, ◌++◌, length, slice_set, slice_index_or, take, drop, replicate, None, IfOk, OnOk, OnErr};
 ghost use Rattle.bytes_col.specs.Column.{short_bytes};
-ghost use Rattle.bytes_col.specs.Chunk.{cell_value, IsCell};
+ghost use Rattle.std.specs.Bool.{OnTrue, OnFalse};
+ghost use Rattle.bytes_col.specs.Chunk.{cell_value, IsCell, IsBehind, HasSize, overwritten};
 
 use crate::cell::{Cell, Piece, SHORT_MOST};
 use crate::memo::Memo;
@@ -16,7 +17,8 @@ pub(crate) const CHUNK_MOST: usize = 512;
 /// How many bytes of a chunk may be those of no value any more, beside as many as those of its values.
 const LOOSE_MOST: usize = 4096;
 
-/// At most 512 values. A short value that is set or added is written behind the bytes, so that no other value moves.
+/// At most 512 values. A short value that is added, or set to another size, is written behind the bytes, so that no other value
+/// moves. No byte belongs to two values, so one of the same size can be written over the old one.
 #[derive(Drop)]
 pub(crate) struct Chunk {
     cells: Vec<Cell>,
@@ -141,20 +143,73 @@ impl Chunk {
         Ok(())
     }
 
-    /// Adds copies of another chunk's value, which have its bytes in common.
-    pub(crate) fn add(&mut self, other: &Chunk, at: usize, count: usize) -> Result<(), Memory>
+    /// Adds a copy of another chunk's value. A memo's copy shares its bytes.
+    pub(crate) fn add(&mut self, other: &Chunk, at: usize) -> Result<(), Memory>
+        requires at { at < length other.now }
+        requires room { length self.old < 512 }
+        ensures { OnOk result (self.new ≡ self.old ++ slice_index_or other.now at [] ∷ []) }
+    {
+        self.cells.reserve(1)?;
+        let cell = stage_copy(&mut self.bytes, &other.cells[at], &other.bytes)?;
+        self.cells.push_reserved(cell);
+        self.short += short_size(other.value(at));
+        Ok(())
+    }
+
+    /// Adds so many copies of another chunk's value.
+    pub(crate) fn add_copies(
+        &mut self,
+        other: &Chunk,
+        at: usize,
+        count: usize,
+    ) -> Result<(), Memory>
         requires at { at < length other.now }
         requires room { length self.old + count ≤ 512 }
         ensures { OnOk result (self.new ≡ self.old ++ replicate count (slice_index_or other.now at [])) }
     {
-        let cell = stage_copy(&mut self.bytes, &other.cells[at], &other.bytes)?;
-        push_copies(&mut self.cells, &cell, count)?;
-        self.short += count * short_size(other.value(at));
+        for _copy in 0..count {
+            self.add(other, at)?;
+        }
         Ok(())
     }
 
-    /// Sets a value, and its size.
+    /// Sets a value, and its size. One as long is written over the old one, where that is in memory of its own.
     pub(crate) fn set(
+        &mut self,
+        at: usize,
+        value: &[u8],
+        sizes: &mut IntCol,
+        row: usize,
+    ) -> Result<(), Memory>
+        requires at { at < length self.old }
+        requires size { HasSize sizes.old row (slice_index_or self.old at []) }
+        ensures ok { OnOk result (self.new ≡ slice_set self.old at value.now) }
+        ensures sizes { OnOk result (sizes.new ≡ record sizes.old { values = slice_set sizes.old.values row (pos (length value.now)); home = None }) }
+        ensures len { length self.new ≡ length self.old }
+        ensures err { OnErr result (self.new ≡ self.old) }
+        ensures sizes_err { OnErr result (sizes.new ≡ sizes.old) }
+    {
+        if self.overwrite(at, value) {
+            return Ok(());
+        }
+        self.put(at, value, sizes, row)
+    }
+
+    /// Writes a value over the one at a place, if that has as many bytes and is in memory of its own, and says whether it did.
+    fn overwrite(&mut self, at: usize, value: &[u8]) -> bool
+        requires { at < length self.old }
+        ensures done { OnTrue result (self.new ≡ slice_set self.old at value.now) }
+        ensures size { OnTrue result (length value.now ≡ length (slice_index_or self.old at [])) }
+        ensures not_done { OnFalse result (self.new ≡ self.old) }
+    {
+        match &mut self.cells[at] {
+            Cell::Short(piece) => overwrite_piece(&mut self.bytes, piece, value),
+            Cell::Memo(memo) => memo.overwrite(value),
+        }
+    }
+
+    /// Puts a value in place of another, and its size.
+    fn put(
         &mut self,
         at: usize,
         value: &[u8],
@@ -196,7 +251,7 @@ impl Chunk {
         let room = self.short_len() + SHORT_MOST;
         let mut chunk = Chunk::with_room(*self.bytes.allocator(), self.len(), room)?;
         for at in 0..self.len() {
-            chunk.add(self, at, 1)?;
+            chunk.add(self, at)?;
         }
         Ok(chunk)
     }
@@ -218,6 +273,7 @@ fn short_size(value: &[u8]) -> usize
 fn stage(bytes: &mut Vec<u8>, value: &[u8]) -> Result<Cell, Memory>
     ensures value { IfOk result (λ cell. cell_value bytes.new.items cell ≡ value.now) }
     ensures cell { IfOk result (λ cell. IsCell bytes.new.items cell) }
+    ensures behind { IfOk result (λ cell. IsBehind (length bytes.old.items) cell) }
     ensures kept { OnOk result (bytes.new.items ≡ bytes.old.items ++ short_bytes (value.now ∷ [])) }
     ensures err { OnErr result (bytes.new.items ≡ bytes.old.items) }
 {
@@ -237,6 +293,7 @@ fn stage_copy(bytes: &mut Vec<u8>, cell: &Cell, from: &[u8]) -> Result<Cell, Mem
     requires { IsCell from.now cell.now }
     ensures value { IfOk result (λ copy. cell_value bytes.new.items copy ≡ cell_value from.now cell.now) }
     ensures cell { IfOk result (λ copy. IsCell bytes.new.items copy) }
+    ensures behind { IfOk result (λ copy. IsBehind (length bytes.old.items) copy) }
     ensures kept { OnOk result (bytes.new.items ≡ bytes.old.items ++ short_bytes (cell_value from.now cell.now ∷ [])) }
     ensures err { OnErr result (bytes.new.items ≡ bytes.old.items) }
 {
@@ -246,12 +303,16 @@ fn stage_copy(bytes: &mut Vec<u8>, cell: &Cell, from: &[u8]) -> Result<Cell, Mem
     }
 }
 
-/// Adds copies of a cell.
-fn push_copies(cells: &mut Vec<Cell>, cell: &Cell, count: usize) -> Result<(), AllocError>
-    requires few { length cells.old.items + count ≤ 512 }
-    ensures ok { OnOk result (cells.new.items ≡ cells.old.items ++ replicate count cell.now) }
-    ensures err { OnErr result (cells.new.items ≡ cells.old.items) }
+/// Writes a value over a part of the bytes, if it is as long, and says whether it did.
+fn overwrite_piece(bytes: &mut Vec<u8>, piece: &Piece, value: &[u8]) -> bool
+    requires { piece.now.start + piece.now.len ≤ length bytes.old.items }
+    ensures done { OnTrue result (bytes.new.items ≡ overwritten bytes.old.items piece.now value.now) }
+    ensures size { OnTrue result (length value.now ≡ piece.now.len) }
+    ensures not_done { OnFalse result (bytes.new.items ≡ bytes.old.items) }
 {
-    let len = cells.len() + count;
-    cells.resize(len, cell.clone()?)
+    if piece.len != value.len() {
+        return false;
+    }
+    bytes[piece.start..piece.start + piece.len].copy_from_slice(value);
+    true
 }

@@ -1,11 +1,12 @@
 //! A long value.
-ghost use Rattle.std.specs.Prelude.{◌≡◌, IfOk};
+ghost use Rattle.std.specs.Prelude.{◌≡◌, length, IfOk};
+ghost use Rattle.std.specs.Bool.{OnTrue, OnFalse};
 
 use std::alloc::{AllocError, Global};
 use std::marker::Model;
 use std::rc::Rc;
 
-/// The bytes of a long value, in memory of their own that its owners share. They are never written to.
+/// The bytes of a long value, in memory of their own that its owners share. They are written to only where there is one owner.
 #[derive(Drop)]
 pub(crate) struct Memo {
     inner: Rc<Vec<u8>>,
@@ -37,6 +38,21 @@ impl Memo {
         Ok(Memo {
             inner: Rc::new(alloc, bytes)?,
         })
+    }
+
+    /// Writes other bytes over these, if they are as many and have no other owner, and says whether it did.
+    pub(crate) fn overwrite(&mut self, bytes: &[u8]) -> bool
+        ensures done { OnTrue result (self.new ≡ bytes.now) }
+        ensures size { OnTrue result (length bytes.now ≡ length self.old) }
+        ensures not_done { OnFalse result (self.new ≡ self.old) }
+    {
+        match Rc::get_mut(&mut self.inner) {
+            Some(own) if own.len() == bytes.len() => {
+                own.copy_from_slice(bytes);
+                true
+            }
+            _ => false,
+        }
     }
 
     pub(crate) fn bytes(&self) -> &[u8]

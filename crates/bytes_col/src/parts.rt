@@ -61,14 +61,14 @@ impl Parts {
     /// Adds a chunk's value.
     fn add_one(&mut self, chunk: &Chunk, at: usize) -> Result<(), Memory>
         requires { at < length chunk.now }
-        ensures { OnOk result (added self.new ≡ added self.old ++ replicate 1 (slice_index_or chunk.now at [])) }
+        ensures { OnOk result (added self.new ≡ added self.old ++ slice_index_or chunk.now at [] ∷ []) }
     {
         self.make_room()?;
-        self.last.add(chunk, at, 1)
+        self.last.add(chunk, at)
     }
 
     /// Makes room for so many of a chunk's values, where the last chunk has none yet.
-    fn prepare(&mut self, chunk: &Chunk, count: usize) -> Result<(), Memory>
+    pub(crate) fn prepare(&mut self, chunk: &Chunk, count: usize) -> Result<(), Memory>
         ensures { OnOk result (added self.new ≡ added self.old) }
     {
         if self.last.len() == 0 {
@@ -97,12 +97,12 @@ impl Parts {
     {
         let room = CHUNK_MOST - self.last.len();
         if count <= room {
-            return self.last.add(one, 0, count);
+            return self.last.add_copies(one, 0, count);
         }
-        self.last.add(one, 0, room)?;
+        self.last.add_copies(one, 0, room)?;
         self.close()?;
         self.add_whole(one, (count - room) / CHUNK_MOST)?;
-        self.last.add(one, 0, (count - room) % CHUNK_MOST)
+        self.last.add_copies(one, 0, (count - room) % CHUNK_MOST)
     }
 
     /// Adds whole chunks of copies, where the last one is empty.
@@ -117,7 +117,7 @@ impl Parts {
         }
         let alloc = *self.done.allocator();
         let mut whole = Chunk::new(alloc);
-        whole.add(one, 0, CHUNK_MOST)?;
+        whole.add_copies(one, 0, CHUNK_MOST)?;
         push_clones(&mut self.done, &SharedChunk::of(alloc, whole)?, count)
     }
 

@@ -1,6 +1,7 @@
 //! What copies of a column share: each chunk, and the spine that lists them.
-ghost use Rattle.std.specs.Prelude.{◌≡◌, ℕ, pos, ◌+◌, ◌-◌, ◌<◌, ◌≤◌, [], ◌∷◌, ◌++◌, length, take, drop, map, replicate, slice_set, None, IfOk, OnOk, OnErr};
+ghost use Rattle.std.specs.Prelude.{◌≡◌, ℕ, pos, ◌+◌, ◌-◌, ◌<◌, ◌≤◌, [], ◌∷◌, ◌++◌, length, take, drop, map, replicate, slice_set, slice_index_or, None, IfOk, OnOk, OnErr};
 ghost use Rattle.runs.specs.Joined.{joined};
+ghost use Rattle.bytes_col.specs.Chunk.{HasSize};
 ghost use Rattle.bytes_col.specs.Spine.{HasSizes};
 
 use crate::chunk::Chunk;
@@ -60,8 +61,10 @@ impl SharedChunk {
         ensures err { OnErr result (self.new ≡ self.old) }
         ensures sizes_err { OnErr result (sizes.new ≡ sizes.old) }
     {
-        let chunk = Rc::make_mut(&mut self.inner)?;
-        chunk.push(value, sizes)
+        if let Some(own) = Rc::get_mut(&mut self.inner) {
+            return own.push(value, sizes);
+        }
+        Rc::make_mut(&mut self.inner)?.push(value, sizes)
     }
 
     /// Sets a value, and its size.
@@ -73,15 +76,17 @@ impl SharedChunk {
         row: usize,
     ) -> Result<(), Memory>
         requires at { at < length self.old }
-        requires row { row < length sizes.old.values }
+        requires size { HasSize sizes.old row (slice_index_or self.old at []) }
         ensures ok { OnOk result (self.new ≡ slice_set self.old at value.now) }
         ensures sizes { OnOk result (sizes.new ≡ record sizes.old { values = slice_set sizes.old.values row (pos (length value.now)); home = None }) }
         ensures len { length self.new ≡ length self.old }
         ensures err { OnErr result (self.new ≡ self.old) }
         ensures sizes_err { OnErr result (sizes.new ≡ sizes.old) }
     {
-        let chunk = Rc::make_mut(&mut self.inner)?;
-        chunk.set(at, value, sizes, row)
+        if let Some(own) = Rc::get_mut(&mut self.inner) {
+            return own.set(at, value, sizes, row);
+        }
+        Rc::make_mut(&mut self.inner)?.set(at, value, sizes, row)
     }
 }
 
@@ -136,6 +141,9 @@ impl SharedSpine {
         ensures err { OnErr result (self.new ≡ self.old) }
         ensures sizes_err { OnErr result (sizes.new ≡ sizes.old) }
     {
+        if let Some(own) = Rc::get_mut(&mut self.inner) {
+            return own.set(at, value, sizes);
+        }
         let spine = Rc::make_mut(&mut self.inner)?;
         spine.set(at, value, sizes)
     }
@@ -156,6 +164,9 @@ impl SharedSpine {
         ensures err { OnErr result (self.new ≡ self.old) }
         ensures sizes_err { OnErr result (sizes.new ≡ sizes.old) }
     {
+        if let Some(own) = Rc::get_mut(&mut self.inner) {
+            return own.insert(at, value, count, sizes);
+        }
         let spine = Rc::make_mut(&mut self.inner)?;
         spine.insert(at, value, count, sizes)
     }
@@ -174,6 +185,9 @@ impl SharedSpine {
         ensures err { OnErr result (self.new ≡ self.old) }
         ensures sizes_err { OnErr result (sizes.new ≡ sizes.old) }
     {
+        if let Some(own) = Rc::get_mut(&mut self.inner) {
+            return own.remove(at, count, sizes);
+        }
         let spine = Rc::make_mut(&mut self.inner)?;
         spine.remove(at, count, sizes)
     }

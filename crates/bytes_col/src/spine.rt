@@ -241,6 +241,18 @@ impl Spine {
         self.runs.touched(edit)
     }
 
+    /// Where an edit adds values at the end, makes room for a whole chunk of values like those of the chunk before, since more are
+    /// likely to follow.
+    fn expect_more(&self, parts: &mut Parts, edit: &Edit, touched: &Touched) -> Result<(), Memory>
+        requires { touched.now.first ≤ length self.now }
+        ensures { OnOk result (added parts.new ≡ added parts.old) }
+    {
+        if touched.first == 0 || edit.at < self.len() {
+            return Ok(());
+        }
+        parts.prepare(self.chunks[touched.first - 1].chunk(), CHUNK_MOST)
+    }
+
     /// The values that stand in place of those of the touched chunks.
     fn parts_after(&self, edit: &Edit, touched: &Touched, value: &[u8]) -> Result<Parts, Memory>
         requires applies { Applies (length (joined self.now)) edit.now }
@@ -251,6 +263,7 @@ impl Spine {
         let mut one = Chunk::new(alloc);
         one.append(value)?;
         let mut parts = Parts::new(alloc);
+        self.expect_more(&mut parts, edit, touched)?;
         self.add_to(&mut parts, touched.start, edit.at)?;
         parts.add_copies(&one, edit.count)?;
         self.add_to(&mut parts, edit.end, touched.stop)?;

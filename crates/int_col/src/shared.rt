@@ -58,6 +58,9 @@ impl SharedSegment {
         ensures len { length self.new ≡ length self.old }
         ensures err { OnErr result (self.new ≡ self.old) }
     {
+        if let Some(own) = Rc::get_mut(&mut self.inner) {
+            return own.set(at, value);
+        }
         Rc::make_mut(&mut self.inner)?.set(at, value)
     }
 
@@ -67,8 +70,10 @@ impl SharedSegment {
         ensures ok { OnOk result (self.new ≡ self.old ++ value ∷ []) }
         ensures err { OnErr result (self.new ≡ self.old) }
     {
-        let segment = Rc::make_mut(&mut self.inner)?;
-        segment.push(value)
+        if let Some(own) = Rc::get_mut(&mut self.inner) {
+            return own.push(value);
+        }
+        Rc::make_mut(&mut self.inner)?.push(value)
     }
 }
 
@@ -122,6 +127,9 @@ impl SharedSpine {
         ensures cuts { counts_of self.new ≡ counts_of self.old }
         ensures err { OnErr result (self.new ≡ self.old) }
     {
+        if let Some(own) = Rc::get_mut(&mut self.inner) {
+            return own.set(at, value);
+        }
         let spine = Rc::make_mut(&mut self.inner)?;
         spine.set(at, value)
     }
@@ -133,6 +141,9 @@ impl SharedSpine {
         ensures ok { OnOk result (joined self.new ≡ take at (joined self.old) ++ (replicate count value ++ drop at (joined self.old))) }
         ensures err { OnErr result (self.new ≡ self.old) }
     {
+        if let Some(own) = Rc::get_mut(&mut self.inner) {
+            return own.insert(at, value, count);
+        }
         let spine = Rc::make_mut(&mut self.inner)?;
         spine.insert(at, value, count)
     }
@@ -143,6 +154,9 @@ impl SharedSpine {
         ensures ok { OnOk result (joined self.new ≡ take at (joined self.old) ++ drop (at + count) (joined self.old)) }
         ensures err { OnErr result (self.new ≡ self.old) }
     {
+        if let Some(own) = Rc::get_mut(&mut self.inner) {
+            return own.remove(at, count);
+        }
         let spine = Rc::make_mut(&mut self.inner)?;
         spine.remove(at, count)
     }

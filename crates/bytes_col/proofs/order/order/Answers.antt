@@ -1,13 +1,16 @@
-use Rattle.std.proofs.Common.{◌∙◌}
-use Rattle.bytes_col.proofs.Orders.{block_within, past_block}
+use Rattle.std.proofs.Common.{◌≡◌, sym, ap, ◌∙◌}
+use Rattle.std.specs.Ordering.{nat_cmp}
+use Rattle.std.specs.Cmp.Lexicographic.{slice_cmp}
+use Rattle.std.proofs.Common.{take, drop, length, ◌-◌}
+use Rattle.bytes_col.proofs.Orders.{past_front, behind}
 use Rattle.bytes_col.proofs.order.order.Goals as goal
 
-pub loop-at-preserved : goal.loop-at-preserved
-loop-at-preserved c =
+pub returns : goal.returns
+returns c =
     let xs = c.args.a.now in
     let ys = c.args.b.now in
-    record {
-      in_range = block_within c.loop-at.at 32 xs c.loop-at-test.ensures.long c.loop-at.invariant.in_range;
-      in_range_too = block_within c.loop-at.at 32 ys c.loop-at-test.ensures.long_too c.loop-at.invariant.in_range_too;
-      rest = past_block c.loop-at.at 32 xs ys c.loop-at-test.ensures.alike ∙ c.loop-at.invariant.rest;
-    }
+    let at = c.alike-at.result in
+    c.cmp.ensures
+    ∙ ap (λ z. slice_cmp nat_cmp z (take (length ys - at) (drop at ys))) (behind at xs)
+    ∙ ap (λ z. slice_cmp nat_cmp (drop at xs) z) (behind at ys)
+    ∙ past_front at xs ys c.alike-at.ensures.same

@@ -1,9 +1,9 @@
-use Rattle.std.proofs.Common.{sym, ◌∙◌}
+use Rattle.std.proofs.Common.{[], sym, ◌∙◌}
 use Rattle.std.proofs.lemmas.Result.{on_ok_weaker}
 use Rattle.runs.specs.Joined.{joined}
-use Rattle.runs.proofs.Joined.{same_counts, set_place}
+use Rattle.runs.proofs.Joined.{same_counts, set_place, read_place}
 use Rattle.bytes_col.proofs.Chunks.{both_ok}
-use Rattle.bytes_col.proofs.Sizes.{sizes_set}
+use Rattle.bytes_col.proofs.Sizes.{sizes_set, size_at}
 use Rattle.bytes_col.proofs.spine.Spine.set.Goals as goal
 
 pub invariant_of-self : goal.invariant_of-self
@@ -27,3 +27,8 @@ returns-clause-sizes c =
     (set_place c.self.inside.chunks.items c.args.at c.find-place.result c.index_mut-chunk.result.now
     (rw (← c.self.view_is) at c.find-place.ensures.place) c.index_mut-chunk.ensures.value c.set.new.self c.args.value.now put) sized)
     c.set.ensures.ok c.set.ensures.sizes)
+
+pub set-requires-clause-size : goal.set-requires-clause-size
+set-requires-clause-size c =
+    size_at (joined c.self.inside.chunks.items) c.args.sizes.now c.args.at _ (rw (← c.self.view_is) at c.requires.sizes) (rw (← c.self.view_is) at c.requires.at)
+    (read_place c.self.inside.chunks.items c.args.at c.find-place.result c.index_mut-chunk.result.now (rw (← c.self.view_is) at c.find-place.ensures.place) c.index_mut-chunk.ensures.value [])
