@@ -1,5 +1,5 @@
 -- Laws of bytes that are written piece by piece.
-use Rattle.std.proofs.Common.{◌≡◌, ℕ, zero, suc, ◌+◌, ◌-◌, ◌<◌, ◌≤◌, List, [], ◌∷◌, ◌++◌, length, min, Bool, cond, get_or, take, drop, inl, inr, refl, sym, ap, subst, ◌∙◌, arith}
+use Rattle.std.proofs.Common.{◌≡◌, ℕ, ◌+◌, ◌-◌, ◌<◌, ◌≤◌, List, [], ◌∷◌, ◌++◌, length, min, Bool, cond, get_or, take, drop, inl, inr, refl, sym, ap, ◌∙◌, arith}
 use Rattle.std.proofs.lemmas.Bool.{cases_lt}
 use Rattle.std.proofs.lemmas.List.{append-nil, take-append-le, length-append, length-drop, length-take-le, take_all, drop-append-le, drop-drop, drop_at, take_more, map-id}
 use Rattle.std.proofs.lemmas.List.Elements.{filter-append}

@@ -1,5 +1,5 @@
 -- Laws of a column as its segments.
-use Rattle.std.proofs.Common.{◌≡◌, ℕ, zero, suc, ◌+◌, ◌-◌, ◌<◌, ◌≤◌, ℤ, Option, List, [], ◌∷◌, ◌++◌, length, get_or, set, take, drop, max, refl, sym, ap, subst, ◌∙◌, arith, sum}
+use Rattle.std.proofs.Common.{◌≡◌, ℕ, suc, ◌+◌, ◌-◌, ◌<◌, ◌≤◌, ℤ, Option, List, [], ◌∷◌, ◌++◌, length, get_or, set, take, drop, max, refl, sym, ap, subst, ◌∙◌, arith, sum}
 use Rattle.std.proofs.lemmas.List.{append-nil, take_at, get_or_default, take_more}
 use Rattle.mk_value.specs.declared.span.Span.{Span}
 use Rattle.bit_pack.specs.declared.widths.Width.{Width}

@@ -1,15 +1,15 @@
 -- Laws of an edit and of the segments that it replaces.
-use Rattle.std.proofs.Common.{◌≡◌, ℕ, zero, suc, ◌+◌, ◌-◌, ◌%◌, ◌<◌, ◌≤◌, ◌⊎◌, inl, inr, ℤ, List, [], ◌∷◌, ◌++◌, length, get_or, take, drop, replicate, refl, sym, ap, subst, ◌∙◌, arith}
+use Rattle.std.proofs.Common.{◌≡◌, ℕ, suc, ◌+◌, ◌-◌, ◌%◌, ◌<◌, ◌≤◌, ◌⊎◌, inl, inr, ℤ, List, [], ◌∷◌, ◌++◌, length, get_or, take, drop, replicate, sym, ap, subst, ◌∙◌, arith}
 use Rattle.std.proofs.lemmas.Bool.{cases_lt}
 use Rattle.std.proofs.lemmas.List.{append_assoc, append-nil, drop_all, length-drop, length-take-le, map-append}
 use Rattle.runs.specs.declared.edit.Edit.{Edit}
 use Rattle.runs.specs.declared.edit.Touched.{Touched}
 use Rattle.runs.specs.Runs.{start_of}
-use Rattle.runs.specs.Edits.{Covers, AreApartBefore, AreApartBehind, FitsBehind, WithBefore, WithBehind, TakesNeighbors, size_after, items_after}
+use Rattle.runs.specs.Edits.{Covers, AreApartBefore, AreApartBehind, FitsBehind, TakesNeighbors, size_after, items_after}
 use Rattle.runs.specs.Joined.{joined, counts_of}
-use Rattle.runs.proofs.Counts.{sum-take-suc, sum-take-mono}
+use Rattle.runs.proofs.Counts.{sum-take-suc}
 use Rattle.runs.proofs.Lists.{take-split, drop-cons-at}
-use Rattle.runs.proofs.Joined.{joined-append, length-counts, counts-replaced}
+use Rattle.runs.proofs.Joined.{joined-append}
 use Rattle.int_col.specs.Cuts.{AreCuts, full_cuts}
 use Rattle.int_col.proofs.CutLaws.{cut_few, cut_some, cut_neighbours, full_cuts-more, AreCuts-replaced}
 use Rattle.int_col.proofs.Lists.{around}

@@ -1,10 +1,10 @@
 -- Laws of the counts of runs, and of where the runs end.
 use Rattle.std.proofs.Common.{◌≡◌, ℕ, zero, suc, ◌+◌, ◌-◌, ◌*◌, ◌<◌, ◌≤◌, List, [], ◌∷◌, ◌++◌, length, map, get_or, set, take, drop, refl, sym, ap, subst, ◌∙◌, arith, sum}
 use Rattle.std.specs.List.{All, AllByRecursion}
-use Rattle.std.proofs.lemmas.List.{set_at, length-take-le, get_or_at, take_more}
+use Rattle.std.proofs.lemmas.List.{set_at, length-take-le, get_or_at, get_or_default, take_more}
 use Rattle.std.proofs.lemmas.List.Elements.{All-head, All-tail, All-from_recursion}
 use Rattle.std.proofs.lemmas.List.Sums.{sum_by-cons, sum_by-append}
-use Rattle.runs.specs.Runs.{ends_from, counts_from, AreEnds, start_of}
+use Rattle.runs.specs.Runs.{ends_from, counts_from, AreEnds}
 use Rattle.runs.proofs.Lists.{last_parts, set_last}
 
 pub sum-cons : (c : ℕ) (cs : List ℕ) → sum (c ∷ cs) ≡ c + sum cs
@@ -110,21 +110,16 @@ pub ends_extended : (cs es : List ℕ) (last end : ℕ) → es ≡ ends_from 0 c
 ends_extended cs es last end placed len is =
     let n : ℕ = get_or cs last 0 in
     let init : List ℕ = take last cs in
+    let same : n ≡ get_or cs last n = get_or_default cs last 0 n (omega arith) in
     let front : length init ≡ last = length-take-le last cs (omega arith) in
     let first : length (ends_from 0 init) ≡ last = length-ends_from 0 init ∙ front in
     let ends : es ≡ ends_from 0 init ++ (0 + sum init + n) ∷ [] =
-    placed ∙ ap (ends_from 0) (last_parts cs n last len (same_last cs last len)) ∙ ends_from-append 0 init (n ∷ []) in
+    placed ∙ ap (ends_from 0) (last_parts cs n last len same) ∙ ends_from-append 0 init (n ∷ []) in
     let at_last : get_or es last 0 ≡ 0 + sum init + n = ap (λ z. get_or z last 0) ends ∙ get_or_at (ends_from 0 init) (0 + sum init + n) [] 0 last first in
     ap (λ z. set z last end) ends
     ∙ set_at (ends_from 0 init) (0 + sum init + n) [] end last first
     ∙ ap (λ e. ends_from 0 init ++ e ∷ []) (let e : end ≡ 0 + sum init + (n + 1) = omega (arith, is, at_last) in e)
-    ∙ sym (ap (ends_from 0) (set_last cs n (n + 1) last len (same_last cs last len)) ∙ ends_from-append 0 init ((n + 1) ∷ [])) where
-  same_last : (cs : List ℕ) (last : ℕ) → suc last ≡ length cs → get_or cs last 0 ≡ get_or cs last (get_or cs last 0)
-  same_last [] last len = absurd (omega arith)
-  same_last (c ∷ []) zero len = refl
-  same_last (c ∷ []) (suc last) len = absurd (omega arith)
-  same_last (c ∷ d ∷ cs) zero len = refl
-  same_last (c ∷ d ∷ cs) (suc last) len = same_last (d ∷ cs) last (omega arith)
+    ∙ sym (ap (ends_from 0) (set_last cs n (n + 1) last len same) ∙ ends_from-append 0 init ((n + 1) ∷ []))
 
 pub sum-extended : (cs : List ℕ) (k n : ℕ) → k < length cs → n ≡ get_or cs k 0 + 1 → sum (set cs k n) ≡ sum cs + 1
 sum-extended [] k n l is = absurd (omega arith)

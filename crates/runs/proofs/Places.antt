@@ -8,7 +8,7 @@ use Rattle.std.specs.List.{All}
 use Rattle.std.proofs.lemmas.List.Elements.{All-set}
 use Rattle.runs.specs.declared.runs.Place.{Place}
 use Rattle.runs.specs.Runs.{ends_from, counts_from, AreEnds, start_of, IsPlace}
-use Rattle.runs.proofs.Counts.{sum-cons, sum-append, sum-take-few, sum-take-suc, sum-take-mono, length-counts_from, get_or-ends_from, drop-ends_from, All-ends_from, ends_made, ends_extended, sum-extended}
+use Rattle.runs.proofs.Counts.{sum-append, sum-take-few, sum-take-suc, sum-take-mono, length-counts_from, get_or-ends_from, drop-ends_from, All-ends_from, ends_made, ends_extended, sum-extended}
 
 -- run k ends where the next begins
 pub end_at : (most : ℕ) (es : List ℕ) (k : ℕ) → AreEnds most es → k < length es → get_or es k 0 ≡ start_of (counts_from 0 es) (suc k)

@@ -40,7 +40,11 @@ pub(crate) fn first_ends(alloc: Global, ends: &[usize], count: usize) -> Result<
 }
 
 /// Adds the ends of runs of these counts, the first of which begins at `from`, and gives the last end.
-pub(crate) fn push_ends(out: &mut Vec<usize>, from: usize, counts: &[usize]) -> Result<usize, Memory>
+pub(crate) fn push_ends(
+    out: &mut Vec<usize>,
+    from: usize,
+    counts: &[usize],
+) -> Result<usize, Memory>
     requires { from + sum counts.now ≤ 16777216 }
     ensures items { OnOk result (out.new.items ≡ out.old.items ++ ends_from from counts.now) }
     ensures last { IfOk result (λ last. last ≡ from + sum counts.now) }

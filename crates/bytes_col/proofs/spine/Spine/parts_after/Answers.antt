@@ -1,4 +1,3 @@
-use Rattle.std.proofs.Common.{arith}
 use Rattle.runs.proofs.Joined.{stop_within}
 use Rattle.bytes_col.proofs.spine.Spine.parts_after.Goals as goal
 

@@ -1,4 +1,4 @@
-use Rattle.std.proofs.Common.{◌≡◌, ◌+◌, ◌-◌, ◌<◌, suc, ap, arith, rules, length}
+use Rattle.std.proofs.Common.{◌≡◌, ◌-◌, suc, arith, rules, length}
 use Rattle.std.specs.Vec.{vec_len}
 use Rattle.runs.specs.Joined.{joined}
 use Rattle.runs.proofs.Joined.{joined-pushed}

@@ -1,4 +1,4 @@
-use Rattle.std.proofs.Common.{◌≡◌, ◌<◌, ◌≤◌, ℕ, List, length, get_or, take, ap, arith}
+use Rattle.std.proofs.Common.{◌≡◌, ◌<◌, ℕ, List, length, get_or, take, ap, arith}
 use Rattle.std.proofs.lemmas.List.{length-append}
 use Rattle.bytes_col.specs.Column.{short_bytes}
 use Rattle.runs.specs.Joined.{joined}

@@ -1,4 +1,4 @@
-use Rattle.std.proofs.Common.{◌≡◌, ◌+◌, ◌-◌, ◌<◌, suc, ap, arith, rules, length, FitsSigned, w64}
+use Rattle.std.proofs.Common.{◌≡◌, ◌-◌, suc, arith, rules, length, FitsSigned, w64}
 use Rattle.std.proofs.lemmas.Int.{to_z-of_z}
 use Rattle.std.specs.Vec.{vec_len}
 use Rattle.runs.proofs.Joined.{joined-pushed}

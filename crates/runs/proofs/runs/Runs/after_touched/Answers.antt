@@ -1,4 +1,4 @@
-use Rattle.std.proofs.Common.{◌+◌, ◌-◌, ◌<◌, length, arith, rules}
+use Rattle.std.proofs.Common.{◌-◌, arith}
 use Rattle.runs.proofs.Counts.{length-counts_from}
 use Rattle.runs.proofs.Places.{run_order, end_above}
 use Rattle.runs.proofs.runs.Runs.after_touched.Goals as goal

@@ -1,6 +1,5 @@
 use Rattle.std.proofs.Common.{arith}
 use Rattle.runs.proofs.Counts.{length-counts_from}
-use Rattle.runs.proofs.Places.{start_all}
 use Rattle.runs.proofs.runs.Runs.first_touched.Goals as goal
 
 pub returns-then-at-len-clause-in_range : goal.returns-then-at-len-clause-in_range

@@ -1,5 +1,3 @@
-use Rattle.std.proofs.Common.{◌≡◌}
-use Rattle.runs.specs.Runs.{ends_from}
 use Rattle.runs.proofs.Counts.{ends_made}
 use Rattle.runs.proofs.runs.Runs.from_counts.Goals as goal
 

@@ -1,5 +1,5 @@
-use Rattle.std.proofs.Common.{ℕ, List, ◌≡◌, ◌+◌, ◌-◌, ◌^◌, ◌<◌, ◌≤◌, ◌++◌, take, drop, arith}
-use Rattle.runs.specs.Runs.{start_of, counts_from, ends_from}
+use Rattle.std.proofs.Common.{ℕ, ◌+◌, ◌-◌, ◌^◌, ◌<◌, ◌≤◌, arith}
+use Rattle.runs.specs.Runs.{start_of, counts_from}
 use Rattle.runs.proofs.Counts.{length-counts_from}
 use Rattle.runs.proofs.Places.{moved_ends}
 use Rattle.runs.proofs.Edits.{replaced_made, fresh_few}

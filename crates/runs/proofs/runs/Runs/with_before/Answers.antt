@@ -1,4 +1,4 @@
-use Rattle.std.proofs.Common.{◌-◌, ◌<◌, refl, arith}
+use Rattle.std.proofs.Common.{◌-◌, refl, arith}
 use Rattle.runs.specs.declared.edit.Touched.{Touched}
 use Rattle.runs.proofs.Counts.{sum-take-mono}
 use Rattle.runs.proofs.Edits.{size_few, covers_before, none_before, stays_before, takes_before}

@@ -1,4 +1,4 @@
-use Rattle.std.proofs.Common.{◌≡◌, ◌+◌, ◌-◌, ◌<◌, ◌≤◌, length, refl, arith}
+use Rattle.std.proofs.Common.{◌+◌, ◌<◌, ◌≤◌, length, refl, arith}
 use Rattle.runs.specs.declared.edit.Touched.{Touched}
 use Rattle.runs.proofs.Counts.{sum-take-mono, length-counts_from}
 use Rattle.runs.proofs.Places.{start_within}
