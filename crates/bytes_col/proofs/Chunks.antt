@@ -1,5 +1,5 @@
 -- Laws of a chunk's cells.
-use Rattle.std.proofs.Common.{◌≡◌, ℕ, zero, suc, ◌+◌, ◌-◌, ◌*◌, ◌<◌, ◌≤◌, List, [], ◌∷◌, ◌++◌, length, map, get_or, set, take, drop, Bool, true, false, inl, inr, refl, sym, ap, subst, ◌∙◌, Result, Ok, Err, arith}
+use Rattle.std.proofs.Common.{◌≡◌, ℕ, zero, suc, ◌+◌, ◌-◌, ◌<◌, ◌≤◌, List, [], ◌∷◌, ◌++◌, length, get_or, set, take, drop, Bool, true, false, inl, inr, refl, sym, ap, subst, ◌∙◌, Result, Ok, Err, arith}
 use Rattle.std.proofs.lemmas.List.{append_assoc, append-nil, length-append, length-map, length-set, map-append, map-set, set-get_or, get_or-map, drop-append-le, take-append-le, take-append-drop, drop-drop, take_at, drop_at, length-take-le, length-drop}
 use Rattle.std.proofs.lemmas.List.Elements.{All-append, All-get_or, All-from_recursion, All-set, All-weaker, All-head, All-tail}
 use Rattle.std.specs.Bool.{OnTrue, OnFalse}

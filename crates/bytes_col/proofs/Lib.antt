@@ -1,6 +1,5 @@
 pub mod Short
 pub mod Chunks
-pub mod Joined
 pub mod PartLaws
 pub mod Edits
 pub mod Columns

@@ -1,8 +1,7 @@
 -- Laws of the sizes of values.
-use Rattle.std.proofs.Common.{◌≡◌, ℕ, zero, suc, ◌+◌, ◌<◌, ℤ, pos, Option, Some, None, List, [], ◌∷◌, ◌++◌, length, map, get_or, set, take, drop, replicate, refl, sym, ap, ◌∙◌, arith}
+use Rattle.std.proofs.Common.{◌≡◌, ℕ, zero, suc, ◌+◌, ◌<◌, pos, Some, None, List, [], ◌∷◌, ◌++◌, length, get_or, set, take, drop, replicate, refl, sym, ap, ◌∙◌, arith}
 use Rattle.std.proofs.lemmas.List.{length-map, map-append, map-set, set-get_or, get_or-map, take-map, drop-map}
 use Rattle.std.proofs.lemmas.Option.{slice_get-get_or, slice_get_within, get_or_from_slice_get}
-use Rattle.mk_value.specs.declared.span.Span.{Span}
 use Rattle.int_col.specs.Column.{Column as Integers, home_after}
 use Rattle.bytes_col.specs.Column.{sizes_of}
 use Rattle.bytes_col.specs.Chunk.{HasSize}

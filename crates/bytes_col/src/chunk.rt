@@ -126,6 +126,7 @@ impl Chunk {
     }
 
     /// Adds a value, and its size.
+    #[inline]
     pub(crate) fn push(&mut self, value: &[u8], sizes: &mut IntCol) -> Result<(), Memory>
         requires room { length self.old < 512 }
         requires few { length sizes.old.values < 16777216 }
@@ -270,6 +271,7 @@ fn short_size(value: &[u8]) -> usize
 }
 
 /// The cell of a value, whose bytes are written behind those that are there, if it is short.
+#[inline]
 fn stage(bytes: &mut Vec<u8>, value: &[u8]) -> Result<Cell, Memory>
     ensures value { IfOk result (λ cell. cell_value bytes.new.items cell ≡ value.now) }
     ensures cell { IfOk result (λ cell. IsCell bytes.new.items cell) }

@@ -87,8 +87,8 @@ packed_len-more w n = ceil_rises (n * bit_count w) ((n + 1) * bit_count w) (omeg
   ceil_rises a b le = omega arith
 
 -- a segment with one more value, put where zeros were added
-pub pushed_segment : (count len was : ℕ) (w : Width) (bytes longer new : List ℕ) (vs : List ℤ) (v : ℤ) → IsSegment count w bytes → values_from w bytes 0 count ≡ vs → count < 2048 → Holds w v → len ≡ packed_len w (count + 1) → was ≡ length bytes → longer ≡ take len bytes ++ replicate (len - was) 0 → ((values : List ℤ) → PackedAt w values longer → count < length values → PackedAt w (set values count v) new) → IsSegment (count + 1) w new × (values_from w new 0 (count + 1) ≡ vs ++ v ∷ [])
-pushed_segment count len was w bytes longer new vs v h view room holds is_len before_len grown put =
+pub pushed_segment : (count len : ℕ) (w : Width) (bytes longer new : List ℕ) (vs : List ℤ) (v : ℤ) → IsSegment count w bytes → values_from w bytes 0 count ≡ vs → count < 2048 → Holds w v → len ≡ packed_len w (count + 1) → longer ≡ take len bytes ++ replicate (len - length bytes) 0 → ((values : List ℤ) → PackedAt w values longer → count < length values → PackedAt w (set values count v) new) → IsSegment (count + 1) w new × (values_from w new 0 (count + 1) ≡ vs ++ v ∷ [])
+pushed_segment count len w bytes longer new vs v h view room holds is_len grown put =
     let n : count ≡ length vs = count_is count w bytes vs view in
     let P : List ℤ → Type 0 = λ xs. PackedAt w xs bytes in
     let before : PackedAt w vs bytes = subst P view h.packed.packed in
@@ -98,7 +98,7 @@ pushed_segment count len was w bytes longer new vs v h view room holds is_len be
     let fits : length bytes ≤ len = omega (arith, before.len, reach, packed_len-more w (length vs)) in
     let R : List ℕ → Type 0 = λ bs. PackedAt w (vs ++ pos 0 ∷ []) bs in
     let zeros : PackedAt w (vs ++ pos 0 ∷ []) longer =
-    subst R (sym (grown ∙ ap (λ n. take len bytes ++ replicate (len - n) 0) before_len ∙ ap (λ bs. bs ++ replicate (len - length bytes) 0) (take_all len bytes fits)))
+    subst R (sym (grown ∙ ap (λ bs. bs ++ replicate (len - length bytes) 0) (take_all len bytes fits)))
     (packed-zero_more w vs bytes (len - length bytes) before (omega (arith, fits, reach))) in
     let S : List ℤ → Type 0 = λ xs. PackedAt w xs new in
     let after : PackedAt w (vs ++ v ∷ []) new = subst S (pushed_value vs v count n) (put (vs ++ pos 0 ∷ []) zeros (omega (arith, n, length_push vs (pos 0)))) in

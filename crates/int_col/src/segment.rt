@@ -1,5 +1,5 @@
 //! A run of values, packed.
-ghost use Rattle.std.specs.Prelude.{◌≡◌, ◌≢◌, ℕ, ℤ, pos, ◌+◌, ◌<◌, ◌≤◌, [], ◌∷◌, ◌++◌, length, slice_get, slice_set, slice_index_or, take, drop, Some, IfOk, OnOk, OnErr};
+ghost use Rattle.std.specs.Prelude.{◌≡◌, ◌≢◌, ℕ, ℤ, pos, ◌+◌, ◌-◌, ◌<◌, ◌≤◌, [], ◌∷◌, ◌++◌, length, slice_get, slice_set, slice_index_or, take, drop, replicate, Some, IfOk, OnOk, OnErr};
 ghost use Rattle.std.specs.Bool.{OnTrue};
 ghost use Rattle.bit_pack.specs.declared.widths.Width.{Width};
 ghost use Rattle.bit_pack.specs.Width.{Holds, HoldsAll, IsLeastWidth};
@@ -192,15 +192,30 @@ impl Segment {
     }
 
     /// Adds a value that the segment takes.
+    #[inline]
     pub(crate) fn push(&mut self, value: i64) -> Result<(), Memory>
         requires { Takes self.old value }
         ensures ok { OnOk result (self.new ≡ self.old ++ value ∷ []) }
         ensures err { OnErr result (self.new ≡ self.old) }
     {
         let len = self.width.packed_len(self.count + 1);
-        self.bytes.resize(len, 0)?;
+        lengthen(&mut self.bytes, len)?;
         bit_pack::put(self.width, &mut self.bytes, self.count, value);
         self.count += 1;
         Ok(())
     }
+}
+
+/// Lengthens the bytes by zeros. Most widths take one more byte at the most, and one is sooner pushed than filled in.
+#[inline]
+fn lengthen(bytes: &mut Vec<u8>, len: usize) -> Result<(), Memory>
+    ensures ok { OnOk result (bytes.new.items ≡ take len bytes.old.items ++ replicate (len - length bytes.old.items) 0) }
+    ensures err { OnErr result (bytes.new.items ≡ bytes.old.items) }
+{
+    if len == bytes.len() + 1 {
+        bytes.push(0)?;
+    } else {
+        bytes.resize(len, 0)?;
+    }
+    Ok(())
 }

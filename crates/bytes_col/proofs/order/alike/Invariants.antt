@@ -1,4 +1,4 @@
-use Rattle.std.proofs.Common.{◌≡◌, ◌+◌, ◌-◌, ◌≤◌, take}
+use Rattle.std.proofs.Common.{◌≡◌, ◌-◌, ◌≤◌, take}
 use Rattle.bytes_col.proofs.order.alike.Given as goal
 
 abbrev pub invariant-loop-at : goal.invariant-loop-at

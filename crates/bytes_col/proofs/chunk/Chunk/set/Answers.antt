@@ -1,4 +1,3 @@
-use Rattle.std.proofs.Common.{ap, length, map}
 use Rattle.bytes_col.proofs.Sizes.{size_stays, row_within}
 use Rattle.bytes_col.proofs.chunk.Chunk.set.Goals as goal
 

@@ -1,4 +1,4 @@
-use Rattle.std.proofs.Common.{◌≡◌, ◌++◌, ◌∷◌, [], ℕ, cond, get_or, sym, ap, ◌∙◌}
+use Rattle.std.proofs.Common.{◌++◌, ◌∷◌, [], cond, get_or, sym, ap, ◌∙◌}
 use Rattle.std.specs.Prelude.{not}
 use Rattle.bytes_col.specs.Column.{is_short}
 use Rattle.bytes_col.proofs.Fills.{rows_more}

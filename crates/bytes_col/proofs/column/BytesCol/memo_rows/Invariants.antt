@@ -1,4 +1,4 @@
-use Rattle.std.proofs.Common.{◌≡◌, ℕ, [], get_or}
+use Rattle.std.proofs.Common.{◌≡◌, [], get_or}
 use Rattle.std.specs.Prelude.{not}
 use Rattle.std.specs.List.{filter, range_with_len}
 use Rattle.bytes_col.specs.Column.{is_short}

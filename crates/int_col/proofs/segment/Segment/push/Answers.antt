@@ -1,7 +1,6 @@
 use Rattle.std.proofs.Common.{◌≡◌, ◌∙◌, ◌+◌, ◌<◌, ap, FitsSigned, w64, rules, arith, length}
 use Rattle.std.proofs.lemmas.Int.{to_z-of_z}
 use Rattle.std.proofs.lemmas.List.{take_at}
-use Rattle.std.specs.Vec.{vec_len}
 use Rattle.bit_pack.specs.Packed.{values_from}
 use Rattle.int_col.proofs.Segments.{count_is, pushed_segment}
 use Rattle.int_col.proofs.segment.Segment.push.Goals as goal
@@ -11,23 +10,21 @@ invariant_of-self-2 c =
     let fits : FitsSigned w64 c.args.value = search rules in
     let n = count_is c.self.inside.count c.self.inside.width c.self.inside.bytes.items c.args.self.now c.self.view_is in
     let room : c.self.inside.count < 2048 = omega (arith, c.requires.room) in
-    let len : length c.put.new.bytes ≡ c.resize.new.self.len = omega (arith, c.put.auto.bytes, c.deref_mut.ensures.len) in
+    let len : length c.put.new.bytes ≡ c.lengthen.new.bytes.len = omega (arith, c.put.auto.bytes, c.deref_mut.ensures.len) in
     let put = rw (c.deref_mut.ensures.value, to_z-of_z w64 c.args.value fits) at c.put.ensures in
-    let was : vec_len c.self.inside.bytes ≡ length c.self.inside.bytes.items = search rules in
     let held = c.requires.holds c.self.inside.width (rw c.self.view_is at c.self.invariant.packed.least) in
     rw take_at
-    (pushed_segment c.self.inside.count c.packed_len-len.result (vec_len c.self.inside.bytes) c.self.inside.width c.self.inside.bytes.items c.resize.new.self.items c.put.new.bytes c.args.self.now c.args.value
-    c.self.invariant c.self.view_is room held c.packed_len-len.ensures was c.in_ok-resize.ensures.items put).0
+    (pushed_segment c.self.inside.count c.packed_len-len.result c.self.inside.width c.self.inside.bytes.items c.lengthen.new.bytes.items c.put.new.bytes c.args.self.now c.args.value
+    c.self.invariant c.self.view_is room held c.packed_len-len.ensures c.in_ok-lengthen.ensures.ok put).0
 
 pub returns-clause-ok : goal.returns-clause-ok
 returns-clause-ok c =
     let fits : FitsSigned w64 c.args.value = search rules in
     let n = count_is c.self.inside.count c.self.inside.width c.self.inside.bytes.items c.args.self.now c.self.view_is in
     let room : c.self.inside.count < 2048 = omega (arith, c.requires.room) in
-    let len : length c.put.new.bytes ≡ c.resize.new.self.len = omega (arith, c.put.auto.bytes, c.deref_mut.ensures.len) in
+    let len : length c.put.new.bytes ≡ c.lengthen.new.bytes.len = omega (arith, c.put.auto.bytes, c.deref_mut.ensures.len) in
     let put = rw (c.deref_mut.ensures.value, to_z-of_z w64 c.args.value fits) at c.put.ensures in
-    let was : vec_len c.self.inside.bytes ≡ length c.self.inside.bytes.items = search rules in
     let held = c.requires.holds c.self.inside.width (rw c.self.view_is at c.self.invariant.packed.least) in
-    ap (λ bytes. values_from c.self.inside.width bytes 0 (c.self.inside.count + 1)) (take_at c.put.new.bytes _ c.resize.new.self.len len)
-    ∙ (pushed_segment c.self.inside.count c.packed_len-len.result (vec_len c.self.inside.bytes) c.self.inside.width c.self.inside.bytes.items c.resize.new.self.items c.put.new.bytes c.args.self.now c.args.value
-    c.self.invariant c.self.view_is room held c.packed_len-len.ensures was c.in_ok-resize.ensures.items put).1
+    ap (λ bytes. values_from c.self.inside.width bytes 0 (c.self.inside.count + 1)) (take_at c.put.new.bytes _ c.lengthen.new.bytes.len len)
+    ∙ (pushed_segment c.self.inside.count c.packed_len-len.result c.self.inside.width c.self.inside.bytes.items c.lengthen.new.bytes.items c.put.new.bytes c.args.self.now c.args.value
+    c.self.invariant c.self.view_is room held c.packed_len-len.ensures c.in_ok-lengthen.ensures.ok put).1
