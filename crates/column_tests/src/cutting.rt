@@ -153,6 +153,6 @@ fn runs_in_place_of_others(rt: HostRuntime) -> Result<(), Fail> {
 fn parts_in_place_of_others(rt: HostRuntime) -> Result<(), Fail> {
     let mut parts = Vec::from_slice(rt.alloc(), &[1u8, 2, 3, 4])?;
     replace_parts(&mut parts, 1, 3, Vec::from_slice(rt.alloc(), &[9])?)?;
-    assert!(rt; parts.as_slice() == &[1, 9, 4]);
+    assert!(rt; parts.as_slice() == [1, 9, 4].as_slice());
     Ok(())
 }
