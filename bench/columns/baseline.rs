@@ -423,14 +423,22 @@ impl Spine<Chunk> {
 }
 
 #[derive(Clone)]
+struct BytesHome {
+    _sizes: (u64, u64),
+    _short: (u64, u64),
+    _memos: Vec<(u64, u64)>,
+}
+
+#[derive(Clone)]
 struct BytesCol {
     spine: Rc<Spine<Chunk>>,
     sizes: IntCol,
+    home: Option<BytesHome>,
 }
 
 impl BytesCol {
     fn new() -> BytesCol {
-        BytesCol { spine: Rc::new(Spine::new()), sizes: IntCol::new() }
+        BytesCol { spine: Rc::new(Spine::new()), sizes: IntCol::new(), home: None }
     }
     fn len(&self) -> usize {
         self.spine.len()
@@ -447,6 +455,7 @@ impl BytesCol {
             chunk.put(offset, value);
             self.sizes.set(at, value.len() as i64);
         }
+        self.home = None;
     }
     fn insert(&mut self, at: usize, value: &[u8], count: usize) {
         let spine = Rc::make_mut(&mut self.spine);
@@ -458,10 +467,12 @@ impl BytesCol {
             spine.replace(at, at, value, count);
         }
         self.sizes.insert(at, value.len() as i64, count);
+        self.home = None;
     }
     fn remove(&mut self, at: usize, count: usize) {
         Rc::make_mut(&mut self.spine).replace(at, at + count, &[], 0);
         self.sizes.remove(at, count);
+        self.home = None;
     }
 }
 

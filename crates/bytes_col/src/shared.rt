@@ -51,6 +51,27 @@ impl SharedChunk {
         &self.inner
     }
 
+    /// Sees to it that the chunk has no other owner: a copy takes its place where it has.
+    #[inline(always)]
+    fn make_own(&mut self) -> Result<(), Memory>
+        ensures { self.new ≡ self.old }
+    {
+        if let Some(_own) = Rc::get_mut(&mut self.inner) {
+            return Ok(());
+        }
+        self.make_copy()
+    }
+
+    /// Puts a copy in place of the chunk, whose other owners keep it.
+    #[cold]
+    #[inline(never)]
+    fn make_copy(&mut self) -> Result<(), Memory>
+        ensures { self.new ≡ self.old }
+    {
+        Rc::make_mut(&mut self.inner)?;
+        Ok(())
+    }
+
     /// Adds a value, and its size.
     pub(crate) fn push(&mut self, value: &[u8], sizes: &mut IntCol) -> Result<(), Memory>
         requires room { length self.old < 512 }
@@ -61,10 +82,11 @@ impl SharedChunk {
         ensures err { OnErr result (self.new ≡ self.old) }
         ensures sizes_err { OnErr result (sizes.new ≡ sizes.old) }
     {
-        if let Some(own) = Rc::get_mut(&mut self.inner) {
-            return own.push(value, sizes);
+        self.make_own()?;
+        match Rc::get_mut(&mut self.inner) {
+            Some(chunk) => chunk.push(value, sizes),
+            None => Err(Memory),
         }
-        Rc::make_mut(&mut self.inner)?.push(value, sizes)
     }
 
     /// Sets a value, and its size.
@@ -83,10 +105,11 @@ impl SharedChunk {
         ensures err { OnErr result (self.new ≡ self.old) }
         ensures sizes_err { OnErr result (sizes.new ≡ sizes.old) }
     {
-        if let Some(own) = Rc::get_mut(&mut self.inner) {
-            return own.set(at, value, sizes, row);
+        self.make_own()?;
+        match Rc::get_mut(&mut self.inner) {
+            Some(chunk) => chunk.set(at, value, sizes, row),
+            None => Err(Memory),
         }
-        Rc::make_mut(&mut self.inner)?.set(at, value, sizes, row)
     }
 }
 
@@ -132,6 +155,27 @@ impl SharedSpine {
         &self.inner
     }
 
+    /// Sees to it that the spine has no other owner: a copy takes its place where it has.
+    #[inline(always)]
+    fn make_own(&mut self) -> Result<(), Memory>
+        ensures { self.new ≡ self.old }
+    {
+        if let Some(_own) = Rc::get_mut(&mut self.inner) {
+            return Ok(());
+        }
+        self.make_copy()
+    }
+
+    /// Puts a copy in place of the spine, whose other owners keep it.
+    #[cold]
+    #[inline(never)]
+    fn make_copy(&mut self) -> Result<(), Memory>
+        ensures { self.new ≡ self.old }
+    {
+        Rc::make_mut(&mut self.inner)?;
+        Ok(())
+    }
+
     /// Sets a value, and its size.
     pub(crate) fn set(&mut self, at: usize, value: &[u8], sizes: &mut IntCol) -> Result<(), Memory>
         requires at { at < length (joined self.old) }
@@ -141,11 +185,11 @@ impl SharedSpine {
         ensures err { OnErr result (self.new ≡ self.old) }
         ensures sizes_err { OnErr result (sizes.new ≡ sizes.old) }
     {
-        if let Some(own) = Rc::get_mut(&mut self.inner) {
-            return own.set(at, value, sizes);
+        self.make_own()?;
+        match Rc::get_mut(&mut self.inner) {
+            Some(spine) => spine.set(at, value, sizes),
+            None => Err(Memory),
         }
-        let spine = Rc::make_mut(&mut self.inner)?;
-        spine.set(at, value, sizes)
     }
 
     /// Inserts copies of a value before a place, or at the end, and their sizes.
@@ -164,11 +208,11 @@ impl SharedSpine {
         ensures err { OnErr result (self.new ≡ self.old) }
         ensures sizes_err { OnErr result (sizes.new ≡ sizes.old) }
     {
-        if let Some(own) = Rc::get_mut(&mut self.inner) {
-            return own.insert(at, value, count, sizes);
+        self.make_own()?;
+        match Rc::get_mut(&mut self.inner) {
+            Some(spine) => spine.insert(at, value, count, sizes),
+            None => Err(Memory),
         }
-        let spine = Rc::make_mut(&mut self.inner)?;
-        spine.insert(at, value, count, sizes)
     }
 
     /// Removes values from a place on, and their sizes.
@@ -185,10 +229,10 @@ impl SharedSpine {
         ensures err { OnErr result (self.new ≡ self.old) }
         ensures sizes_err { OnErr result (sizes.new ≡ sizes.old) }
     {
-        if let Some(own) = Rc::get_mut(&mut self.inner) {
-            return own.remove(at, count, sizes);
+        self.make_own()?;
+        match Rc::get_mut(&mut self.inner) {
+            Some(spine) => spine.remove(at, count, sizes),
+            None => Err(Memory),
         }
-        let spine = Rc::make_mut(&mut self.inner)?;
-        spine.remove(at, count, sizes)
     }
 }

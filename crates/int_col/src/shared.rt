@@ -52,16 +52,38 @@ impl SharedSegment {
         &self.inner
     }
 
+    /// Sees to it that the segment has no other owner: a copy takes its place where it has.
+    #[inline(always)]
+    fn make_own(&mut self) -> Result<(), Memory>
+        ensures { self.new ≡ self.old }
+    {
+        if let Some(_own) = Rc::get_mut(&mut self.inner) {
+            return Ok(());
+        }
+        self.make_copy()
+    }
+
+    /// Puts a copy in place of the segment, whose other owners keep it.
+    #[cold]
+    #[inline(never)]
+    fn make_copy(&mut self) -> Result<(), Memory>
+        ensures { self.new ≡ self.old }
+    {
+        Rc::make_mut(&mut self.inner)?;
+        Ok(())
+    }
+
     pub(crate) fn set(&mut self, at: usize, value: i64) -> Result<(), Memory>
         requires { at < length self.old }
         ensures ok { OnOk result (self.new ≡ slice_set self.old at value) }
         ensures len { length self.new ≡ length self.old }
         ensures err { OnErr result (self.new ≡ self.old) }
     {
-        if let Some(own) = Rc::get_mut(&mut self.inner) {
-            return own.set(at, value);
+        self.make_own()?;
+        match Rc::get_mut(&mut self.inner) {
+            Some(segment) => segment.set(at, value),
+            None => Err(Memory),
         }
-        Rc::make_mut(&mut self.inner)?.set(at, value)
     }
 
     /// Adds a value that the segment takes.
@@ -70,10 +92,11 @@ impl SharedSegment {
         ensures ok { OnOk result (self.new ≡ self.old ++ value ∷ []) }
         ensures err { OnErr result (self.new ≡ self.old) }
     {
-        if let Some(own) = Rc::get_mut(&mut self.inner) {
-            return own.push(value);
+        self.make_own()?;
+        match Rc::get_mut(&mut self.inner) {
+            Some(segment) => segment.push(value),
+            None => Err(Memory),
         }
-        Rc::make_mut(&mut self.inner)?.push(value)
     }
 }
 
@@ -120,6 +143,27 @@ impl SharedSpine {
         &self.inner
     }
 
+    /// Sees to it that the spine has no other owner: a copy takes its place where it has.
+    #[inline(always)]
+    fn make_own(&mut self) -> Result<(), Memory>
+        ensures { self.new ≡ self.old }
+    {
+        if let Some(_own) = Rc::get_mut(&mut self.inner) {
+            return Ok(());
+        }
+        self.make_copy()
+    }
+
+    /// Puts a copy in place of the spine, whose other owners keep it.
+    #[cold]
+    #[inline(never)]
+    fn make_copy(&mut self) -> Result<(), Memory>
+        ensures { self.new ≡ self.old }
+    {
+        Rc::make_mut(&mut self.inner)?;
+        Ok(())
+    }
+
     /// Sets one value.
     pub(crate) fn set(&mut self, at: usize, value: i64) -> Result<(), Memory>
         requires { at < length (joined self.old) }
@@ -127,11 +171,11 @@ impl SharedSpine {
         ensures cuts { counts_of self.new ≡ counts_of self.old }
         ensures err { OnErr result (self.new ≡ self.old) }
     {
-        if let Some(own) = Rc::get_mut(&mut self.inner) {
-            return own.set(at, value);
+        self.make_own()?;
+        match Rc::get_mut(&mut self.inner) {
+            Some(spine) => spine.set(at, value),
+            None => Err(Memory),
         }
-        let spine = Rc::make_mut(&mut self.inner)?;
-        spine.set(at, value)
     }
 
     /// Inserts copies of a value before a place, or at the end.
@@ -141,11 +185,11 @@ impl SharedSpine {
         ensures ok { OnOk result (joined self.new ≡ take at (joined self.old) ++ (replicate count value ++ drop at (joined self.old))) }
         ensures err { OnErr result (self.new ≡ self.old) }
     {
-        if let Some(own) = Rc::get_mut(&mut self.inner) {
-            return own.insert(at, value, count);
+        self.make_own()?;
+        match Rc::get_mut(&mut self.inner) {
+            Some(spine) => spine.insert(at, value, count),
+            None => Err(Memory),
         }
-        let spine = Rc::make_mut(&mut self.inner)?;
-        spine.insert(at, value, count)
     }
 
     /// Removes values from a place on.
@@ -154,10 +198,10 @@ impl SharedSpine {
         ensures ok { OnOk result (joined self.new ≡ take at (joined self.old) ++ drop (at + count) (joined self.old)) }
         ensures err { OnErr result (self.new ≡ self.old) }
     {
-        if let Some(own) = Rc::get_mut(&mut self.inner) {
-            return own.remove(at, count);
+        self.make_own()?;
+        match Rc::get_mut(&mut self.inner) {
+            Some(spine) => spine.remove(at, count),
+            None => Err(Memory),
         }
-        let spine = Rc::make_mut(&mut self.inner)?;
-        spine.remove(at, count)
     }
 }
