@@ -96,6 +96,67 @@ fn order(rt: HostRuntime) -> Result<(), Fail> {
     Ok(())
 }
 
+/// Asserts that the column's one value is less than the text with a greater byte at any place, greater than the text with a less
+/// one or cut off there, and equal to the text itself.
+fn differs_at_each_place<R: Abort>(
+    rt: &R,
+    column: &BytesCol,
+    text: &mut [u8],
+) -> Result<(), Fail> {
+    assert!(rt; column.len() == 1);
+    assert!(rt; column.cmp_with(0, text) == Ordering::Equal);
+    for at in 0..text.len() {
+        let byte = text[at];
+        text[at] = b'n';
+        assert!(rt; column.cmp_with(0, text) == Ordering::Less, "at {at}");
+        text[at] = b'l';
+        assert!(rt; column.cmp_with(0, text) == Ordering::Greater, "at {at}");
+        text[at] = byte;
+        assert!(rt; column.cmp_with(0, &text[..at]) == Ordering::Greater, "at {at}");
+    }
+    Ok(())
+}
+
+/// One byte decides, wherever it stands in the blocks in which texts are compared.
+#[test]
+fn order_by_one_byte(rt: HostRuntime) -> Result<(), Fail> {
+    for len in [1, 31, 32, 33, 63, 64, 65, 100, 513] {
+        let mut text = vec![in rt.alloc(); b'm'; len]?;
+        let value = Bytes::from_slice(rt.alloc(), &text)?;
+        let column = BytesCol::from_values(rt.alloc(), &[value], None)?;
+        differs_at_each_place(&rt, &column, &mut text)?;
+    }
+    Ok(())
+}
+
+/// Asserts that these are the values of the column.
+fn hold<R: Abort>(rt: &R, column: &BytesCol, values: &[&[u8]]) -> Result<(), Fail> {
+    assert!(rt; column.len() == values.len());
+    for (at, value) in values.iter().enumerate() {
+        holds(rt, column, at, value)?;
+    }
+    Ok(())
+}
+
+/// A value is set to others of its size, and each other value stays: those beside it, a memo that shares its bytes, and those of a copy.
+#[test]
+fn set_to_the_same_size(rt: HostRuntime) -> Result<(), Fail> {
+    let mut column = of_all_sizes(rt.alloc())?;
+    assert!(rt; column.len() == 4);
+    column.insert(4, &MEMO, 2)?;
+    let copy = column.same()?;
+    let memo = [b'y'; 513];
+    for value in [b"x", b"w"] {
+        assert!(rt; column.len() == 6);
+        column.set(1, value)?;
+        assert!(rt; column.len() == 6);
+        column.set(4, &memo)?;
+        hold(&rt, &column, &[b"", value, &SHORT, &MEMO, &memo, &MEMO])?;
+        hold(&rt, &copy, &[b"", b"b", &SHORT, &MEMO, &MEMO, &MEMO])?;
+    }
+    Ok(())
+}
+
 /// A home whose one memo stands at a place.
 fn home(alloc: Global, place: u64) -> Result<BytesHome, Fail> {
     let memo = Span { place, len: 513 };
