@@ -567,8 +567,11 @@ fn time_texts(text: &[u8], count: usize) {
         column.set(random.place(column.len()), text);
         black_box(&copy);
     });
+    let mut copies = Vec::with_capacity(count);
+    let alone = timed(count, || copies.push(Rc::new(text.to_vec())));
+    black_box(&copies);
     println!(
-        "{} bytes: append {append:.1} order {order:.1} random {at_random:.1} compare {compare:.1} set {set:.1} set_random {set_at_random:.1} set_longer {set_longer:.1} insert {insert:.0} remove {remove:.0} shared {shared:.0} ({sum})",
+        "{} bytes: append {append:.1} order {order:.1} random {at_random:.1} compare {compare:.1} set {set:.1} set_random {set_at_random:.1} set_longer {set_longer:.1} insert {insert:.0} remove {remove:.0} shared {shared:.0} alone {alone:.1} ({sum})",
         text.len()
     );
 }
