@@ -5,8 +5,8 @@
 //! than 512 bytes, in memory of its own. Copies share the chunks and the spine that lists them; an edit copies the chunks it
 //! touches and the spine, and only where they are shared. The sizes of the values are a column of integers.
 //!
-//! It stands on `int_col` for the sizes, and knows nothing of files: a home is only kept. What the bytes mean is not its
-//! business either; a text is kept as its bytes.
+//! It stands on `int_col` for the sizes and on `runs` for where chunks end and which ones an edit replaces. It knows nothing
+//! of files: a home is only kept. What the bytes mean is not its business either; a text is kept as its bytes.
 #![tactic(auto)]
 
 mod cell;

@@ -5,7 +5,8 @@
 //! the segments and the spine that lists them; an edit copies the segments it touches and the spine, and only
 //! where they are shared.
 //!
-//! It stands on `bit_pack`, which says what packed bytes are, and knows nothing of files: a home is only kept.
+//! It stands on `bit_pack`, which says what packed bytes are, and on `runs`, which says where segments end and which
+//! ones an edit replaces. It knows nothing of files: a home is only kept.
 #![tactic(auto)]
 
 mod column;

@@ -41,7 +41,7 @@ impl Clone for Spine {
 
     fn clone(&self) -> Result<Spine, AllocError> {
         Ok(Spine {
-            segments: clones(*self.segments.allocator(), &self.segments)?,
+            segments: Vec::from_clones(*self.segments.allocator(), &self.segments)?,
             runs: self.runs.clone()?,
         })
     }
@@ -264,17 +264,6 @@ impl Spine {
         self.runs = runs;
         Ok(())
     }
-}
-
-/// Owners of the same segments.
-fn clones(alloc: Global, segments: &[SharedSegment]) -> Result<Vec<SharedSegment>, AllocError>
-    ensures { IfOk result (λ copies. copies.items ≡ segments.now) }
-{
-    let mut copies = Vec::with_capacity(alloc, segments.len())?;
-    for shared in segments {
-        copies.push(shared.clone()?)?;
-    }
-    Ok(copies)
 }
 
 /// The least width that holds the values of all segments.

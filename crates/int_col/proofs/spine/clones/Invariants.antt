@@ -1,5 +1,0 @@
-use Rattle.std.proofs.Common.{◌≡◌, take}
-use Rattle.int_col.proofs.spine.clones.Given as goal
-
-abbrev pub invariant-loop-shared : goal.invariant-loop-shared
-invariant-loop-shared l = l.copies.items ≡ take l.shared-index l.segments
