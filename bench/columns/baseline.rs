@@ -569,9 +569,11 @@ fn time_texts(text: &[u8], count: usize) {
     });
     let mut copies = Vec::with_capacity(count);
     let alone = timed(count, || copies.push(Rc::new(text.to_vec())));
+    let mut kept = copies.iter_mut();
+    let over = timed(count, || Rc::get_mut(kept.next().unwrap()).unwrap().copy_from_slice(black_box(text)));
     black_box(&copies);
     println!(
-        "{} bytes: append {append:.1} order {order:.1} random {at_random:.1} compare {compare:.1} set {set:.1} set_random {set_at_random:.1} set_longer {set_longer:.1} insert {insert:.0} remove {remove:.0} shared {shared:.0} alone {alone:.1} ({sum})",
+        "{} bytes: append {append:.1} order {order:.1} random {at_random:.1} compare {compare:.1} set {set:.1} set_random {set_at_random:.1} set_longer {set_longer:.1} insert {insert:.0} remove {remove:.0} shared {shared:.0} alone {alone:.1} over {over:.1} ({sum})",
         text.len()
     );
 }
