@@ -47,6 +47,7 @@ short_size u v same = of u ∙ ap (λ n. cond (nat_le n 512) n 0) same ∙ sym (
     go : (b : Bool) (w : List ℕ) → length (concat (cond b (w ∷ []) [])) ≡ cond b (length w) 0
     go true w = ap length (append-nil w)
     go false w = refl
+
     of : (w : List ℕ) → length (short_bytes (w ∷ [])) ≡ cond (nat_le (length w) 512) (length w) 0
     of w = go (nat_le (length w) 512) w
 

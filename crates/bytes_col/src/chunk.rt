@@ -210,13 +210,7 @@ impl Chunk {
     }
 
     /// Puts a value in place of another, and its size.
-    fn put(
-        &mut self,
-        at: usize,
-        value: &[u8],
-        sizes: &mut IntCol,
-        row: usize,
-    ) -> Result<(), Memory>
+    fn put(&mut self, at: usize, value: &[u8], sizes: &mut IntCol, row: usize) -> Result<(), Memory>
         requires at { at < length self.old }
         requires row { row < length sizes.old.values }
         ensures ok { OnOk result (self.new ≡ slice_set self.old at value.now) }

@@ -98,11 +98,7 @@ fn order(rt: HostRuntime) -> Result<(), Fail> {
 
 /// Asserts that the column's one value is less than the text with a greater byte at any place, greater than the text with a less
 /// one or cut off there, and equal to the text itself.
-fn differs_at_each_place<R: Abort>(
-    rt: &R,
-    column: &BytesCol,
-    text: &mut [u8],
-) -> Result<(), Fail> {
+fn differs_at_each_place<R: Abort>(rt: &R, column: &BytesCol, text: &mut [u8]) -> Result<(), Fail> {
     assert!(rt; column.len() == 1);
     assert!(rt; column.cmp_with(0, text) == Ordering::Equal);
     for at in 0..text.len() {
@@ -112,7 +108,10 @@ fn differs_at_each_place<R: Abort>(
         text[at] = b'l';
         assert!(rt; column.cmp_with(0, text) == Ordering::Greater, "at {at}");
         text[at] = byte;
-        assert!(rt; column.cmp_with(0, &text[..at]) == Ordering::Greater, "at {at}");
+        assert!(rt;
+            column.cmp_with(0, &text[..at]) == Ordering::Greater,
+            "at {at}"
+        );
     }
     Ok(())
 }
