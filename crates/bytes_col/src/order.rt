@@ -37,7 +37,7 @@ fn alike(a: &[u8], b: &[u8]) -> usize
         at += BLOCK;
     }
     if at < last || !block_is_same(a, b, last) {
-        return at.min(last);
+        return at;
     }
     both
 }

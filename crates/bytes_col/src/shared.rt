@@ -85,6 +85,7 @@ impl SharedChunk {
         self.make_own()?;
         match Rc::get_mut(&mut self.inner) {
             Some(chunk) => chunk.push(value, sizes),
+            // Not reached: it has one owner.
             None => Err(Memory),
         }
     }
@@ -108,6 +109,7 @@ impl SharedChunk {
         self.make_own()?;
         match Rc::get_mut(&mut self.inner) {
             Some(chunk) => chunk.set(at, value, sizes, row),
+            // Not reached: it has one owner.
             None => Err(Memory),
         }
     }
@@ -188,6 +190,7 @@ impl SharedSpine {
         self.make_own()?;
         match Rc::get_mut(&mut self.inner) {
             Some(spine) => spine.set(at, value, sizes),
+            // Not reached: it has one owner.
             None => Err(Memory),
         }
     }
@@ -211,6 +214,7 @@ impl SharedSpine {
         self.make_own()?;
         match Rc::get_mut(&mut self.inner) {
             Some(spine) => spine.insert(at, value, count, sizes),
+            // Not reached: it has one owner.
             None => Err(Memory),
         }
     }
@@ -232,6 +236,7 @@ impl SharedSpine {
         self.make_own()?;
         match Rc::get_mut(&mut self.inner) {
             Some(spine) => spine.remove(at, count, sizes),
+            // Not reached: it has one owner.
             None => Err(Memory),
         }
     }

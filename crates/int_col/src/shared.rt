@@ -82,6 +82,7 @@ impl SharedSegment {
         self.make_own()?;
         match Rc::get_mut(&mut self.inner) {
             Some(segment) => segment.set(at, value),
+            // Not reached: it has one owner.
             None => Err(Memory),
         }
     }
@@ -95,6 +96,7 @@ impl SharedSegment {
         self.make_own()?;
         match Rc::get_mut(&mut self.inner) {
             Some(segment) => segment.push(value),
+            // Not reached: it has one owner.
             None => Err(Memory),
         }
     }
@@ -174,6 +176,7 @@ impl SharedSpine {
         self.make_own()?;
         match Rc::get_mut(&mut self.inner) {
             Some(spine) => spine.set(at, value),
+            // Not reached: it has one owner.
             None => Err(Memory),
         }
     }
@@ -188,6 +191,7 @@ impl SharedSpine {
         self.make_own()?;
         match Rc::get_mut(&mut self.inner) {
             Some(spine) => spine.insert(at, value, count),
+            // Not reached: it has one owner.
             None => Err(Memory),
         }
     }
@@ -201,6 +205,7 @@ impl SharedSpine {
         self.make_own()?;
         match Rc::get_mut(&mut self.inner) {
             Some(spine) => spine.remove(at, count),
+            // Not reached: it has one owner.
             None => Err(Memory),
         }
     }

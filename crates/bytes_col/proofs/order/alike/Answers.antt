@@ -8,10 +8,6 @@ loop-at-preserved c = record {
   same = same_more c.loop-at.at 32 c.args.a.now c.args.b.now c.loop-at.invariant.same c.if-block_is_same.ensures;
 }
 
-pub returns-then-at-last-clause-same : goal.returns-then-at-last-clause-same
-returns-then-at-last-clause-same c =
-    same_less c.min.result c.loop-at.at c.args.a.now c.args.b.now (omega (arith, c.min.ensures)) c.loop-at.invariant.same
-
 pub returns-clause-same : goal.returns-clause-same
 returns-clause-same c =
     let xs = c.args.a.now in
