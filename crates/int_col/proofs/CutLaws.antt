@@ -3,7 +3,7 @@ use Rattle.std.proofs.Common.{◌≡◌, ℕ, zero, suc, ◌+◌, ◌-◌, ◌*�
 use Rattle.std.proofs.lemmas.List.{append-nil, replicate_more}
 use Rattle.std.proofs.lemmas.Bool.{cases_lt}
 use Rattle.runs.specs.Edits.{AreApartBefore, AreApartBehind}
-pub use Rattle.runs.proofs.Counts.{sum-cons, sum-append}
+use Rattle.runs.proofs.Counts.{sum-cons, sum-append}
 use Rattle.int_col.specs.Cuts.{Precedes, AreCuts, rest_cut, full_cuts}
 
 -- a last cut c may stand right before these cuts
