@@ -137,6 +137,24 @@ fn hold<R: Abort>(rt: &R, column: &BytesCol, values: &[&[u8]]) -> Result<(), Fai
     Ok(())
 }
 
+/// A memo of other bytes.
+const OTHER_MEMO: [u8; 513] = [b'y'; 513];
+
+/// Sets the second of six values and the memo of the fifth, and asserts that these alone have changed, and nothing of the copy.
+fn set_two<R: Abort>(
+    rt: &R,
+    column: &mut BytesCol,
+    copy: &BytesCol,
+    value: &'static [u8],
+) -> Result<(), Fail> {
+    assert!(rt; column.len() == 6);
+    column.set(1, value)?;
+    assert!(rt; column.len() == 6);
+    column.set(4, &OTHER_MEMO)?;
+    hold(rt, column, &[b"", value, &SHORT, &MEMO, &OTHER_MEMO, &MEMO])?;
+    hold(rt, copy, &[b"", b"b", &SHORT, &MEMO, &MEMO, &MEMO])
+}
+
 /// A value is set to others of its size, and each other value stays: those beside it, a memo that shares its bytes, and those of a copy.
 #[test]
 fn set_to_the_same_size(rt: HostRuntime) -> Result<(), Fail> {
@@ -144,16 +162,8 @@ fn set_to_the_same_size(rt: HostRuntime) -> Result<(), Fail> {
     assert!(rt; column.len() == 4);
     column.insert(4, &MEMO, 2)?;
     let copy = column.same()?;
-    let memo = [b'y'; 513];
-    for value in [b"x", b"w"] {
-        assert!(rt; column.len() == 6);
-        column.set(1, value)?;
-        assert!(rt; column.len() == 6);
-        column.set(4, &memo)?;
-        hold(&rt, &column, &[b"", value, &SHORT, &MEMO, &memo, &MEMO])?;
-        hold(&rt, &copy, &[b"", b"b", &SHORT, &MEMO, &MEMO, &MEMO])?;
-    }
-    Ok(())
+    set_two(&rt, &mut column, &copy, b"x")?;
+    set_two(&rt, &mut column, &copy, b"w")
 }
 
 /// A home whose one memo stands at a place.
