@@ -567,15 +567,20 @@ fn time_texts(text: &[u8], count: usize) {
         column.set(random.place(column.len()), text);
         black_box(&copy);
     });
+    println!(
+        "{} bytes: append {append:.1} order {order:.1} random {at_random:.1} compare {compare:.1} set {set:.1} set_random {set_at_random:.1} set_longer {set_longer:.1} insert {insert:.0} remove {remove:.0} shared {shared:.0} ({sum})",
+        text.len()
+    );
+}
+
+/// What copies of a text take with no column around them: each behind an `Rc`, and then written over in order.
+fn time_copies(text: &[u8], count: usize) {
+    let text = black_box(text);
     let mut copies = Vec::with_capacity(count);
     let alone = timed(count, || copies.push(Rc::new(text.to_vec())));
     let mut kept = copies.iter_mut();
-    let over = timed(count, || Rc::get_mut(kept.next().unwrap()).unwrap().copy_from_slice(black_box(text)));
-    black_box(&copies);
-    println!(
-        "{} bytes: append {append:.1} order {order:.1} random {at_random:.1} compare {compare:.1} set {set:.1} set_random {set_at_random:.1} set_longer {set_longer:.1} insert {insert:.0} remove {remove:.0} shared {shared:.0} alone {alone:.1} over {over:.1} ({sum})",
-        text.len()
-    );
+    let over = timed(count, || Rc::get_mut(kept.next().unwrap()).unwrap().copy_from_slice(text));
+    println!("{} copies: alone {alone:.1} over {over:.1} ({})", text.len(), copies.len());
 }
 
 fn main() {
@@ -583,4 +588,7 @@ fn main() {
     time_texts(&[b'x'; 5], COUNT);
     time_texts(&[b'x'; 100], COUNT);
     time_texts(&[b'x'; 600], MEMOS);
+    time_copies(&[b'x'; 5], COUNT);
+    time_copies(&[b'x'; 100], COUNT);
+    time_copies(&[b'x'; 600], MEMOS);
 }
