@@ -1,4 +1,4 @@
-//! The loops of the crate `bench_bit_pack` in plain Rust, for comparison: rustc --edition 2021 -O baseline.rs && ./baseline
+//! The loops of the crate `bench` in plain Rust, for comparison: rustc --edition 2021 -O baseline.rs && ./baseline
 #[path = "../lanes.rs"]
 mod lanes;
 

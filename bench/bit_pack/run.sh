@@ -23,7 +23,7 @@ least() {
 rustc --edition 2021 -O -o "$build/baseline" "$here/baseline.rs"
 echo "Rust (rustc -O)"
 least "$build/baseline"
-cd "$here/../../crates/bench_bit_pack"
+cd "$here/../../crates/bench"
 rt run >/dev/null
 echo "Rattle"
-least out/bench_bit_pack time
+least out/bench packing

@@ -1,4 +1,4 @@
-//! The loops of the crate `bench_columns` in plain Rust, over columns of the same structure, for comparison: rustc --edition
+//! The loops of the crate `bench` in plain Rust, over columns of the same structure, for comparison: rustc --edition
 //! 2021 -O baseline.rs && ./baseline
 #[path = "../lanes.rs"]
 mod lanes;

@@ -24,11 +24,11 @@ least() {
 }
 
 rustc --edition 2021 -O -o "$build/baseline" "$here/baseline.rs"
-cd "$here/../../crates/bench_columns"
+cd "$here/../../crates/bench"
 rt run >/dev/null
 for _ in 1 2 3 4 5; do
     "$build/baseline" >>"$build/rust"
-    out/bench_columns time >>"$build/rattle"
+    out/bench columns >>"$build/rattle"
 done
 echo "Rust (rustc -O)"
 least "$build/rust"

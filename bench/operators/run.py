@@ -13,7 +13,7 @@ import sys
 import time
 from pathlib import Path
 
-CRATE = Path(__file__).resolve().parents[2] / "crates" / "bench_operators"
+CRATE = Path(__file__).resolve().parents[2] / "crates" / "bench"
 RUNS = 3
 ROWS = 1_000_000
 NUMBERS = 1_000
@@ -90,7 +90,7 @@ def answers(rows):
 
 
 def times_of_program():
-    said = subprocess.run([CRATE / "out" / "bench_operators", "time"], check=True, capture_output=True, text=True)
+    said = subprocess.run([CRATE / "out" / "bench", "operators"], check=True, capture_output=True, text=True)
     for line in said.stdout.splitlines():
         task, answer, read, size, total = line.split()
         yield task, (float(answer), float(read)), (int(size), int(total))

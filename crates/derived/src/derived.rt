@@ -10,7 +10,8 @@ ghost use Rattle.derived.specs.Operators.{with_rows};
 ghost use Rattle.derived.specs.Rows.{rows_at};
 
 use mk_value::{
-    HeldRows, Memory, Positions, Rows, Same, Schema, Sequence, TableRead, Value, cmp_value,
+    HeldRows, Lent, Memory, Positions, Rows, Same, Schema, Sequence, TableRead, Value, cmp_value,
+    lend,
 };
 use std::alloc::Global;
 use std::cmp::Ordering;
@@ -98,6 +99,23 @@ impl<T: TableRead + Same + Drop> TableRead for Derived<T> {
                     base.get(row, col)
                 } else {
                     held_cell(more, base.schema(), row - size, col).copy()
+                }
+            }
+        }
+    }
+
+    fn lend(&self, row: usize, col: usize) -> Lent<'_> {
+        match &self.node {
+            Node::Leaf(table) => table.lend(row, col),
+            Node::Held(held) => held.lend(row, col),
+            Node::Rows(base, positions) => base.lend(positions.as_slice()[row] as usize, col),
+            Node::Columns(base, columns, _) => base.lend(row, columns.as_slice()[col]),
+            Node::Extended(base, more) => {
+                let size = base.size();
+                if row < size {
+                    base.lend(row, col)
+                } else {
+                    lend(held_cell(more, base.schema(), row - size, col))
                 }
             }
         }

@@ -11,8 +11,6 @@ mod laws;
 mod saying;
 mod serving;
 mod session;
-#[cfg(test)]
-mod tests;
 
 pub use laws::lines_are_one;
 pub use saying::say_all;

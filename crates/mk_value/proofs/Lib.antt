@@ -3,6 +3,7 @@ pub mod Cells
 pub mod Converting
 pub mod Escapes
 pub mod Headings
+pub mod Lending
 pub mod Names
 pub mod Printed
 pub mod Relations

@@ -1,5 +1,5 @@
 -- Tables: a schema and rows.
-use Rattle.std.specs.Prelude.{ℕ, List, [], slice_index_or, refl}
+use Rattle.std.specs.Prelude.{ℕ, ℤ, pos, List, [], map, slice_index_or, refl}
 use Rattle.std.specs.Coded.{Coded, code_by, coded×}
 use Rattle.mk_value.specs.Heading.{Domain, Attribute, attributes_code}
 use Rattle.mk_value.specs.Data.{Datum, integer, long, text, bytes}
@@ -31,3 +31,19 @@ IsComparable (long z) Domain.long = Unit {0}
 IsComparable (text content) Domain.text = Unit {0}
 IsComparable (bytes content) Domain.bytes = Unit {0}
 IsComparable _ _ = ⊥
+
+-- the values of the domain are numbers
+abbrev pub AreNumbers : Domain → Type 0
+AreNumbers Domain.integer = Unit {0}
+AreNumbers Domain.long = Unit {0}
+AreNumbers _ = ⊥
+
+-- the number that a value is, or 0 where it is none
+abbrev pub number_in : Datum → ℤ
+number_in (integer z) = z
+number_in (long z) = z
+number_in _ = pos 0
+
+-- the numbers of a column, row by row
+abbrev pub column_numbers : List (List Datum) → ℕ → List ℤ
+column_numbers rows column = map (λ row. number_in (slice_index_or row column (integer (pos 0)))) rows

@@ -22,8 +22,6 @@ mod sequence;
 mod span;
 mod steps;
 mod table;
-#[cfg(test)]
-mod tests;
 mod text;
 mod value;
 
@@ -31,7 +29,9 @@ pub use bytes::Bytes;
 pub use conversion::{FitError, literal_fits, to_value};
 pub use fitting::{default_of, fits, is_text, row_fits, rows_fit};
 pub use key::{KeyPart, KeyParts, KeyRow, cmp_value};
-pub use limits::{MAX_BYTES, MAX_DEPTH, MAX_NAME, MAX_PROPERTIES, MAX_ROWS};
+pub use limits::{
+    MAX_BYTES, MAX_DEPTH, MAX_NAME, MAX_PROPERTIES, MAX_ROWS, MAX_STRUCTURE, MAX_VIEWS,
+};
 pub use literal::{Literal, LiteralRows, Literals};
 pub use memory::Memory;
 pub use name::Name;
@@ -41,7 +41,7 @@ pub use schema::{Kind, Prop, Props, Schema};
 pub use sequence::Sequence;
 pub use span::Span;
 pub use steps::Steps;
-pub use table::{HeldRows, Same, TableRead};
+pub use table::{HeldRows, Lent, Same, TableRead, lend};
 pub use text::Text;
 pub use value::{Row, Rows, Value};
 

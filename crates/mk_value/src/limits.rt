@@ -12,3 +12,9 @@ pub const MAX_BYTES: usize = 262_144;
 
 /// The most rows of a view.
 pub const MAX_ROWS: usize = 16_777_216;
+
+/// The most named views of a root.
+pub const MAX_VIEWS: usize = 1_024;
+
+/// The most bytes of a structure text: the name of a view and its properties.
+pub const MAX_STRUCTURE: usize = 1_048_576;

@@ -1,13 +1,39 @@
-ghost use Rattle.std.specs.Prelude.{◌≡◌, ◌<◌, ◌↔◌, List, length, IfOk};
+ghost use Rattle.std.specs.Prelude.{◌≡◌, ◌+◌, ◌<◌, ◌≤◌, ◌↔◌, List, length, take, drop, IfOk};
 ghost use Rattle.mk_value.specs.Heading.{Attribute, IsHeading};
 ghost use Rattle.mk_value.specs.Data.{AreRowsOf, Datum, cell};
 ghost use Rattle.mk_value.specs.Order.{value_cmp};
-ghost use Rattle.mk_value.specs.Tables.{IsComparable, IsPlainDomain, domain_at};
+ghost use Rattle.mk_value.specs.Tables.{AreNumbers, IsComparable, IsPlainDomain, column_numbers, domain_at};
+ghost use Rattle.mk_value.specs.Lending.{Lends, number_lent};
 ghost use Rattle.mk_value.specs.Values.{datum_of};
 
 use crate::{Memory, Rows, Schema, Value, cmp_value};
 use std::cmp::Ordering;
 use std::marker::Model;
+
+/// A value of a table as it is lent, without memory.
+#[derive(Clone, Copy)]
+pub enum Lent<'a> {
+    I(i32),
+    L(i64),
+    /// The bytes of a text.
+    S(&'a [u8]),
+    B(&'a [u8]),
+    /// The number of rows of a view.
+    V(usize),
+}
+
+impl Lent<'_> {
+    /// The number of a value of kind I or L, and 0 of any other.
+    pub fn number(&self) -> i64
+        ensures { result ≡ number_lent self.now }
+    {
+        match self {
+            Lent::I(number) => i64::from(*number),
+            Lent::L(number) => *number,
+            _ => 0,
+        }
+    }
+}
 
 /// A table that can be read value by value. It means a schema and a list of rows.
 pub trait TableRead {
@@ -29,6 +55,26 @@ pub trait TableRead {
         requires row_in { row < length (rows self.now) }
         requires col_in { col < length (schema self.now) }
         ensures { IfOk result (λ value. datum_of value ≡ cell (rows self.now) row col) };
+
+    /// The value at a row and a column, lent. It takes no memory.
+    fn lend(&self, row: usize, col: usize) -> Lent<'_>
+        requires row_in { row < length (rows self.now) }
+        requires col_in { col < length (schema self.now) }
+        ensures { Lends result (cell (rows self.now) row col) };
+
+    /// The values of a column of kind I or L, from a row on, as many as there is place for. It takes no memory.
+    fn fill(&self, col: usize, from: usize, into: &mut [i64])
+        requires col_in { col < length (schema self.now) }
+        requires numbers { AreNumbers (domain_at (schema self.now) col) }
+        requires within { from + length into.old ≤ length (rows self.now) }
+        ensures { into.new ≡ take (length into.old) (drop from (column_numbers (rows self.now) col)) }
+    {
+        // Its size bounds every place.
+        let _size = self.size();
+        for at in 0..into.len() {
+            into[at] = self.lend(from + at, col).number();
+        }
+    }
 
     /// The order of the value at a row and a column, beside another value of the column's kind. It takes no memory.
     fn cmp_cell(&self, row: usize, col: usize, with: &Value) -> Ordering
@@ -54,6 +100,19 @@ pub trait Same: TableRead {
         Self: Sized,
         ensures schema { IfOk result (λ table. Self.schema table ≡ Self.schema self.now) }
         ensures rows { IfOk result (λ table. Self.rows table ≡ Self.rows self.now) };
+}
+
+/// The value, lent.
+pub fn lend(value: &Value) -> Lent<'_>
+    ensures { Lends result (datum_of value.now) }
+{
+    match value {
+        Value::I(number) => Lent::I(*number),
+        Value::L(number) => Lent::L(*number),
+        Value::S(text) => Lent::S(text.as_str().as_bytes()),
+        Value::B(bytes) => Lent::B(bytes.as_slice()),
+        Value::V(rows) => Lent::V(rows.len()),
+    }
 }
 
 /// A table of plain rows.
@@ -122,6 +181,10 @@ impl TableRead for HeldRows {
 
     fn get(&self, row: usize, col: usize) -> Result<Value, Memory> {
         self.cell(row, col).copy()
+    }
+
+    fn lend(&self, row: usize, col: usize) -> Lent<'_> {
+        lend(self.cell(row, col))
     }
 
     fn cmp_cell(&self, row: usize, col: usize, with: &Value) -> Ordering {

@@ -4,7 +4,7 @@ use Rattle.std.specs.Prelude.{◌≡◌, ◌⊎◌, ℕ, ◌+◌, Bool, ◌&&◌
 use Rattle.std.specs.Option.{option_map, is_some}
 use Rattle.mk_value.specs.Data.{Datum}
 use Rattle.mk_value.specs.Heading.{Attribute, find}
-use Rattle.mk_value.specs.Limits.{max_rows}
+use Rattle.mk_value.specs.Limits.{max_rows, max_views}
 use Rattle.mk_value.specs.Paths.{Route}
 use Rattle.mk_value.specs.Tables.{domain_at}
 use Rattle.cmd_text.specs.declared.error.CmdError.{CmdError}
@@ -14,7 +14,7 @@ use Rattle.cmd_text.specs.declared.refusal.Refusal.TheVariants.{Memory, Syntax, 
 use Rattle.view_store.specs.declared.error.EditError.{EditError}
 use Rattle.view_store.specs.declared.error.EditError.TheVariants as edits
 use Rattle.view_store.specs.Refusals.{look_due, schema_of}
-use Rattle.view_store.specs.Views.{NamedTable, max_views, table_of}
+use Rattle.view_store.specs.Views.{NamedTable, table_of}
 use Rattle.session.specs.Fitting.{all_fit, all_short, fits, is_short}
 use Rattle.session.specs.Values.{size_named}
 

@@ -15,8 +15,6 @@ mod replies;
 mod saying;
 mod session;
 mod structures;
-#[cfg(test)]
-mod tests;
 mod values;
 mod words;
 

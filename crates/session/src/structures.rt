@@ -2,7 +2,8 @@
 ghost use Rattle.std.specs.Prelude.{◌≡◌, ◌⊎◌, ◌<◌, ◌≤◌, [], length, IfErr, IfOk, IsSome, None, OnErr, OnOk};
 ghost use Rattle.restructure.specs.Restructuring.{restructured};
 ghost use Rattle.struct_text.specs.Spelling.{spelling};
-ghost use Rattle.view_store.specs.Views.{max_structure, max_views, structure_length, table_of, without_view, with_view};
+ghost use Rattle.mk_value.specs.Limits.{max_structure, max_views};
+ghost use Rattle.view_store.specs.Views.{structure_length, table_of, without_view, with_view};
 ghost use Rattle.view_store.specs.Tables.{unplaced_table};
 ghost use Rattle.session.specs.Refusals.{AnswersDue, drop_due, getas_due};
 ghost use Rattle.session.specs.Structures.{structured};
@@ -11,10 +12,10 @@ use crate::Session;
 use crate::looks::structure_text;
 use crate::refusals::{of_edit, of_memory};
 use cmd_text::Refusal;
-use mk_value::{Name, Schema, TableRead, Text};
+use mk_value::{MAX_VIEWS, Name, Schema, TableRead, Text};
 use restructure::restructure;
 use std::alloc::Global;
-use view_store::{MAX_VIEWS, Table, empty_table};
+use view_store::{Table, empty_table};
 
 impl Session {
     /// Gives the view of a name a structure, and gives its text.

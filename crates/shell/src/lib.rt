@@ -8,8 +8,6 @@ mod rooms;
 mod running;
 mod serving;
 mod status;
-#[cfg(test)]
-mod tests;
 mod words;
 
 pub use running::run;

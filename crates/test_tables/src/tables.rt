@@ -2,14 +2,14 @@
 ghost use Rattle.std.specs.Prelude.{◌<◌, length};
 
 use mk_value::{
-    Kind, Memory, Name, Path, Row, Rows, Schema, TableRead, Text, Value, print_value, rows_fit,
+    Kind, MAX_VIEWS, Memory, Name, Path, Row, Rows, Schema, TableRead, Text, Value, print_value, rows_fit,
     to_value,
 };
 use std::alloc::Global;
 use std::test::Fail;
 use struct_text::{parse, print};
 use tokens::{cut, path_at, read_literal};
-use view_store::{EditError, MAX_VIEWS, Root, Shared, Table, from_rows, structure_fits};
+use view_store::{EditError, Root, Shared, Table, from_rows, structure_fits};
 
 /// A structure text and a view literal.
 pub type Source = (&'static str, &'static str);

@@ -11,3 +11,5 @@ mod literals;
 mod shown;
 #[cfg(test)]
 mod structures;
+#[cfg(test)]
+mod values;

@@ -17,13 +17,6 @@ abbrev pub views_code : Coded (List NamedTable)
 views_code =
     coded_list (code_by (List ℕ × Placed) (coded× (coded_list coded_ℕ) placed_code) (λ v. (v.name, v.table)) (λ p. record { name = p.0; table = p.1 }) (λ _. refl))
 
--- the most views of a root, and the most bytes of a structure text
-abbrev pub max_views : ℕ
-max_views = 1_024
-
-abbrev pub max_structure : ℕ
-max_structure = 1_048_576
-
 -- the number of bytes of a structure text: a name, and in brackets the properties, with commas between them.
 -- A plain property is a name, a colon and a letter; a view property is a name and its own properties in brackets.
 abbrev mutual

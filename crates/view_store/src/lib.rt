@@ -12,7 +12,6 @@ mod change;
 mod check;
 mod edit;
 mod error;
-mod limits;
 mod root;
 mod shared;
 mod structure;
@@ -20,7 +19,6 @@ mod table;
 mod walk;
 
 pub use error::EditError;
-pub use limits::{MAX_STRUCTURE, MAX_VIEWS};
 pub use root::{Names, Root};
 pub use shared::{Shared, share};
 pub use structure::structure_fits;

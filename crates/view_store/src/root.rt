@@ -3,14 +3,14 @@ ghost use Rattle.std.specs.Prelude.{◌≡◌, ◌↔◌, ◌<◌, ◌≤◌, []
 ghost use Rattle.std.specs.Option.{option_map};
 ghost use Rattle.std.specs.Result.{result_err};
 ghost use Rattle.mk_value.specs.Data.{AreRowsOf};
-ghost use Rattle.mk_value.specs.Limits.{max_rows};
+ghost use Rattle.mk_value.specs.Limits.{max_rows, max_structure, max_views};
 ghost use Rattle.mk_value.specs.Names.{same_bytes};
 ghost use Rattle.mk_value.specs.Values.{datum_of};
 ghost use Rattle.view_store.specs.Changes.{FitsSizes, edit_of};
 ghost use Rattle.view_store.specs.Edits.{Edit, table_at};
 ghost use Rattle.view_store.specs.Refusals.{AnswersDue, due, look_due, schema_of};
 ghost use Rattle.view_store.specs.Rests.{MayReplace, ViewsRestOn};
-ghost use Rattle.view_store.specs.Views.{AreViews, edited_views, max_structure, max_views, structure_length, table_of, view_at, view_names, with_view, without_view};
+ghost use Rattle.view_store.specs.Views.{AreViews, edited_views, structure_length, table_of, view_at, view_names, with_view, without_view};
 ghost use Rattle.view_store.specs.declared.error.EditError.TheVariants as edit_error;
 
 use crate::change::Change;

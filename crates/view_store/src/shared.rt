@@ -2,7 +2,7 @@
 ghost use Rattle.std.specs.Prelude.{◌≡◌, IfOk};
 
 use crate::Table;
-use mk_value::{Memory, Same, Schema, TableRead, Value};
+use mk_value::{Lent, Memory, Same, Schema, TableRead, Value};
 use std::alloc::Global;
 use std::cmp::Ordering;
 use std::marker::Model;
@@ -61,6 +61,14 @@ impl TableRead for Shared {
 
     fn get(&self, row: usize, col: usize) -> Result<Value, Memory> {
         self.table().get(row, col)
+    }
+
+    fn lend(&self, row: usize, col: usize) -> Lent<'_> {
+        self.table().lend(row, col)
+    }
+
+    fn fill(&self, col: usize, from: usize, into: &mut [i64]) {
+        self.table().fill(col, from, into);
     }
 
     fn cmp_cell(&self, row: usize, col: usize, with: &Value) -> Ordering {

@@ -2,10 +2,10 @@
 ghost use Rattle.std.specs.Prelude.{◌≡◌, ◌↔◌, ◌+◌, ◌<◌, ◌≤◌, IsTrue, MatchOption};
 ghost use Rattle.mk_value.specs.Heading.{heading_of};
 ghost use Rattle.mk_value.specs.Kinds.{domain_of};
-ghost use Rattle.view_store.specs.Views.{domain_length, max_structure, properties_length, structure_length};
+ghost use Rattle.mk_value.specs.Limits.{max_structure};
+ghost use Rattle.view_store.specs.Views.{domain_length, properties_length, structure_length};
 
-use crate::limits::MAX_STRUCTURE;
-use mk_value::{Kind, Name, Schema};
+use mk_value::{Kind, MAX_STRUCTURE, Name, Schema};
 
 /// Whether the structure text of a view has at most 1,048,576 bytes: its name, and in brackets its properties with commas between
 /// them, a plain one as a name, a colon and a letter, a view as a name and its own properties in brackets.

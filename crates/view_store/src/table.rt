@@ -12,7 +12,7 @@ use crate::check::check;
 use crate::edit::edit;
 use crate::walk::{cell_at, find_rows, find_schema};
 use crate::{EditError, Shared, share};
-use mk_value::{Memory, Rows, Schema, Step, TableRead, Value, cmp_value};
+use mk_value::{Lent, Memory, Rows, Schema, Step, TableRead, Value, cmp_value, lend};
 use std::alloc::Global;
 use std::cmp::Ordering;
 use std::marker::Model;
@@ -143,6 +143,10 @@ impl TableRead for Table {
 
     fn get(&self, row: usize, col: usize) -> Result<Value, Memory> {
         cell_at(&self.rows, row, col).copy()
+    }
+
+    fn lend(&self, row: usize, col: usize) -> Lent<'_> {
+        lend(cell_at(&self.rows, row, col))
     }
 
     fn cmp_cell(&self, row: usize, col: usize, with: &Value) -> Ordering {

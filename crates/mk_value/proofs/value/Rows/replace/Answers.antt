@@ -1,6 +1,5 @@
-use Rattle.std.proofs.Common.{◌≡◌, ap, ◌∙◌, List, [], length, map, slice_set, slice_index_or, arith}
+use Rattle.std.proofs.Common.{◌≡◌, ap, ◌∙◌, [], length, map, slice_set, slice_index_or, arith}
 use Rattle.std.proofs.lemmas.List.{map-set}
-use Rattle.mk_value.specs.Data.{Datum}
 use Rattle.mk_value.specs.Values.{datum_of}
 use Rattle.mk_value.proofs.Walks.{same_default}
 use Rattle.mk_value.proofs.value.Rows.replace.Goals as goal

@@ -5,7 +5,8 @@ use Rattle.view_store.specs.Changes.{edit_of}
 use Rattle.view_store.specs.Edits.{edited}
 use Rattle.view_store.specs.Refusals.{AnswersDue, due_in}
 use Rattle.view_store.specs.Tables.{Placed, IsUnplaced}
-use Rattle.view_store.specs.Views.{named, structure_length, max_structure}
+use Rattle.mk_value.specs.Limits.{max_structure}
+use Rattle.view_store.specs.Views.{named, structure_length}
 use Rattle.view_store.proofs.Editing.{by_answer, OnOk-then}
 use Rattle.view_store.proofs.Named.{IsPlace-position, IsAbsent-position, no_view}
 use Rattle.view_store.proofs.Resting.{Rest-none, placed_views-named}

@@ -1,7 +1,8 @@
 use Rattle.std.proofs.Common.{◌<◌, ◌≤◌, length, ap, sym, subst, ◌∙◌, arith}
 use Rattle.std.proofs.lemmas.List.Elements.{All-set}
 use Rattle.view_store.specs.Tables.{IsUnplaced}
-use Rattle.view_store.specs.Views.{IsView, structure_length, max_structure}
+use Rattle.mk_value.specs.Limits.{max_structure}
+use Rattle.view_store.specs.Views.{IsView, structure_length}
 use Rattle.view_store.proofs.Named.{IsPlace-position, IsAbsent-position}
 use Rattle.view_store.proofs.Resting.{Rest-none, placed_views-named}
 use Rattle.view_store.proofs.Roots.{root-set, root-push, root-pushed, views-pushed, replaced-root, added-root, absent_table, name_at, plain_whole, room_for}

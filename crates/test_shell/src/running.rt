@@ -1,0 +1,138 @@
+//! Runs of the whole program, each with its status.
+ghost use Rattle.std.specs.Prelude.{◌≡◌, ◌+◌, ◌≤◌, [], length};
+ghost use Rattle.lines.specs.Lines.{max_line};
+ghost use Rattle.lines.specs.Crash.{IsReady};
+
+use host_io::{Effect, Fault, Host, MemHost};
+use lines::{Flow, MAX_LINE, Session as LineSession};
+use mk_value::{Bytes, Memory, Text};
+use session::Session;
+use shell::{Status, run, serve};
+use std::alloc::Global;
+use std::test::Fail;
+
+const ROOM: usize = 4096;
+
+/// The words, the file, the input, the call that fails, the most bytes of a piece; the status, and what was said.
+type Case = (
+    &'static [&'static str],
+    &'static [u8],
+    &'static [u8],
+    u64,
+    usize,
+    Status,
+    &'static [u8],
+);
+
+const RIGHT: &[&str] = &["mkshell", "f"];
+const QUIT: &[u8] = b"quit\n";
+const USAGE: &[u8] =
+    b"usage mkshell [--cap N] [--extend] [--read] [--check] [--sample X --count N] FILE\n";
+
+/// No call fails.
+const NEVER: u64 = u64::MAX;
+
+const CUT: &[u8] = b"getas a[x:I]\n\n  getas  b[s[t:S]] \nadd a 1\n\xff\nquit";
+const SAID: &[u8] = b"ok mkshell 0\nok a[x:I]\nok b[s[t:S]]\nok 0\nerr 2 syntax 0\nok quit\n";
+
+const CASES: [Case; 15] = [
+    (
+        RIGHT,
+        b"",
+        b"getas people[name:S,age:I]\nquit\n",
+        NEVER,
+        0,
+        Status::Done,
+        b"ok mkshell 0\nok people[name:S,age:I]\nok quit\n",
+    ),
+    (RIGHT, b"", b"", NEVER, 0, Status::Done, b"ok mkshell 0\n"),
+    (
+        RIGHT,
+        b"\x00",
+        QUIT,
+        NEVER,
+        0,
+        Status::Refused,
+        b"refused notempty\n",
+    ),
+    (&[], b"", QUIT, NEVER, 0, Status::Usage, USAGE),
+    (&["mkshell"], b"", QUIT, NEVER, 0, Status::Usage, USAGE),
+    (&["mkshell", ""], b"", QUIT, NEVER, 0, Status::Usage, USAGE),
+    (
+        &["mkshell", "f", "g"],
+        b"",
+        QUIT,
+        NEVER,
+        0,
+        Status::Usage,
+        USAGE,
+    ),
+    // The file is attached by call 0 and measured by call 1.
+    (RIGHT, b"", QUIT, 0, 0, Status::DiskFault, b""),
+    (RIGHT, b"", QUIT, 1, 0, Status::DiskFault, b""),
+    // The greeting is said by call 2, and the input is taken by call 3.
+    (RIGHT, b"", QUIT, 2, 0, Status::SayFault, b""),
+    (RIGHT, b"", QUIT, 3, 0, Status::TakeFault, b"ok mkshell 0\n"),
+    // The same lines, however they are cut.
+    (RIGHT, b"", CUT, NEVER, 1, Status::Done, SAID),
+    (RIGHT, b"", CUT, NEVER, 2, Status::Done, SAID),
+    (RIGHT, b"", CUT, NEVER, 3, Status::Done, SAID),
+    (RIGHT, b"", CUT, NEVER, 7, Status::Done, SAID),
+];
+
+/// The status of a run, and what was said.
+fn run_over(alloc: Global, case: &Case) -> Result<(Status, Bytes), Memory> {
+    let (words, file, input, fails, most, ..) = *case;
+    let script = [Fault {
+        call: fails,
+        effect: Effect::Nothing,
+    }];
+    let mut host = MemHost::new(alloc, file, input, &script, most, ROOM)?;
+    let status = run(alloc, words, &mut host);
+    Ok((status, Bytes::from_slice(alloc, host.said())?))
+}
+
+#[test]
+fn each_status_has_its_words(rt: HostRuntime) -> Result<(), Fail> {
+    for case in &CASES {
+        let (_, _, input, fails, most, status, said) = *case;
+        let (ended, spoke) = run_over(rt.alloc(), case)?;
+        assert_eq!(rt; ended, status, "on {input:?}, call {fails}, pieces of {most}");
+        assert_eq!(rt; spoke.as_slice(), said, "on {input:?}, call {fails}, pieces of {most}");
+    }
+    Ok(())
+}
+
+/// Answers a line as the loop over lines does.
+fn answer<H: Host, S: LineSession<H>>(
+    session: &mut S,
+    host: &mut H,
+    line: &[u8],
+    out: &mut Text,
+) -> Flow
+    requires short { length line.now ≤ max_line }
+    requires empty { out.old.bytes ≡ [] }
+    requires room { max_line + 1 ≤ out.old.spare }
+    requires ready { H.tells → IsReady S.machine session.old (H.outside host.old).now.disk }
+{
+    session.answer(host, line, out)
+}
+
+/// A line by itself, and then a run that takes five bytes of two lines: `size` is answered, and one more byte comes.
+#[test]
+fn a_line_is_answered_and_a_budget_is_kept(rt: HostRuntime) -> Result<(), Fail> {
+    let mut session = Session::new(rt.alloc());
+    let mut reply = Text::with_room(rt.alloc(), MAX_LINE + 1)?;
+    let mut host = MemHost::new(rt.alloc(), b"", b"size\nquit\n", &[], 0, ROOM)?;
+    let flow = answer(&mut session, &mut host, b"getas x[a:I]", &mut reply);
+    assert!(rt; flow == Flow::Goes);
+    assert_eq!(rt; reply.as_str(), "ok x[a:I]\n");
+
+    let mut room = Bytes::with_room(rt.alloc(), MAX_LINE + 1)?;
+    let mut reply = Text::with_room(rt.alloc(), MAX_LINE + 1)?;
+    let mut session = Session::new(rt.alloc());
+    let status = serve(&mut session, &mut host, &mut room, &mut reply, 5);
+    assert_eq!(rt; status, Status::TooMuch);
+    assert_eq!(rt; host.said(), b"err 2 syntax 4\n".as_slice());
+    Ok(())
+}
