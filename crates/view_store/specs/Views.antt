@@ -2,6 +2,7 @@
 use Rattle.std.specs.Prelude.{◌≡◌, ◌≢◌, ℕ, ◌+◌, ◌≤◌, if◌then◌else◌, List, [], ◌∷◌, length, map, Option, All, AllPairs, find, refl}
 use Rattle.std.specs.Coded.{Coded, code_by, coded_ℕ, coded_list, coded×}
 use Rattle.std.specs.Option.{option_map}
+use Rattle.mk_value.specs.Limits.{max_structure, max_views}
 use Rattle.mk_value.specs.Names.{IsName, same_bytes}
 use Rattle.mk_value.specs.Heading.{Domain, Heading, no_attributes, attribute, Attribute, heading_of}
 use Rattle.mk_value.specs.Paths.{Route}
