@@ -1,116 +1,68 @@
-//! Tables from texts, and texts of tables and refusals.
-use derived::{Derived, DerivedError, copy_rows, extend, leaf};
-use mk_value::{
-    HeldRows, Kind, MAX_ROWS, Name, TableRead, Text, Value, print_value, rows_fit, to_value,
-};
+//! Tables and names from texts.
+ghost use Rattle.std.specs.Prelude.{◌<◌, ◌≤◌, All, IsTrue, length};
+ghost use Rattle.mk_value.specs.Limits.{max_rows};
+
+use crate::asked;
+use anyhow::{Context, Result, bail, ensure};
+use derived::{Derived, leaf, pick};
+use mk_value::{HeldRows, Kind, MAX_ROWS, Name, Positions, TableRead, Value, rows_fit, to_value};
 use std::alloc::Global;
-use std::test::Fail;
-use struct_text::{parse, print};
+use struct_text::parse;
 use tokens::read_literal;
 
 pub type Table = Derived<HeldRows>;
 
-pub type Outcome = Result<Table, DerivedError>;
-
-/// A structure text and a view literal.
-pub type Source = (&'static str, &'static str);
-
-/// Ann, Bob and Cy.
-pub const PEOPLE: Source = (
-    "people[name:S,age:I]",
-    r#"{("Ann",31),("Bob",31),("Cy",20)}"#,
-);
-
-/// Numbers and views of numbers: the first and the third row are the same.
-pub const NESTED: Source = (
-    "n[k:I,s[n:I]]",
-    "{(2,{(1)}),(1,{(1),(0)}),(2,{(1)}),(1,{(1)}),(2,{})}",
-);
-
-/// The plain rows of a view literal, under the schema of a structure text.
-pub fn plain_rows(alloc: Global, structure: &str, rows: &str) -> Result<HeldRows, Fail> {
+/// The plain rows of a structure text, a space and a view literal.
+pub fn plain_rows(alloc: Global, source: &str) -> Result<HeldRows> {
+    let (structure, rows) = source.split_once(" ").context("a table has rows")?;
     let (_, schema) = parse(alloc, structure)?;
     let literal = read_literal(alloc, rows)?;
-    let view = to_value(alloc, &literal, &Kind::V(schema.copy()?))?;
-    let Value::V(rows) = view else {
-        return Err(Fail::new("no rows"));
+    let Value::V(rows) = to_value(alloc, &literal, &Kind::V(schema.copy()?))? else {
+        bail!("a table has rows");
     };
-    if !rows_fit(&rows, &schema) {
-        return Err(Fail::new("no rows of the schema"));
-    }
+    ensure!(rows_fit(&rows, &schema), "the rows are not of the schema");
     Ok(HeldRows::of(schema, rows))
 }
 
-/// The table of a structure text, with the rows of a view literal.
-pub fn table(alloc: Global, source: &Source) -> Result<Table, Fail> {
-    let (structure, rows) = source;
-    Ok(leaf(plain_rows(alloc, structure, rows)?)?)
-}
-
-/// The rows of a table, and then the same once more.
-pub fn doubled(alloc: Global, table: Table) -> Result<Table, Fail> {
-    if table.size() > MAX_ROWS / 2 {
-        return Err(Fail::new("too many rows"));
-    }
-    let more = copy_rows(alloc, &table)?;
-    Ok(extend(alloc, table, more)?)
-}
-
-/// The name that the bytes spell.
-pub fn name(bytes: &[u8]) -> Result<Name, Fail> {
-    match Name::from_bytes(bytes) {
-        Some(name) => Ok(name),
-        None => Err(Fail::new("no name")),
+/// The table of a structure text, a space and a view literal; with `pick`, positions and a slash before it, its rows there.
+pub fn table(alloc: Global, source: &str) -> Result<Table> {
+    match source.split_once("/") {
+        Some((positions, source)) => picked(alloc, positions, source),
+        None => Ok(leaf(plain_rows(alloc, source)?)?),
     }
 }
 
-/// The structure text of a table under the name `t`, and its rows as a view literal.
-pub fn shown(alloc: Global, table: &Table) -> Result<Text, Fail> {
-    let mut text = Text::new(alloc);
-    print(&name(b"t")?, table.schema(), &mut text)?;
-    print_value(&Value::V(copy_rows(alloc, table)?), &mut text)?;
-    Ok(text)
+fn picked(alloc: Global, positions: &str, source: &str) -> Result<Table> {
+    let words = words(alloc, positions)?;
+    let positions = asked::positions(alloc, words.get(1..).context("positions")?)?;
+    let rows = plain_rows(alloc, source)?;
+    ensure!(
+        are_within(&positions, rows.size()),
+        "a position is out of range"
+    );
+    Ok(pick(alloc, rows, positions)?)
 }
 
-/// The table as it is shown, or the refusal and the property that it carries.
-pub fn described(alloc: Global, outcome: &Outcome) -> Result<Text, Fail> {
-    match outcome {
-        Ok(table) => shown(alloc, table),
-        Err(error) => refusal_text(alloc, error),
-    }
+/// Whether all positions are those of a table of so many rows, and few enough for one.
+pub fn are_within(positions: &Positions, size: usize) -> bool
+    ensures { IsTrue result → (length positions.now ≤ max_rows) × All (λ i. i < size) positions.now }
+{
+    positions.len() <= MAX_ROWS && positions.as_slice().iter().all(|at| (*at as usize) < size)
 }
 
-fn refusal_text(alloc: Global, error: &DerivedError) -> Result<Text, Fail> {
-    let mut text = Text::from_str(alloc, refusal(error))?;
-    if let Some(prop) = prop_of(error) {
-        text.push_str(" ")?;
-        text.push_str(prop.as_str())?;
+/// The words of a text with a space between each two.
+pub fn words(alloc: Global, text: &str) -> Result<Vec<&str>> {
+    let mut words = Vec::new(alloc);
+    let mut rest = text;
+    while let Some((word, others)) = rest.split_once(" ") {
+        words.push(word)?;
+        rest = others;
     }
-    Ok(text)
+    words.push(rest)?;
+    Ok(words)
 }
 
-fn refusal(error: &DerivedError) -> &'static str {
-    match error {
-        DerivedError::NoProp(_) => "NoProp",
-        DerivedError::WrongKind(_) => "WrongKind",
-        DerivedError::KeyIsView(_) => "KeyIsView",
-        DerivedError::NameTaken(_) => "NameTaken",
-        DerivedError::OtherSchema => "OtherSchema",
-        DerivedError::ZeroStep => "ZeroStep",
-        DerivedError::TooManyRows => "TooManyRows",
-        DerivedError::TooWide => "TooWide",
-        DerivedError::TooDeep => "TooDeep",
-        DerivedError::Memory => "Memory",
-    }
-}
-
-/// The property that a refusal carries.
-fn prop_of(error: &DerivedError) -> Option<&Name> {
-    match error {
-        DerivedError::NoProp(name) => Some(name),
-        DerivedError::WrongKind(name) => Some(name),
-        DerivedError::KeyIsView(name) => Some(name),
-        DerivedError::NameTaken(name) => Some(name),
-        _ => None,
-    }
+/// The name that a word spells.
+pub fn name(word: &str) -> Result<Name> {
+    Name::from_bytes(word.as_bytes()).context("a word is a name")
 }

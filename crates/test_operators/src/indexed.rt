@@ -1,0 +1,29 @@
+//! What an index of rows says of a table: its distinct rows in order, and where each stands.
+use crate::tables::{Table, plain_rows};
+use anyhow::{Context, Result};
+use derived::copy_rows;
+use grouping::RowIndex;
+use mk_value::{Text, print_row};
+use std::alloc::Global;
+
+/// The distinct rows, each with the positions that have it.
+pub fn groups(alloc: Global, table: &Table) -> Result<String> {
+    let index = RowIndex::new(alloc, copy_rows(alloc, table)?)?;
+    let mut all = String::new(alloc);
+    for group in 0..index.groups() {
+        let mut row = Text::new(alloc);
+        print_row(index.key(group), &mut row)?;
+        let at = index.group(group);
+        all.push_str(format!(in alloc; "{} {at:?};", row.as_str())?.as_str())?;
+    }
+    Ok(all)
+}
+
+/// The positions that have the first row of another table, and whether there is one.
+pub fn positions(alloc: Global, table: &Table, source: &str) -> Result<String> {
+    let index = RowIndex::new(alloc, copy_rows(alloc, table)?)?;
+    let rows = plain_rows(alloc, source)?;
+    let row = rows.rows().as_slice().first().context("a table has a row")?;
+    let (at, has) = (index.positions(row), index.has(row));
+    Ok(format!(in alloc; "{at:?} {has}")?)
+}

@@ -1,0 +1,56 @@
+//! Does what operators are asked by the lines of the input, and prints what each line answers: tables as texts, or the refusal.
+//!
+//! A line is a table and steps, each behind ` | `. A table is a structure text, a space and a view literal. A step is the word of an
+//! operator and what it is asked by, and of an operator on two tables the second behind ` & `:
+//!
+//! ```text
+//! people[name:S,age:I] {("Ann",31),("Cy",20)} | sort age -name | project name
+//! l[k:I,x:S] {(1,"a")} | join k & r[k:I,y:S] {(1,"p")}
+//! ```
+//!
+//! The lines and what they answer stand beside this crate, as `stdin` and `stdout`. They were made by a plain program that knows
+//! none of ours, `tests/operators.py`, which also says what a line may hold.
+#![tactic(auto)]
+
+mod asked;
+mod indexed;
+mod shown;
+mod steps;
+mod tables;
+
+use anyhow::{Context, Result};
+use std::alloc::Global;
+
+/// What a line answers, as a text.
+fn answer(alloc: Global, line: &str) -> Result<String> {
+    let (source, steps) = line.split_once(" | ").context("a line has a step")?;
+    let mut table = tables::table(alloc, source)?;
+    let mut rest = steps;
+    while let Some((step, others)) = rest.split_once(" | ") {
+        match steps::step(alloc, table, step)? {
+            Ok(next) => table = next,
+            Err(error) => return shown::refusal(alloc, &error),
+        }
+        rest = others;
+    }
+    last_answer(alloc, table, rest)
+}
+
+/// What the last step says of a table.
+fn last_answer(alloc: Global, table: tables::Table, step: &str) -> Result<String> {
+    if step == "groups" {
+        return indexed::groups(alloc, &table);
+    }
+    match step.split_once("positions & ") {
+        Some((_, row)) => indexed::positions(alloc, &table, row),
+        None => shown::outcome(alloc, &steps::step(alloc, table, step)?),
+    }
+}
+
+fn main(rt: HostRuntime) -> Result<()> {
+    for line in rt.lines(rt.alloc()) {
+        let line = line?;
+        println!(rt; "{}", answer(rt.alloc(), line.as_str())?)?;
+    }
+    Ok(())
+}
