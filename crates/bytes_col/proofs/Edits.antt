@@ -1,7 +1,7 @@
 -- Laws of values that are taken in parts.
 use Rattle.std.proofs.Common.{◌≡◌, ℕ, ◌+◌, ◌-◌, ◌≤◌, List, ◌++◌, take, drop, sym, ap, ◌∙◌, arith}
 use Rattle.std.proofs.lemmas.List.{drop-drop}
-use Rattle.runs.proofs.Lists.{take-split}
+use Rattle.segments.proofs.Lists.{take-split}
 
 -- the values from a place on, in two parts
 pub parts_next : (xs : List (List ℕ)) (from at next : ℕ) → from ≤ at → at ≤ next → take (at - from) (drop from xs) ++ take (next - at) (drop at xs) ≡ take (next - from) (drop from xs)

@@ -4,7 +4,7 @@ use Rattle.std.proofs.lemmas.List.{length-append, append-nil, append_assoc}
 use Rattle.std.proofs.lemmas.Bool.{leb-true}
 use Rattle.std.specs.Prelude.{nat_le}
 use Rattle.std.specs.List.{filter, concat}
-use Rattle.runs.proofs.Counts.{sum-cons}
+use Rattle.segments.proofs.Counts.{sum-cons}
 use Rattle.bytes_col.specs.Column.{is_short, short_bytes}
 
 -- the short bytes of one value

@@ -24,7 +24,7 @@ short_bytes values = concat (filter is_short values)
 abbrev pub memo_rows : List (List ℕ) → List ℕ
 memo_rows values = filter (λ row. not (is_short (slice_index_or values row []))) (range_with_len 0 (length values))
 
--- the home after an edit of n values: none, unless there are none
+-- the home after a splice of n values: none, unless there are none
 abbrev pub home_after : ℕ → Option BytesHome → Option BytesHome
 home_after zero home = home
 home_after (suc n) home = None

@@ -2,7 +2,7 @@
 use Rattle.std.specs.Prelude.{◌≡◌, ℕ, ◌-◌, ◌<◌, List, [], length, slice_index_or, Option, None}
 use Rattle.int_col.specs.Column.{Column as Integers}
 use Rattle.bytes_col.specs.declared.home.BytesHome.{BytesHome}
-use Rattle.runs.specs.Joined.{joined}
+use Rattle.segments.specs.Joined.{joined}
 use Rattle.bytes_col.specs.Column.{Column, sizes_of}
 
 -- what these chunks and this home are seen as

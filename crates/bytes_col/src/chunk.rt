@@ -1,4 +1,4 @@
-//! A run of values.
+//! A segment of values.
 ghost use Rattle.std.specs.Prelude.{◌≡◌, ℕ, pos, ◌+◌, ◌-◌, ◌*◌, ◌<◌, ◌≤◌, [], ◌∷◌, ◌++◌, length, slice_set, slice_index_or, take, drop, replicate, None, IfOk, OnOk, OnErr};
 ghost use Rattle.bytes_col.specs.Column.{short_bytes};
 ghost use Rattle.std.specs.Bool.{OnTrue, OnFalse};

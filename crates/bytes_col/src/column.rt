@@ -27,7 +27,7 @@ pub struct BytesCol {
 
 impl Model for BytesCol {
     ghost use Rattle.bytes_col.specs.Column.{Column};
-    ghost use Rattle.runs.specs.Joined.{joined};
+    ghost use Rattle.segments.specs.Joined.{joined};
     ghost use Rattle.bytes_col.specs.Spine.{column_of, HasSizes};
 
     ghost Value = { Column };

@@ -1,7 +1,7 @@
 //! The short bytes of a column, from a byte on.
 ghost use Rattle.std.specs.Prelude.{◌≡◌, ℕ, ◌+◌, ◌-◌, ◌*◌, ◌<◌, ◌≤◌, [], ◌∷◌, ◌++◌, length, take, drop, min};
 ghost use Rattle.bytes_col.specs.Column.{short_bytes};
-ghost use Rattle.runs.specs.Joined.{joined};
+ghost use Rattle.segments.specs.Joined.{joined};
 
 use crate::cell::SHORT_MOST;
 use crate::chunk::Chunk;

@@ -1,6 +1,6 @@
 //! Chunks under construction.
 ghost use Rattle.std.specs.Prelude.{◌≡◌, ℕ, ◌+◌, ◌-◌, ◌*◌, ◌<◌, ◌≤◌, [], ◌∷◌, ◌++◌, length, slice_index_or, take, drop, replicate, IfOk, OnOk};
-ghost use Rattle.runs.specs.Joined.{joined};
+ghost use Rattle.segments.specs.Joined.{joined};
 
 use crate::chunk::{CHUNK_MOST, Chunk};
 use crate::shared::SharedChunk;

@@ -1,6 +1,6 @@
 //! What copies of a column share: each chunk, and the spine that lists them.
 ghost use Rattle.std.specs.Prelude.{◌≡◌, ℕ, pos, ◌+◌, ◌-◌, ◌<◌, ◌≤◌, [], ◌∷◌, ◌++◌, length, take, drop, map, replicate, slice_set, slice_index_or, None, IfOk, OnOk, OnErr};
-ghost use Rattle.runs.specs.Joined.{joined};
+ghost use Rattle.segments.specs.Joined.{joined};
 ghost use Rattle.bytes_col.specs.Chunk.{HasSize};
 ghost use Rattle.bytes_col.specs.Spine.{HasSizes};
 

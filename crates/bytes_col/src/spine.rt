@@ -1,9 +1,9 @@
 //! The list of a column's chunks.
 ghost use Rattle.std.specs.Prelude.{◌≡◌, ℕ, pos, ◌+◌, ◌-◌, ◌<◌, ◌≤◌, List, [], ◌∷◌, ◌++◌, length, sum, slice_set, slice_index_or, take, drop, replicate, map, None, All, IfOk, OnOk, OnErr};
 ghost use Rattle.std.specs.Bool.{OnTrue};
-ghost use Rattle.runs.specs.Runs.{IsPlace};
-ghost use Rattle.runs.specs.Edits.{Applies, Covers, items_after, replaced};
-ghost use Rattle.runs.specs.Joined.{joined, counts_of};
+ghost use Rattle.segments.specs.Segments.{IsPlace};
+ghost use Rattle.segments.specs.Splices.{Applies, Covers, items_after, spliced};
+ghost use Rattle.segments.specs.Joined.{joined, counts_of};
 ghost use Rattle.bytes_col.specs.Column.{short_bytes, sizes_of};
 ghost use Rattle.bytes_col.specs.Spine.{HasSizes, LastTakes};
 ghost use Rattle.bytes_col.specs.Parts.{added};
@@ -13,7 +13,7 @@ use crate::parts::Parts;
 use crate::shared::SharedChunk;
 use int_col::IntCol;
 use mk_value::{Bytes, Memory};
-use runs::{Edit, Place, Runs, Touched, replace_parts};
+use segments::{Splice, Place, Segments, Replaced, replace_parts};
 use std::alloc::{AllocError, Global};
 use std::marker::Model;
 
@@ -21,18 +21,18 @@ use std::marker::Model;
 #[derive(Drop)]
 pub(crate) struct Spine {
     chunks: Vec<SharedChunk>,
-    runs: Runs<CHUNK_MOST>,
+    ends: Segments<CHUNK_MOST>,
 }
 
 impl Model for Spine {
     ghost use Rattle.std.specs.Prelude.{◌≡◌, List, ℕ};
-    ghost use Rattle.runs.specs.Joined.{counts_of};
+    ghost use Rattle.segments.specs.Joined.{counts_of};
 
     ghost Value = { List (List (List ℕ)) };
 
     ghost view = { λ s. s.chunks.items };
 
-    ghost invariant = { λ s. s.runs ≡ counts_of s.chunks.items };
+    ghost invariant = { λ s. s.ends ≡ counts_of s.chunks.items };
 }
 
 impl Clone for Spine {
@@ -41,7 +41,7 @@ impl Clone for Spine {
     fn clone(&self) -> Result<Spine, AllocError> {
         Ok(Spine {
             chunks: Vec::from_clones(*self.chunks.allocator(), &self.chunks)?,
-            runs: self.runs.clone()?,
+            ends: self.ends.clone()?,
         })
     }
 }
@@ -60,7 +60,7 @@ impl Spine {
         let counts = counts(alloc, &chunks)?;
         Ok(Spine {
             chunks,
-            runs: Runs::from_counts(alloc, &counts)?,
+            ends: Segments::from_counts(alloc, &counts)?,
         })
     }
 
@@ -80,16 +80,16 @@ impl Spine {
         ensures len { result ≡ length (joined self.now) }
         ensures few { result ≤ 16777216 }
     {
-        self.runs.len()
+        self.ends.len()
     }
 
     /// Where a value stands.
     fn find(&self, at: usize) -> Place
         requires { at < length (joined self.now) }
-        ensures in_range { result.run < length self.now }
+        ensures in_range { result.segment < length self.now }
         ensures place { IsPlace (counts_of self.now) at result }
     {
-        self.runs.find(at)
+        self.ends.find(at)
     }
 
     /// The value at a place.
@@ -98,7 +98,7 @@ impl Spine {
         ensures { result.now ≡ slice_index_or (joined self.now) at [] }
     {
         let place = self.find(at);
-        let chunk = self.chunks[place.run].chunk();
+        let chunk = self.chunks[place.segment].chunk();
         chunk.value(place.offset)
     }
 
@@ -112,7 +112,7 @@ impl Spine {
         ensures sizes_err { OnErr result (sizes.new ≡ sizes.old) }
     {
         let place = self.find(at);
-        let chunk = &mut self.chunks[place.run];
+        let chunk = &mut self.chunks[place.segment];
         chunk.set(place.offset, value, sizes, at)
     }
 
@@ -139,7 +139,7 @@ impl Spine {
         let last = self.chunks.len() - 1;
         let chunk = &mut self.chunks[last];
         chunk.push(value, sizes)?;
-        self.runs.extend_last();
+        self.ends.extend_last();
         Ok(())
     }
 
@@ -166,7 +166,7 @@ impl Spine {
         ensures values { IfOk result (λ next. added parts.new ≡ added parts.old ++ take (next - from) (drop from (joined self.now))) }
     {
         let place = self.find(from);
-        let chunk = self.chunks[place.run].chunk();
+        let chunk = self.chunks[place.segment].chunk();
         let count = (chunk.len() - place.offset).min(to - from);
         parts.add(chunk, place.offset, place.offset + count)?;
         Ok(from + count)
@@ -194,7 +194,7 @@ impl Spine {
         let mut longer = sizes.same()?;
         longer.insert(at, value.len() as i64, count)?;
         let end = at;
-        self.replace(&Edit { at, end, count }, value)?;
+        self.replace(&Splice { at, end, count }, value)?;
         *sizes = longer;
         Ok(())
     }
@@ -217,56 +217,56 @@ impl Spine {
         let mut shorter = sizes.same()?;
         shorter.remove(at, count)?;
         let end = at + count;
-        self.replace(&Edit { at, end, count: 0 }, &[])?;
+        self.replace(&Splice { at, end, count: 0 }, &[])?;
         *sizes = shorter;
         Ok(())
     }
 
-    /// Makes an edit, with copies of the value: the touched chunks are replaced, and all others stay.
-    fn replace(&mut self, edit: &Edit, value: &[u8]) -> Result<(), Memory>
-        requires { Applies (length (joined self.old)) edit.now }
-        ensures ok { OnOk result (joined self.new ≡ replaced (joined self.old) edit.now.at edit.now.end edit.now.count value.now) }
+    /// Makes a splice, with copies of the value: the replaced chunks are spliced, and all others stay.
+    fn replace(&mut self, splice: &Splice, value: &[u8]) -> Result<(), Memory>
+        requires { Applies (length (joined self.old)) splice.now }
+        ensures ok { OnOk result (joined self.new ≡ spliced (joined self.old) splice.now.at splice.now.end splice.now.count value.now) }
         ensures err { OnErr result (self.new ≡ self.old) }
     {
-        let touched = self.touched(edit);
-        let parts = self.parts_after(edit, &touched, value)?;
-        self.put(touched.first, touched.after, parts.finish()?)
+        let replaced = self.replaced(splice);
+        let parts = self.parts_after(splice, &replaced, value)?;
+        self.put(replaced.first, replaced.after, parts.finish()?)
     }
 
-    /// The chunks that an edit replaces.
-    fn touched(&self, edit: &Edit) -> Touched
-        requires { Applies (length (joined self.now)) edit.now }
-        ensures { Covers (counts_of self.now) edit.now result }
+    /// The chunks that a splice replaces.
+    fn replaced(&self, splice: &Splice) -> Replaced
+        requires { Applies (length (joined self.now)) splice.now }
+        ensures { Covers (counts_of self.now) splice.now result }
     {
-        self.runs.touched(edit)
+        self.ends.replaced(splice)
     }
 
-    /// Where an edit adds values at the end, makes room for a whole chunk of values like those of the chunk before, since more are
+    /// Where a splice adds values at the end, makes room for a whole chunk of values like those of the chunk before, since more are
     /// likely to follow.
-    fn expect_more(&self, parts: &mut Parts, edit: &Edit, touched: &Touched) -> Result<(), Memory>
-        requires { touched.now.first ≤ length self.now }
+    fn expect_more(&self, parts: &mut Parts, splice: &Splice, replaced: &Replaced) -> Result<(), Memory>
+        requires { replaced.now.first ≤ length self.now }
         ensures { OnOk result (added parts.new ≡ added parts.old) }
     {
-        if touched.first == 0 || edit.at < self.len() {
+        if replaced.first == 0 || splice.at < self.len() {
             return Ok(());
         }
-        parts.prepare(self.chunks[touched.first - 1].chunk(), CHUNK_MOST)
+        parts.prepare(self.chunks[replaced.first - 1].chunk(), CHUNK_MOST)
     }
 
-    /// The values that stand in place of those of the touched chunks.
-    fn parts_after(&self, edit: &Edit, touched: &Touched, value: &[u8]) -> Result<Parts, Memory>
-        requires applies { Applies (length (joined self.now)) edit.now }
-        requires covers { Covers (counts_of self.now) edit.now touched.now }
-        ensures { IfOk result (λ parts. added parts ≡ items_after (joined self.now) edit.now touched.now value.now) }
+    /// The values that stand in place of those of the replaced chunks.
+    fn parts_after(&self, splice: &Splice, replaced: &Replaced, value: &[u8]) -> Result<Parts, Memory>
+        requires applies { Applies (length (joined self.now)) splice.now }
+        requires covers { Covers (counts_of self.now) splice.now replaced.now }
+        ensures { IfOk result (λ parts. added parts ≡ items_after (joined self.now) splice.now replaced.now value.now) }
     {
         let alloc = self.allocator();
         let mut one = Chunk::new(alloc);
         one.append(value)?;
         let mut parts = Parts::new(alloc);
-        self.expect_more(&mut parts, edit, touched)?;
-        self.add_to(&mut parts, touched.start, edit.at)?;
-        parts.add_copies(&one, edit.count)?;
-        self.add_to(&mut parts, edit.end, touched.stop)?;
+        self.expect_more(&mut parts, splice, replaced)?;
+        self.add_to(&mut parts, replaced.start, splice.at)?;
+        parts.add_copies(&one, splice.count)?;
+        self.add_to(&mut parts, splice.end, replaced.stop)?;
         Ok(parts)
     }
 
@@ -279,9 +279,9 @@ impl Spine {
         ensures err { OnErr result (self.new ≡ self.old) }
     {
         let counts = counts(self.allocator(), &fresh)?;
-        let runs = self.runs.replaced(first, after, &counts)?;
+        let ends = self.ends.spliced(first, after, &counts)?;
         replace_parts(&mut self.chunks, first, after, fresh)?;
-        self.runs = runs;
+        self.ends = ends;
         Ok(())
     }
 }

@@ -1,21 +1,21 @@
--- Laws of an edit and of the segments that it replaces.
+-- Laws of a splice and of the segments that it replaces.
 use Rattle.std.proofs.Common.{◌≡◌, ℕ, suc, ◌+◌, ◌-◌, ◌%◌, ◌<◌, ◌≤◌, ◌⊎◌, inl, inr, ℤ, List, [], ◌∷◌, ◌++◌, length, get_or, take, drop, replicate, sym, ap, subst, ◌∙◌, arith}
 use Rattle.std.proofs.lemmas.Bool.{cases_lt}
 use Rattle.std.proofs.lemmas.List.{append_assoc, append-nil, drop_all, length-drop, length-take-le, map-append}
-use Rattle.runs.specs.declared.edit.Edit.{Edit}
-use Rattle.runs.specs.declared.edit.Touched.{Touched}
-use Rattle.runs.specs.Runs.{start_of}
-use Rattle.runs.specs.Edits.{Covers, AreApartBefore, AreApartBehind, FitsBehind, TakesNeighbors, size_after, items_after}
-use Rattle.runs.specs.Joined.{joined, counts_of}
-use Rattle.runs.proofs.Counts.{sum-take-suc}
-use Rattle.runs.proofs.Lists.{take-split, drop-cons-at}
-use Rattle.runs.proofs.Joined.{joined-append}
+use Rattle.segments.specs.declared.splice.Splice.{Splice}
+use Rattle.segments.specs.declared.splice.Replaced.{Replaced}
+use Rattle.segments.specs.Segments.{start_of}
+use Rattle.segments.specs.Splices.{Covers, AreApartBefore, AreApartBehind, FitsBehind, TakesNeighbors, size_after, items_after}
+use Rattle.segments.specs.Joined.{joined, counts_of}
+use Rattle.segments.proofs.Counts.{sum-take-suc}
+use Rattle.segments.proofs.Lists.{take-split, drop-cons-at}
+use Rattle.segments.proofs.Joined.{joined-append}
 use Rattle.int_col.specs.Cuts.{AreCuts, full_cuts}
-use Rattle.int_col.proofs.CutLaws.{cut_few, cut_some, cut_neighbours, full_cuts-more, AreCuts-replaced}
+use Rattle.int_col.proofs.CutLaws.{cut_few, cut_some, cut_neighbours, full_cuts-more, AreCuts-spliced}
 use Rattle.int_col.proofs.Lists.{around}
 
 -- the segment before is taken in, and the one before that has no room
-before_taken : (cs : List ℕ) (e : Edit) (t u : Touched) → AreCuts cs → Covers cs e t → Covers cs e u → t.first ≡ u.first + 1 → AreApartBefore 2048 cs u.first (size_after e u)
+before_taken : (cs : List ℕ) (e : Splice) (t u : Replaced) → AreCuts cs → Covers cs e t → Covers cs e u → t.first ≡ u.first + 1 → AreApartBefore 2048 cs u.first (size_after e u)
 before_taken cs e t u h c d less k is =
     let l : suc k < length cs = omega (arith, c.order, c.in_range) in
     let next : t.first ≡ suc (suc k) = omega arith in
@@ -43,13 +43,13 @@ behind_taken cs n after h l fits =
       | inr last ↦ subst P (sym (drop_all (suc after) cs last)) tt
     ]
 
--- the segments beside those that an edit replaces are apart from what stands in their place
-pub touched_apart : (cs : List ℕ) (e : Edit) (t : Touched) → AreCuts cs → Covers cs e t → TakesNeighbors 2048 cs e t → AreApartBefore 2048 cs t.first (size_after e t) × AreApartBehind 2048 (size_after e t) (drop t.after cs)
-touched_apart cs e t h c taken =
-    let u : Touched = taken.wider in
+-- the segments beside those that a splice replaces are apart from what stands in their place
+pub replaced_apart : (cs : List ℕ) (e : Splice) (t : Replaced) → AreCuts cs → Covers cs e t → TakesNeighbors 2048 cs e t → AreApartBefore 2048 cs t.first (size_after e t) × AreApartBehind 2048 (size_after e t) (drop t.after cs)
+replaced_apart cs e t h c taken =
+    let u : Replaced = taken.wider in
     let d : Covers cs e u = taken.wider_covers in
-    let Before : Touched → Type 0 = λ x. AreApartBefore 2048 cs x.first (size_after e x) in
-    let Behind : Touched → Type 0 = λ x. AreApartBehind 2048 (size_after e x) (drop x.after cs) in
+    let Before : Replaced → Type 0 = λ x. AreApartBefore 2048 cs x.first (size_after e x) in
+    let Behind : Replaced → Type 0 = λ x. AreApartBehind 2048 (size_after e x) (drop x.after cs) in
     let before : Before u =
     elim taken.before [
       | inl stays ↦ subst Before (sym stays.0) stays.1
@@ -75,7 +75,7 @@ touched_apart cs e t h c taken =
 pub cuts_after : (cs fresh : List ℕ) (a b n : ℕ) → AreCuts cs → a ≤ length cs → fresh ≡ full_cuts n → AreApartBefore 2048 cs a n → AreApartBehind 2048 n (drop b cs) → AreCuts (take a cs ++ (fresh ++ drop b cs))
 cuts_after cs fresh a b n h in_range made before behind =
     let P : List ℕ → Type 0 = λ ds. AreCuts (take a cs ++ (ds ++ drop b cs)) in
-    subst P (sym made) (AreCuts-replaced cs a b n h in_range before behind)
+    subst P (sym made) (AreCuts-spliced cs a b n h in_range before behind)
 
 -- one segment more of a list that is cut
 pub cut_more : (ss new : List (List ℤ)) (xs s : List ℤ) (from to : ℕ) → joined ss ≡ take from xs → counts_of ss ≡ full_cuts from → from % 2048 ≡ 0 → from < to → to ≤ from + 2048 → to ≤ length xs → s ≡ take (to - from) (drop from xs) → new ≡ ss ++ s ∷ [] → (joined new ≡ take to xs) × (counts_of new ≡ full_cuts to)
@@ -86,8 +86,8 @@ cut_more ss new xs s from to values cuts whole some few within is made =
       ap counts_of made ∙ map-append length ss (s ∷ []) ∙ ap (λ ns. counts_of ss ++ ns) (ap (λ n. n ∷ []) len) ∙ ap (λ ns. ns ++ (to - from) ∷ []) cuts ∙ sym (full_cuts-more from (to - from) whole (omega arith) (omega arith)) ∙ ap full_cuts sum,
     )
 
--- copies of the edit's value, with the values before and behind written over their front and their end
-pub arranged : (xs : List ℤ) (e : Edit) (t : Touched) (v : ℤ) (copies front back post : List ℤ) (m : ℕ) → copies ≡ replicate (size_after e t) v → length front ≡ e.at - t.start → front ≡ take (e.at - t.start) (drop t.start xs) → back ≡ take m (drop e.end xs) → m ≡ t.stop - e.end → post ≡ [] → take (e.at - t.start + e.count) (front ++ drop (e.at - t.start) copies) ++ (back ++ post) ≡ items_after xs e t v
+-- copies of the splice's value, with the values before and behind written over their front and their end
+pub arranged : (xs : List ℤ) (e : Splice) (t : Replaced) (v : ℤ) (copies front back post : List ℤ) (m : ℕ) → copies ≡ replicate (size_after e t) v → length front ≡ e.at - t.start → front ≡ take (e.at - t.start) (drop t.start xs) → back ≡ take m (drop e.end xs) → m ≡ t.stop - e.end → post ≡ [] → take (e.at - t.start + e.count) (front ++ drop (e.at - t.start) copies) ++ (back ++ post) ≡ items_after xs e t v
 arranged xs e t v copies front back post m are len before behind is none =
     let b : ℕ = e.at - t.start in
     let first : take (b + e.count) (front ++ drop b copies) ≡ front ++ replicate e.count v =

@@ -22,7 +22,7 @@ pub record IsColumn (c : Column) : Type 0 where
 abbrev pub segment_values : Column → ℕ → List ℤ
 segment_values c k = take (slice_index c.cuts k) (drop (sum (take k c.cuts)) c.values)
 
--- the home after an edit of n values: none, unless there are none
+-- the home after a splice of n values: none, unless there are none
 abbrev pub home_after : ℕ → Option Span → Option Span
 home_after zero home = home
 home_after (suc n) home = None

@@ -1,7 +1,7 @@
 -- The list of a column's segments, each seen as the list of its values.
 use Rattle.std.specs.Prelude.{◌≡◌, ℕ, ◌-◌, ◌<◌, ℤ, List, [], length, slice_index_or, Option}
 use Rattle.mk_value.specs.declared.span.Span.{Span}
-use Rattle.runs.specs.Joined.{joined, counts_of}
+use Rattle.segments.specs.Joined.{joined, counts_of}
 use Rattle.int_col.specs.Cuts.{AreCuts}
 use Rattle.int_col.specs.Column.{Column}
 use Rattle.int_col.specs.Segment.{Takes}

@@ -3,7 +3,7 @@ ghost use Rattle.std.specs.Prelude.{◌≡◌, ℕ, ◌+◌, ◌<◌, ◌≤◌,
 ghost use Rattle.bit_pack.specs.Width.{HoldsAll, IsLeastWidth};
 ghost use Rattle.bit_pack.specs.Packed.{packed_len, packing};
 ghost use Rattle.int_col.specs.Column.{HasPackedBytes, ArePackedBytes};
-ghost use Rattle.runs.specs.Joined.{joined};
+ghost use Rattle.segments.specs.Joined.{joined};
 
 use crate::spine::Spine;
 use bit_pack::Width;

@@ -2,11 +2,11 @@
 //!
 //! An [`IntCol`] is a list of up to 16,777,216 integers and a home, the place of its block in a file. The list
 //! is cut into segments of at most 2,048 values, each packed at the least width that holds its own. Copies share
-//! the segments and the spine that lists them; an edit copies the segments it touches and the spine, and only
+//! the segments and the spine that lists them; a splice copies the segments it touches and the spine, and only
 //! where they are shared.
 //!
-//! It stands on `bit_pack`, which says what packed bytes are, and on `runs`, which says where segments end and which
-//! ones an edit replaces. It knows nothing of files: a home is only kept.
+//! It stands on `bit_pack`, which says what packed bytes are, and on `ends`, which says where segments end and which
+//! ones a splice replaces. It knows nothing of files: a home is only kept.
 #![tactic(auto)]
 
 mod column;

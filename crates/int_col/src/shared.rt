@@ -2,7 +2,7 @@
 ghost use Rattle.std.specs.Prelude.{◌≡◌, ℕ, ◌+◌, ◌-◌, ◌<◌, ◌≤◌, [], ◌∷◌, ◌++◌, length, take, drop, replicate, slice_set, IfOk, OnOk, OnErr};
 ghost use Rattle.int_col.specs.Cuts.{full_cuts};
 ghost use Rattle.int_col.specs.Segment.{Takes};
-ghost use Rattle.runs.specs.Joined.{joined, counts_of};
+ghost use Rattle.segments.specs.Joined.{joined, counts_of};
 
 use crate::segment::Segment;
 use crate::spine::Spine;

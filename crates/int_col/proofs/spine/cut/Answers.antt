@@ -1,6 +1,6 @@
 use Rattle.std.proofs.Common.{◌∷◌, [], refl, arith}
 use Rattle.std.proofs.lemmas.Slice.{pushed}
-use Rattle.int_col.proofs.Edits.{cut_more}
+use Rattle.int_col.proofs.Splices.{cut_more}
 use Rattle.int_col.proofs.spine.cut.Goals as goal
 
 pub loop-from-preserved : goal.loop-from-preserved

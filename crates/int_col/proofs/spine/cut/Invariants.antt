@@ -1,6 +1,6 @@
 use Rattle.std.proofs.Common.{◌≡◌, ◌-◌, ◌%◌, ◌<◌, ◌≤◌, length, take}
 use Rattle.int_col.specs.Cuts.{full_cuts}
-use Rattle.runs.specs.Joined.{joined, counts_of}
+use Rattle.segments.specs.Joined.{joined, counts_of}
 use Rattle.int_col.proofs.spine.cut.Given as goal
 
 abbrev pub invariant-loop-from : goal.invariant-loop-from

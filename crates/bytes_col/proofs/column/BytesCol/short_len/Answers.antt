@@ -1,5 +1,5 @@
 use Rattle.std.proofs.Common.{◌∙◌}
-use Rattle.runs.specs.Joined.{joined}
+use Rattle.segments.specs.Joined.{joined}
 use Rattle.bytes_col.proofs.Short.{short_sum}
 use Rattle.bytes_col.proofs.column.BytesCol.short_len.Goals as goal
 

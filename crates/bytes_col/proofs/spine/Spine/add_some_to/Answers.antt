@@ -1,7 +1,7 @@
 use Rattle.std.proofs.Common.{◌≡◌, ◌+◌, ◌-◌, ◌≤◌, ◌++◌, length, take, drop, sym, ap, ◌∙◌, arith}
 use Rattle.bytes_col.specs.Parts.{added}
-use Rattle.runs.specs.Joined.{joined}
-use Rattle.runs.proofs.Joined.{items_from_place, within_part}
+use Rattle.segments.specs.Joined.{joined}
+use Rattle.segments.proofs.Joined.{items_from_place, within_part}
 use Rattle.bytes_col.proofs.spine.Spine.add_some_to.Goals as goal
 
 pub returns-clause-values : goal.returns-clause-values

@@ -1,6 +1,6 @@
 use Rattle.std.proofs.Common.{◌≡◌, ◌-◌, length, min, take, drop}
 use Rattle.bytes_col.specs.Column.{short_bytes}
-use Rattle.runs.specs.Joined.{joined}
+use Rattle.segments.specs.Joined.{joined}
 use Rattle.bytes_col.proofs.spine.Spine.fill_short.Given as goal
 
 abbrev pub invariant-loop-shared : goal.invariant-loop-shared

@@ -1,7 +1,7 @@
 use Rattle.std.proofs.Common.{◌≡◌, ◌≤◌, ℕ, List, length, map, sum, take, ap, ◌∙◌, arith}
 use Rattle.std.proofs.lemmas.List.{length-map, length-take}
-use Rattle.runs.specs.Joined.{joined, counts_of}
-use Rattle.runs.proofs.Joined.{length-joined}
+use Rattle.segments.specs.Joined.{joined, counts_of}
+use Rattle.segments.proofs.Joined.{length-joined}
 use Rattle.bytes_col.proofs.spine.Spine.of.Goals as goal
 
 pub from_counts-requires : goal.from_counts-requires

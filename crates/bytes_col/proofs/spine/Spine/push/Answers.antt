@@ -1,8 +1,8 @@
 use Rattle.std.proofs.Common.{◌≡◌, ◌-◌, suc, arith, rules, length}
 use Rattle.std.specs.Vec.{vec_len}
-use Rattle.runs.specs.Joined.{joined}
-use Rattle.runs.proofs.Joined.{joined-pushed}
-use Rattle.runs.proofs.Counted.{runs_len, runs_count, last_count, runs_pushed}
+use Rattle.segments.specs.Joined.{joined}
+use Rattle.segments.proofs.Joined.{joined-pushed}
+use Rattle.segments.proofs.Counted.{segments_len, segments_count, last_count, segments_pushed}
 use Rattle.bytes_col.proofs.Columns.{last_room}
 use Rattle.bytes_col.proofs.Sizes.{sizes_pushed}
 use Rattle.bytes_col.proofs.spine.Spine.push.Goals as goal
@@ -15,11 +15,11 @@ extend_last-requires c =
     let last = c.len-last.result - 1 in
     let len : suc last ≡ length c.self.inside.chunks.items = omega (arith, c.len-last.ensures, takes.some) in
     let room = last_room c.self.inside.chunks.items c.index_mut-chunk.result.now last takes len c.index_mut-chunk.ensures.value in
-    let count = last_count c.self.inside.chunks.items c.self.inside.runs c.self.invariant c.index_mut-chunk.result.now last len c.index_mut-chunk.ensures.value in (
+    let count = last_count c.self.inside.chunks.items c.self.inside.ends c.self.invariant c.index_mut-chunk.result.now last len c.index_mut-chunk.ensures.value in (
       omega arith,
       (
-        omega (arith, takes.some, runs_count c.self.inside.chunks.items c.self.inside.runs c.self.invariant),
-        (omega (arith, room, count), omega (arith, runs_len c.self.inside.chunks.items c.self.inside.runs c.self.invariant)),
+        omega (arith, takes.some, segments_count c.self.inside.chunks.items c.self.inside.ends c.self.invariant),
+        (omega (arith, room, count), omega (arith, segments_len c.self.inside.chunks.items c.self.inside.ends c.self.invariant)),
       ),
     )
 
@@ -30,7 +30,7 @@ invariant_of-self-2 c =
     let last = c.len-last.result - 1 in
     let len : suc last ≡ length c.self.inside.chunks.items = omega (arith, c.len-last.ensures, takes.some) in
     rw c.in_ok-push.ensures.ok
-    (runs_pushed c.self.inside.chunks.items c.self.inside.runs c.self.invariant c.index_mut-chunk.result.now last len c.index_mut-chunk.ensures.value
+    (segments_pushed c.self.inside.chunks.items c.self.inside.ends c.self.invariant c.index_mut-chunk.result.now last len c.index_mut-chunk.ensures.value
     c.extend_last.new.self c.args.value.now c.extend_last.ensures)
 
 pub returns-clause-ok : goal.returns-clause-ok

@@ -1,7 +1,7 @@
 use Rattle.std.proofs.Common.{[], sym, ◌∙◌}
 use Rattle.std.proofs.lemmas.Result.{on_ok_weaker}
-use Rattle.runs.specs.Joined.{joined}
-use Rattle.runs.proofs.Joined.{same_counts, set_place, read_place}
+use Rattle.segments.specs.Joined.{joined}
+use Rattle.segments.proofs.Joined.{same_counts, set_place, read_place}
 use Rattle.bytes_col.proofs.Chunks.{both_ok}
 use Rattle.bytes_col.proofs.Sizes.{sizes_set, size_at}
 use Rattle.bytes_col.proofs.spine.Spine.set.Goals as goal

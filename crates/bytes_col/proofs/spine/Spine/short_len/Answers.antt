@@ -1,9 +1,9 @@
 use Rattle.std.proofs.Common.{◌≡◌, ◌<◌, ℕ, List, length, get_or, take, ap, arith}
 use Rattle.std.proofs.lemmas.List.{length-append}
 use Rattle.bytes_col.specs.Column.{short_bytes}
-use Rattle.runs.specs.Joined.{joined}
+use Rattle.segments.specs.Joined.{joined}
 use Rattle.bytes_col.proofs.Short.{short_few}
-use Rattle.runs.proofs.Joined.{part_within}
+use Rattle.segments.proofs.Joined.{part_within}
 use Rattle.bytes_col.proofs.Fills.{short_chunk_more}
 use Rattle.bytes_col.proofs.spine.Spine.short_len.Goals as goal
 

@@ -1,5 +1,5 @@
 use Rattle.std.proofs.Common.{[], ◌∙◌}
-use Rattle.runs.proofs.Joined.{read_place}
+use Rattle.segments.proofs.Joined.{read_place}
 use Rattle.bytes_col.proofs.spine.Spine.value.Goals as goal
 
 pub returns : goal.returns

@@ -1,5 +1,5 @@
 use Rattle.std.proofs.Common.{ap, arith, length}
-use Rattle.runs.specs.Joined.{joined}
+use Rattle.segments.specs.Joined.{joined}
 use Rattle.int_col.proofs.Columns.{IsColumn-of}
 use Rattle.int_col.proofs.column.IntCol.len.Goals as goal
 

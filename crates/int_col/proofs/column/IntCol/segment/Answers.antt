@@ -1,5 +1,5 @@
 use Rattle.std.proofs.Common.{◌<◌, arith, length}
-use Rattle.runs.proofs.Joined.{length-counts}
+use Rattle.segments.proofs.Joined.{length-counts}
 use Rattle.int_col.proofs.Columns.{segment_values-of}
 use Rattle.int_col.proofs.column.IntCol.segment.Goals as goal
 

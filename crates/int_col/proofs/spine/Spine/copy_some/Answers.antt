@@ -1,6 +1,6 @@
 use Rattle.std.proofs.Common.{◌≡◌, ◌+◌, ◌≤◌, ◌++◌, length, take, drop, sym, ap, ◌∙◌, arith}
 use Rattle.std.proofs.lemmas.List.{length-take-le}
-use Rattle.runs.proofs.Joined.{items_from_place, within_part}
+use Rattle.segments.proofs.Joined.{items_from_place, within_part}
 use Rattle.int_col.proofs.spine.Spine.copy_some.Goals as goal
 
 pub returns-clause-values : goal.returns-clause-values

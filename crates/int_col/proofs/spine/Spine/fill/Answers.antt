@@ -2,7 +2,7 @@ use Rattle.std.proofs.Common.{◌+◌, ◌-◌, arith, length, drop, rules}
 use Rattle.std.proofs.lemmas.List.{places, length-take, length-drop}
 use Rattle.bit_pack.specs.Packed.{packing}
 use Rattle.bit_pack.proofs.Parts.{length-packing}
-use Rattle.runs.specs.Joined.{joined}
+use Rattle.segments.specs.Joined.{joined}
 use Rattle.int_col.proofs.Lists.{copied_more}
 use Rattle.int_col.proofs.Fills.{within_least}
 use Rattle.int_col.proofs.spine.Spine.fill.Goals as goal

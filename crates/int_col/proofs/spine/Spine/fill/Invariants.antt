@@ -1,6 +1,6 @@
 use Rattle.std.proofs.Common.{◌≡◌, ◌-◌, ◌≤◌, length, take, drop}
 use Rattle.bit_pack.specs.Packed.{packing}
-use Rattle.runs.specs.Joined.{joined}
+use Rattle.segments.specs.Joined.{joined}
 use Rattle.int_col.proofs.spine.Spine.fill.Given as goal
 
 abbrev pub invariant-loop-done : goal.invariant-loop-done

@@ -1,7 +1,7 @@
 use Rattle.std.proofs.Common.{◌≡◌, ◌∙◌, ◌+◌, ◌-◌, ◌*◌, ◌/◌, ◌%◌, ◌≤◌, ◌++◌, ℕ, ℤ, List, min, refl, ap, sym, arith, length, take, drop}
 use Rattle.std.proofs.lemmas.List.{take_at, length-take-le}
 use Rattle.bit_pack.specs.Packed.{packing, packed_len}
-use Rattle.runs.specs.Joined.{joined}
+use Rattle.segments.specs.Joined.{joined}
 use Rattle.int_col.proofs.Fills.{block_place, part_bytes, packed_len-few}
 use Rattle.int_col.proofs.spine.Spine.fill_some.Goals as goal
 

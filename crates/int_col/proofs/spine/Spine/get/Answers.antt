@@ -1,6 +1,6 @@
 use Rattle.std.proofs.Common.{FitsSigned, w64, rules}
 use Rattle.std.proofs.lemmas.Int.{to_z-of_z}
-use Rattle.runs.proofs.Joined.{get_place}
+use Rattle.segments.proofs.Joined.{get_place}
 use Rattle.int_col.proofs.spine.Spine.get.Goals as goal
 
 pub returns : goal.returns

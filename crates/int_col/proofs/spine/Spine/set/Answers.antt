@@ -1,7 +1,7 @@
 use Rattle.std.proofs.Common.{FitsSigned, w64, sym, subst, ◌∙◌, rules}
 use Rattle.std.proofs.lemmas.Int.{to_z-of_z}
 use Rattle.std.proofs.lemmas.Result.{on_ok_weaker}
-use Rattle.runs.proofs.Joined.{same_counts, set_place}
+use Rattle.segments.proofs.Joined.{same_counts, set_place}
 use Rattle.int_col.specs.Cuts.{AreCuts}
 use Rattle.int_col.proofs.spine.Spine.set.Goals as goal
 
