@@ -13,12 +13,12 @@ use Rattle.segments.proofs.Lists.{drop-cons-at, last_parts, set_last}
 use Rattle.segments.proofs.Joined.{joined-append, length-joined, length-counts, drop-joined, get_or-counts, count_is, counts-pushed, counts-spliced}
 use Rattle.segments.proofs.Counted.{segments_spliced, segments_pushed}
 use Rattle.int_col.specs.Cuts.{AreCuts}
-use Rattle.int_col.specs.Column.{IsColumn, segment_values}
-use Rattle.int_col.specs.Spine.{column_of, IsSpine, LastTakes}
+use Rattle.int_col.specs.Numbers.{IsColumn, segment_values}
+use Rattle.int_col.specs.Spine.{numbers_of, IsSpine, LastTakes}
 use Rattle.int_col.proofs.CutLaws.{AreCuts-last-more}
 use Rattle.int_col.proofs.Splices.{replaced_apart}
 
-pub IsColumn-of : (ss : List (List ℤ)) (home : Option Span) → length (joined ss) ≤ 16777216 → AreCuts (counts_of ss) → IsColumn (column_of ss home)
+pub IsColumn-of : (ss : List (List ℤ)) (home : Option Span) → length (joined ss) ≤ 16777216 → AreCuts (counts_of ss) → IsColumn (numbers_of ss home)
 IsColumn-of ss home few cut = record {
   few = few;
   cut = cut;
@@ -26,7 +26,7 @@ IsColumn-of ss home few cut = record {
 }
 
 -- what segment k of a column is
-pub segment_values-of : (ss : List (List ℤ)) (home : Option Span) (k : ℕ) → k < length ss → segment_values (column_of ss home) k ≡ get_or ss k []
+pub segment_values-of : (ss : List (List ℤ)) (home : Option Span) (k : ℕ) → k < length ss → segment_values (numbers_of ss home) k ≡ get_or ss k []
 segment_values-of ss home k l =
     let s : List ℤ = get_or ss k [] in
     let rest : drop (sum (take k (counts_of ss))) (joined ss) ≡ s ++ joined (drop (suc k) ss) =

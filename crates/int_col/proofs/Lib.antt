@@ -4,3 +4,4 @@ pub mod Splices
 pub mod Segments
 pub mod Columns
 pub mod Fills
+mod PackedCuts

@@ -9,19 +9,19 @@ ghost use Rattle.segments.specs.Joined.{joined, counts_of};
 ghost use Rattle.int_col.specs.Cuts.{AreCuts, full_cuts};
 ghost use Rattle.int_col.specs.Spine.{LastTakes};
 
+use crate::cut::cut;
 use crate::held::Held;
-use crate::segment::SEGMENT_MOST;
-use crate::shared::SharedSegment;
+use crate::segment::{SEGMENT_MOST, Segment, push_shared, set_shared};
 use bit_pack::Width;
 use mk_value::Memory;
-use segments::{Splice, Place, Segments, Replaced, replace_parts};
+use segments::{Place, Replaced, Segments, Shared, Splice, replace_parts};
 use std::alloc::{AllocError, Global};
 use std::marker::Model;
 
 /// The segments in order, and how they cut the list of values.
 #[derive(Drop)]
 pub(crate) struct Spine {
-    segments: Vec<SharedSegment>,
+    segments: Vec<Shared<Segment>>,
     ends: Segments<SEGMENT_MOST>,
 }
 
@@ -39,6 +39,8 @@ impl Model for Spine {
 impl Clone for Spine {
     ghost is_clone = { λ a b. b ≡ a };
 
+    #[cold]
+    #[inline(never)]
     fn clone(&self) -> Result<Spine, AllocError> {
         Ok(Spine {
             segments: Vec::from_clones(*self.segments.allocator(), &self.segments)?,
@@ -48,18 +50,22 @@ impl Clone for Spine {
 }
 
 impl Spine {
-    /// The spine of these values, cut into full segments and a last one of what is left.
-    pub(crate) fn of(alloc: Global, values: &[i64]) -> Result<Spine, Memory>
-        requires { length values.now ≤ 16777216 }
-        ensures values { IfOk result (λ spine. joined spine ≡ values.now) }
-        ensures cuts { IfOk result (λ spine. counts_of spine ≡ full_cuts (length values.now)) }
+    /// The spine of these segments.
+    pub(crate) fn of_segments(segments: Vec<Shared<Segment>>) -> Result<Spine, Memory>
+        requires cut { AreCuts (counts_of segments.items) }
+        requires few { length (joined segments.items) ≤ 16777216 }
+        ensures { IfOk result (λ spine. spine ≡ segments.items) }
     {
-        let segments = cut(alloc, values)?;
+        let alloc = *segments.allocator();
         let counts = counts(alloc, &segments)?;
         Ok(Spine {
             segments,
             ends: Segments::from_counts(alloc, &counts)?,
         })
+    }
+
+    pub(crate) fn allocator(&self) -> Global {
+        *self.segments.allocator()
     }
 
     /// How many segments there are.
@@ -77,7 +83,7 @@ impl Spine {
         ensures count { result.count ≡ length (slice_index_or self.now k []) }
         ensures packed { Packed result.width (slice_index_or self.now k []) result.bytes.now }
     {
-        self.segments[k].segment().lend()
+        self.segments[k].get().lend()
     }
 
     /// The least width that holds all values.
@@ -111,7 +117,7 @@ impl Spine {
         ensures { slice_get (joined self.now) at ≡ Some result }
     {
         let place = self.find(at);
-        let segment = self.segments[place.segment].segment();
+        let segment = self.segments[place.segment].get();
         segment.get(place.offset)
     }
 
@@ -124,7 +130,7 @@ impl Spine {
     {
         let place = self.find(at);
         let segment = &mut self.segments[place.segment];
-        segment.set(place.offset, value)
+        set_shared(segment, place.offset, value)
     }
 
     /// Copies the values from place `from` on.
@@ -148,7 +154,7 @@ impl Spine {
         ensures values { into.new ≡ take result (drop from (joined self.now)) ++ drop result into.old }
     {
         let place = self.find(from);
-        let segment = self.segments[place.segment].segment();
+        let segment = self.segments[place.segment].get();
         let count = (segment.len() - place.offset).min(into.len());
         segment.copy_values(place.offset, &mut into[..count]);
         count
@@ -165,7 +171,12 @@ impl Spine {
     }
 
     /// The values that stand in place of those of the replaced segments.
-    fn values_after(&self, splice: &Splice, value: i64, replaced: &Replaced) -> Result<Vec<i64>, Memory>
+    fn values_after(
+        &self,
+        splice: &Splice,
+        value: i64,
+        replaced: &Replaced,
+    ) -> Result<Vec<i64>, Memory>
         requires applies { Applies (length (joined self.now)) splice.now }
         requires covers { Covers (counts_of self.now) splice.now replaced.now }
         ensures { IfOk result (λ values. values.items ≡ items_after (joined self.now) splice.now replaced.now value) }
@@ -219,7 +230,7 @@ impl Spine {
     {
         match self.segments.last() {
             None => false,
-            Some(last) => last.segment().takes(value),
+            Some(last) => last.get().takes(value),
         }
     }
 
@@ -232,7 +243,7 @@ impl Spine {
     {
         let last = self.segments.len() - 1;
         let segment = &mut self.segments[last];
-        segment.push(value)?;
+        push_shared(segment, value)?;
         self.ends.extend_last();
         Ok(())
     }
@@ -250,7 +261,7 @@ impl Spine {
     }
 
     /// Puts segments in place of those from `first` up to `after`.
-    fn put(&mut self, first: usize, after: usize, fresh: Vec<SharedSegment>) -> Result<(), Memory>
+    fn put(&mut self, first: usize, after: usize, fresh: Vec<Shared<Segment>>) -> Result<(), Memory>
         requires order { first ≤ after }
         requires in_range { after ≤ length self.old }
         requires cut { AreCuts (take first (counts_of self.old) ++ (counts_of fresh.items ++ drop after (counts_of self.old))) }
@@ -267,40 +278,24 @@ impl Spine {
 }
 
 /// The least width that holds the values of all segments.
-fn widest(segments: &[SharedSegment]) -> Width
+fn widest(segments: &[Shared<Segment>]) -> Width
     ensures { IsLeastWidth result (joined segments.now) }
 {
     let mut width = Width::W0;
     for shared in segments {
-        width = width.wider(shared.segment().width());
+        width = width.wider(shared.get().width());
     }
     width
 }
 
 /// How many values each segment has.
-fn counts(alloc: Global, segments: &[SharedSegment]) -> Result<Vec<usize>, Memory>
+fn counts(alloc: Global, segments: &[Shared<Segment>]) -> Result<Vec<usize>, Memory>
     ensures counts { IfOk result (λ counts. counts.items ≡ counts_of segments.now) }
     ensures few { IfOk result (λ counts. All (λ n. n ≤ 2048) counts.items) }
 {
     let mut counts = Vec::with_capacity(alloc, segments.len())?;
     for shared in segments {
-        counts.push(shared.segment().len())?;
+        counts.push(shared.get().len())?;
     }
     Ok(counts)
-}
-
-/// Cuts values into segments: full ones, and a last one of what is left.
-fn cut(alloc: Global, values: &[i64]) -> Result<Vec<SharedSegment>, Memory>
-    requires { length values.now ≤ 16777216 }
-    ensures values { IfOk result (λ segments. joined segments.items ≡ values.now) }
-    ensures cuts { IfOk result (λ segments. counts_of segments.items ≡ full_cuts (length values.now)) }
-{
-    let mut segments = Vec::new(alloc);
-    let mut from = 0;
-    while from < values.len() {
-        let to = (from + SEGMENT_MOST).min(values.len());
-        segments.push(SharedSegment::of(alloc, &values[from..to])?)?;
-        from = to;
-    }
-    Ok(segments)
 }

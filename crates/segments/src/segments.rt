@@ -4,8 +4,8 @@ ghost use Rattle.std.specs.Bool.{OnTrue, OnFalse};
 ghost use Rattle.segments.specs.Segments.{start_of, IsPlace};
 ghost use Rattle.segments.specs.Splices.{Applies, Covers, HoldsItem, IsNeeded, WithBefore, WithBehind, FitsBehind, IsApartBehind, TakesNeighbors, size_after};
 
-use crate::splice::{Splice, Replaced};
 use crate::ends::{first_end_above, first_ends, push_ends, push_moved};
+use crate::splice::{Replaced, Splice};
 use mk_value::Memory;
 use std::alloc::{AllocError, Global};
 use std::marker::Model;

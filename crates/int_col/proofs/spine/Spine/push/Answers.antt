@@ -30,7 +30,7 @@ invariant_of-self-2 c =
     let last = c.len-last.result - 1 in
     let len : suc last ≡ length c.self.inside.segments.items = omega (arith, c.len-last.ensures, takes.some) in
     let room = last_room c.self.inside.segments.items c.index_mut-segment.result.now c.args.value last takes len c.index_mut-segment.ensures.value in
-    rw (c.in_ok-push.ensures.ok, to_z-of_z w64 c.args.value fits)
+    rw (c.in_ok-push_shared.ensures.ok, to_z-of_z w64 c.args.value fits)
     (IsSpine-pushed c.self.inside.segments.items c.self.inside.ends c.extend_last.new.self c.index_mut-segment.result.now c.args.value last
     c.self.invariant len c.index_mut-segment.ensures.value room c.extend_last.ensures)
 
@@ -41,5 +41,5 @@ returns-clause-ok c =
     let segments : vec_len c.self.inside.segments ≡ length c.self.inside.segments.items = search rules in
     let last = c.len-last.result - 1 in
     let len : suc last ≡ length c.self.inside.segments.items = omega (arith, c.len-last.ensures, takes.some) in
-    rw (c.in_ok-push.ensures.ok, to_z-of_z w64 c.args.value fits, ← c.self.view_is)
+    rw (c.in_ok-push_shared.ensures.ok, to_z-of_z w64 c.args.value fits, ← c.self.view_is)
     (joined-pushed c.self.inside.segments.items c.index_mut-segment.result.now c.args.value last len c.index_mut-segment.ensures.value)
