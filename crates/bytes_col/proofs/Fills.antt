@@ -6,7 +6,7 @@ use Rattle.std.proofs.lemmas.List.Elements.{filter-append}
 use Rattle.std.proofs.lemmas.List.FromFn.{map-range_with_len_more}
 use Rattle.std.specs.List.{filter, range_with_len}
 use Rattle.segments.proofs.Lists.{take-append-more}
-use Rattle.bytes_col.specs.Column.{short_bytes}
+use Rattle.bytes_col.specs.Strings.{short_bytes}
 use Rattle.segments.specs.Joined.{joined}
 use Rattle.bytes_col.proofs.Short.{short-append}
 use Rattle.segments.proofs.Joined.{joined-append}

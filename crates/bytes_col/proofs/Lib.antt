@@ -6,3 +6,4 @@ pub mod Columns
 pub mod Sizes
 pub mod Fills
 pub mod Orders
+mod Filled

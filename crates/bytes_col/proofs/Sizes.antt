@@ -3,7 +3,7 @@ use Rattle.std.proofs.Common.{◌≡◌, ℕ, zero, suc, ◌+◌, ◌<◌, pos, 
 use Rattle.std.proofs.lemmas.List.{length-map, map-append, map-set, set-get_or, get_or-map, take-map, drop-map}
 use Rattle.std.proofs.lemmas.Option.{slice_get-get_or, slice_get_within, get_or_from_slice_get}
 use Rattle.int_col.specs.Numbers.{Numbers, home_after}
-use Rattle.bytes_col.specs.Column.{sizes_of}
+use Rattle.bytes_col.specs.Strings.{sizes_of}
 use Rattle.bytes_col.specs.Chunk.{HasSize}
 use Rattle.bytes_col.specs.Spine.{HasSizes}
 

@@ -4,7 +4,7 @@ use Rattle.std.specs.List.{All}
 use Rattle.bytes_col.specs.declared.cell.Cell.{Cell}
 use Rattle.bytes_col.specs.declared.cell.Piece.{Piece}
 use Rattle.int_col.specs.Numbers.{Numbers}
-use Rattle.bytes_col.specs.Column.{short_bytes}
+use Rattle.bytes_col.specs.Strings.{short_bytes}
 
 -- the value of a cell of a chunk that has these bytes
 abbrev pub cell_value : List ℕ → Cell → List ℕ

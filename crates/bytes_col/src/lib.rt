@@ -11,14 +11,16 @@
 
 mod cell;
 mod chunk;
+mod chunked;
 mod column;
 mod fill;
 mod home;
 mod memo;
 mod order;
 mod parts;
-mod shared;
+mod short_bytes;
 mod spine;
 
 pub use column::BytesCol;
 pub use home::BytesHome;
+pub use short_bytes::ShortBytes;

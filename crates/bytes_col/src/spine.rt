@@ -4,23 +4,22 @@ ghost use Rattle.std.specs.Bool.{OnTrue};
 ghost use Rattle.segments.specs.Segments.{IsPlace};
 ghost use Rattle.segments.specs.Splices.{Applies, Covers, items_after, spliced};
 ghost use Rattle.segments.specs.Joined.{joined, counts_of};
-ghost use Rattle.bytes_col.specs.Column.{short_bytes, sizes_of};
+ghost use Rattle.bytes_col.specs.Strings.{short_bytes, sizes_of};
 ghost use Rattle.bytes_col.specs.Spine.{HasSizes, LastTakes};
 ghost use Rattle.bytes_col.specs.Parts.{added};
 
-use crate::chunk::{CHUNK_MOST, Chunk};
+use crate::chunk::{CHUNK_MOST, Chunk, push_shared, set_shared};
 use crate::parts::Parts;
-use crate::shared::SharedChunk;
 use int_col::IntCol;
-use mk_value::{Bytes, Memory};
-use segments::{Splice, Place, Segments, Replaced, replace_parts};
+use mk_value::Memory;
+use segments::{Shared, Splice, Place, Segments, Replaced, replace_parts};
 use std::alloc::{AllocError, Global};
 use std::marker::Model;
 
 /// The chunks in order, and how they cut the list of values.
 #[derive(Drop)]
 pub(crate) struct Spine {
-    chunks: Vec<SharedChunk>,
+    chunks: Vec<Shared<Chunk>>,
     ends: Segments<CHUNK_MOST>,
 }
 
@@ -38,6 +37,8 @@ impl Model for Spine {
 impl Clone for Spine {
     ghost is_clone = { λ a b. b ≡ a };
 
+    #[cold]
+    #[inline(never)]
     fn clone(&self) -> Result<Spine, AllocError> {
         Ok(Spine {
             chunks: Vec::from_clones(*self.chunks.allocator(), &self.chunks)?,
@@ -47,16 +48,12 @@ impl Clone for Spine {
 }
 
 impl Spine {
-    /// The spine of these values, in full chunks and a last one of what is left.
-    pub(crate) fn of(alloc: Global, values: &[Bytes]) -> Result<Spine, Memory>
-        requires { length values.now ≤ 16777216 }
-        ensures { IfOk result (λ spine. joined spine ≡ map (λ v. v.bytes) values.now) }
+    /// The spine of these chunks.
+    pub(crate) fn of_chunks(chunks: Vec<Shared<Chunk>>) -> Result<Spine, Memory>
+        requires { length (joined chunks.items) ≤ 16777216 }
+        ensures { IfOk result (λ spine. spine ≡ chunks.items) }
     {
-        let mut parts = Parts::new(alloc);
-        for value in values {
-            parts.append(value.as_slice())?;
-        }
-        let chunks = parts.finish()?;
+        let alloc = *chunks.allocator();
         let counts = counts(alloc, &chunks)?;
         Ok(Spine {
             chunks,
@@ -69,10 +66,18 @@ impl Spine {
     }
 
     /// The chunks in order.
-    pub(crate) fn chunks(&self) -> &[SharedChunk]
+    pub(crate) fn chunks(&self) -> &[Shared<Chunk>]
         ensures { result.now ≡ self.now }
     {
         &self.chunks
+    }
+
+    /// The chunks themselves.
+    pub(crate) fn into_chunks(self) -> Vec<Shared<Chunk>>
+        ensures { result.items ≡ self }
+    {
+        let Spine { chunks, ends: _ends } = self;
+        chunks
     }
 
     /// How many values there are.
@@ -84,7 +89,7 @@ impl Spine {
     }
 
     /// Where a value stands.
-    fn find(&self, at: usize) -> Place
+    pub(crate) fn find(&self, at: usize) -> Place
         requires { at < length (joined self.now) }
         ensures in_range { result.segment < length self.now }
         ensures place { IsPlace (counts_of self.now) at result }
@@ -98,7 +103,7 @@ impl Spine {
         ensures { result.now ≡ slice_index_or (joined self.now) at [] }
     {
         let place = self.find(at);
-        let chunk = self.chunks[place.segment].chunk();
+        let chunk = self.chunks[place.segment].get();
         chunk.value(place.offset)
     }
 
@@ -113,7 +118,7 @@ impl Spine {
     {
         let place = self.find(at);
         let chunk = &mut self.chunks[place.segment];
-        chunk.set(place.offset, value, sizes, at)
+        set_shared(chunk, place.offset, value, sizes, at)
     }
 
     /// Whether the last chunk takes one more value.
@@ -122,7 +127,7 @@ impl Spine {
     {
         match self.chunks.last() {
             None => false,
-            Some(last) => last.chunk().len() < CHUNK_MOST,
+            Some(last) => last.get().len() < CHUNK_MOST,
         }
     }
 
@@ -138,7 +143,7 @@ impl Spine {
     {
         let last = self.chunks.len() - 1;
         let chunk = &mut self.chunks[last];
-        chunk.push(value, sizes)?;
+        push_shared(chunk, value, sizes)?;
         self.ends.extend_last();
         Ok(())
     }
@@ -166,7 +171,7 @@ impl Spine {
         ensures values { IfOk result (λ next. added parts.new ≡ added parts.old ++ take (next - from) (drop from (joined self.now))) }
     {
         let place = self.find(from);
-        let chunk = self.chunks[place.segment].chunk();
+        let chunk = self.chunks[place.segment].get();
         let count = (chunk.len() - place.offset).min(to - from);
         parts.add(chunk, place.offset, place.offset + count)?;
         Ok(from + count)
@@ -250,7 +255,7 @@ impl Spine {
         if replaced.first == 0 || splice.at < self.len() {
             return Ok(());
         }
-        parts.prepare(self.chunks[replaced.first - 1].chunk(), CHUNK_MOST)
+        parts.prepare(self.chunks[replaced.first - 1].get(), CHUNK_MOST)
     }
 
     /// The values that stand in place of those of the replaced chunks.
@@ -271,7 +276,7 @@ impl Spine {
     }
 
     /// Puts chunks in place of those from `first` up to `after`.
-    fn put(&mut self, first: usize, after: usize, fresh: Vec<SharedChunk>) -> Result<(), Memory>
+    fn put(&mut self, first: usize, after: usize, fresh: Vec<Shared<Chunk>>) -> Result<(), Memory>
         requires order { first ≤ after }
         requires in_range { after ≤ length self.old }
         requires few { sum (take first (counts_of self.old) ++ (counts_of fresh.items ++ drop after (counts_of self.old))) ≤ 16777216 }
@@ -287,13 +292,13 @@ impl Spine {
 }
 
 /// How many values each chunk has.
-fn counts(alloc: Global, chunks: &[SharedChunk]) -> Result<Vec<usize>, Memory>
+fn counts(alloc: Global, chunks: &[Shared<Chunk>]) -> Result<Vec<usize>, Memory>
     ensures counts { IfOk result (λ counts. counts.items ≡ counts_of chunks.now) }
     ensures few { IfOk result (λ counts. All (λ n. n ≤ 512) counts.items) }
 {
     let mut counts = Vec::with_capacity(alloc, chunks.len())?;
     for shared in chunks {
-        counts.push(shared.chunk().len())?;
+        counts.push(shared.get().len())?;
     }
     Ok(counts)
 }

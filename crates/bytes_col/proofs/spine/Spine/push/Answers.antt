@@ -29,7 +29,7 @@ invariant_of-self-2 c =
     let chunks : vec_len c.self.inside.chunks ≡ length c.self.inside.chunks.items = search rules in
     let last = c.len-last.result - 1 in
     let len : suc last ≡ length c.self.inside.chunks.items = omega (arith, c.len-last.ensures, takes.some) in
-    rw c.in_ok-push.ensures.ok
+    rw c.in_ok-push_shared.ensures.ok
     (segments_pushed c.self.inside.chunks.items c.self.inside.ends c.self.invariant c.index_mut-chunk.result.now last len c.index_mut-chunk.ensures.value
     c.extend_last.new.self c.args.value.now c.extend_last.ensures)
 
@@ -39,7 +39,7 @@ returns-clause-ok c =
     let chunks : vec_len c.self.inside.chunks ≡ length c.self.inside.chunks.items = search rules in
     let last = c.len-last.result - 1 in
     let len : suc last ≡ length c.self.inside.chunks.items = omega (arith, c.len-last.ensures, takes.some) in
-    rw (c.in_ok-push.ensures.ok, ← c.self.view_is)
+    rw (c.in_ok-push_shared.ensures.ok, ← c.self.view_is)
     (joined-pushed c.self.inside.chunks.items c.index_mut-chunk.result.now c.args.value.now last len c.index_mut-chunk.ensures.value)
 
 pub returns-clause-sizes : goal.returns-clause-sizes
@@ -48,6 +48,6 @@ returns-clause-sizes c =
     let chunks : vec_len c.self.inside.chunks ≡ length c.self.inside.chunks.items = search rules in
     let last = c.len-last.result - 1 in
     let len : suc last ≡ length c.self.inside.chunks.items = omega (arith, c.len-last.ensures, takes.some) in
-    sizes_pushed (joined c.self.inside.chunks.items) _ c.args.sizes.now c.push.new.sizes c.args.value.now (rw (← c.self.view_is) at c.requires.sizes)
-    (rw c.in_ok-push.ensures.ok (joined-pushed c.self.inside.chunks.items c.index_mut-chunk.result.now c.args.value.now last len c.index_mut-chunk.ensures.value))
-    c.in_ok-push.ensures.sizes c.in_ok-push.ensures.home
+    sizes_pushed (joined c.self.inside.chunks.items) _ c.args.sizes.now c.push_shared.new.sizes c.args.value.now (rw (← c.self.view_is) at c.requires.sizes)
+    (rw c.in_ok-push_shared.ensures.ok (joined-pushed c.self.inside.chunks.items c.index_mut-chunk.result.now c.args.value.now last len c.index_mut-chunk.ensures.value))
+    c.in_ok-push_shared.ensures.sizes c.in_ok-push_shared.ensures.home

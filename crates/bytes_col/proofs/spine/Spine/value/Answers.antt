@@ -6,5 +6,5 @@ pub returns : goal.returns
 returns c =
     rw (← c.self.view_is)
     (c.value.ensures
-    ∙ read_place c.self.inside.chunks.items c.args.at c.find-place.result c.chunk-chunk.result.now
-    (rw (← c.self.view_is) at c.find-place.ensures.place) (rw (← c.chunk-chunk.ensures) at c.index.ensures) [])
+    ∙ read_place c.self.inside.chunks.items c.args.at c.find-place.result c.get-chunk.result.now
+    (rw (← c.self.view_is) at c.find-place.ensures.place) (rw (← c.get-chunk.ensures) at c.index.ensures) [])

@@ -4,7 +4,7 @@ use Rattle.std.specs.List.{filter, concat, range_with_len}
 use Rattle.bytes_col.specs.declared.home.BytesHome.{BytesHome}
 
 -- the values, and where the column stands in a file
-pub record Column : Type 0 where
+pub record Strings : Type 0 where
   pub values : List (List ℕ)
   pub home : Option BytesHome
 
