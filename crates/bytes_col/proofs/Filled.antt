@@ -1,7 +1,7 @@
 -- Laws of short bytes that are written from a place on.
-use Rattle.std.proofs.Common.{◌≡◌, ℕ, suc, ◌+◌, ◌-◌, ◌<◌, ◌≤◌, List, [], ◌∷◌, ◌++◌, length, min, get_or, take, drop, inl, inr, refl, sym, ap, subst, ◌∙◌, arith}
+use Rattle.std.proofs.Common.{◌≡◌, ℕ, suc, ◌+◌, ◌-◌, ◌<◌, ◌≤◌, List, [], ◌∷◌, ◌++◌, length, min, get_or, take, drop, inl, inr, refl, sym, ap, ◌∙◌, arith}
 use Rattle.std.proofs.lemmas.Bool.{cases_lt}
-use Rattle.std.proofs.lemmas.List.{append-nil, take-append-drop, take-append-le, take_all, length-append, length-drop, drop-append-le, drop-drop, drop_all, drop_at, drop_more}
+use Rattle.std.proofs.lemmas.List.{take-append-drop, take-append-le, take_all, length-append, length-drop, drop-append-le, drop-drop, drop_all, drop_at, drop_more}
 use Rattle.segments.specs.declared.segments.Place.{Place}
 use Rattle.segments.specs.Segments.{IsPlace, start_of}
 use Rattle.segments.specs.Joined.{joined, counts_of}

@@ -1,6 +1,7 @@
 -- What a column of byte strings is seen as, and the parts that it is written in.
-use Rattle.std.specs.Prelude.{ℕ, zero, suc, ℤ, pos, Bool, not, nat_le, List, length, map, slice_index_or, [], Option, None}
+use Rattle.std.specs.Prelude.{ℕ, zero, suc, ℤ, pos, Bool, not, nat_le, List, length, map, slice_index_or, [], ◌∷◌, Option, None}
 use Rattle.std.specs.List.{filter, concat, range_with_len}
+use Rattle.bit_pack.specs.Packed.{packed}
 use Rattle.bytes_col.specs.declared.home.BytesHome.{BytesHome}
 
 -- the values, and where the column stands in a file
@@ -28,3 +29,11 @@ memo_rows values = filter (λ row. not (is_short (slice_index_or values row []))
 abbrev pub home_after : ℕ → Option BytesHome → Option BytesHome
 home_after zero home = home
 home_after (suc n) home = None
+
+-- the memos, in the order of the rows
+abbrev pub long_values : List (List ℕ) → List (List ℕ)
+long_values values = filter (λ value. not (is_short value)) values
+
+-- The blocks of a column, as bytes: its sizes packed, its short values joined, and each memo.
+abbrev pub string_blocks : List (List ℕ) → List (List ℕ)
+string_blocks values = packed (sizes_of values) ∷ short_bytes values ∷ long_values values

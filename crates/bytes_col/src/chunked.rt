@@ -320,11 +320,7 @@ fn set_in_chunk(
 }
 
 /// Adds a value to a chunk that has all values, and its size.
-fn push_to_chunk(
-    chunk: &mut Shared<Chunk>,
-    value: &[u8],
-    sizes: &mut IntCol,
-) -> Result<(), Memory>
+fn push_to_chunk(chunk: &mut Shared<Chunk>, value: &[u8], sizes: &mut IntCol) -> Result<(), Memory>
     requires room { length chunk.old < 512 }
     requires sizes { HasSizes chunk.old sizes.old }
     ensures ok { OnOk result (chunk.new ≡ chunk.old ++ value.now ∷ []) }

@@ -12,7 +12,7 @@ use crate::chunk::{CHUNK_MOST, Chunk, push_shared, set_shared};
 use crate::parts::Parts;
 use int_col::IntCol;
 use mk_value::Memory;
-use segments::{Shared, Splice, Place, Segments, Replaced, replace_parts};
+use segments::{Place, Replaced, Segments, Shared, Splice, replace_parts};
 use std::alloc::{AllocError, Global};
 use std::marker::Model;
 
@@ -76,7 +76,10 @@ impl Spine {
     pub(crate) fn into_chunks(self) -> Vec<Shared<Chunk>>
         ensures { result.items ≡ self }
     {
-        let Spine { chunks, ends: _ends } = self;
+        let Spine {
+            chunks,
+            ends: _ends,
+        } = self;
         chunks
     }
 
@@ -248,7 +251,12 @@ impl Spine {
 
     /// Where a splice adds values at the end, makes room for a whole chunk of values like those of the chunk before, since more are
     /// likely to follow.
-    fn expect_more(&self, parts: &mut Parts, splice: &Splice, replaced: &Replaced) -> Result<(), Memory>
+    fn expect_more(
+        &self,
+        parts: &mut Parts,
+        splice: &Splice,
+        replaced: &Replaced,
+    ) -> Result<(), Memory>
         requires { replaced.now.first ≤ length self.now }
         ensures { OnOk result (added parts.new ≡ added parts.old) }
     {
@@ -259,7 +267,12 @@ impl Spine {
     }
 
     /// The values that stand in place of those of the replaced chunks.
-    fn parts_after(&self, splice: &Splice, replaced: &Replaced, value: &[u8]) -> Result<Parts, Memory>
+    fn parts_after(
+        &self,
+        splice: &Splice,
+        replaced: &Replaced,
+        value: &[u8],
+    ) -> Result<Parts, Memory>
         requires applies { Applies (length (joined self.now)) splice.now }
         requires covers { Covers (counts_of self.now) splice.now replaced.now }
         ensures { IfOk result (λ parts. added parts ≡ items_after (joined self.now) splice.now replaced.now value.now) }

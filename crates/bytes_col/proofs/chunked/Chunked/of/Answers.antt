@@ -1,4 +1,4 @@
-use Rattle.std.proofs.Common.{ap, length, map, take, arith}
+use Rattle.std.proofs.Common.{ap, length, take, arith}
 use Rattle.std.proofs.lemmas.List.{length-map, length-take}
 use Rattle.bytes_col.proofs.chunked.Chunked.of.Goals as goal
 
