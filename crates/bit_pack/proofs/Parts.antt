@@ -1,9 +1,8 @@
 -- The packing of values, and of their parts at a byte's edge.
-use Rattle.std.proofs.Common.{◌≡◌, ℕ, zero, suc, ◌+◌, ◌-◌, ◌*◌, ◌/◌, ◌%◌, ◌^◌, ◌<◌, ◌≤◌, ℤ, List, ◌++◌, length, map, get_or, take, drop, inl, inr, refl, sym, ap, subst, ◌∙◌, add-one, arith}
-use Rattle.std.proofs.Math.Nat.{mul_comm, mul_assoc, mul-zero, mul-le-mul_right, mod-eq_of_lt, div-one, pow-le-pow_right}
+use Rattle.std.proofs.Common.{◌≡◌, ℕ, zero, suc, ◌+◌, ◌*◌, ◌/◌, ◌%◌, ◌^◌, ◌<◌, ◌≤◌, ℤ, List, ◌++◌, length, map, take, drop, refl, sym, ap, subst, ◌∙◌, add-one, arith}
+use Rattle.std.proofs.Math.Nat.{mul_comm, mul_assoc, mul-zero, mod-eq_of_lt, div-one, pow-le-pow_right}
 use Rattle.std.proofs.lemmas.Nat.{mod_below}
-use Rattle.std.proofs.lemmas.Bool.{cases_lt}
-use Rattle.std.proofs.lemmas.List.{length-append, take_all, length-take, length-drop, take-append-drop, take_at, drop_at, get_or_append_left, get_or-append-add}
+use Rattle.std.proofs.lemmas.List.{take_at, drop_at}
 use Rattle.std.proofs.lemmas.List.Elements.{All-from_recursion}
 use Rattle.std.specs.Int.{byte_at, bytes_low_first}
 use Rattle.std.specs.List.{range_with_len, AllByRecursion}
@@ -87,52 +86,3 @@ packed-split w xs ys bytes h edge =
     let front : packing w xs ≡ take n bytes = sym (ap (take n) joined ∙ take_at (packing w xs) (packing w ys) n (length-packing w xs)) in
     let back : packing w ys ≡ drop n bytes = sym (ap (drop n) joined ∙ drop_at (packing w xs) (packing w ys) n (length-packing w xs)) in
     (subst (PackedAt w xs) front first, subst (PackedAt w ys) back second)
-
--- The byte at a place is that of the eight values that it is among.
-pub packing-group : (w : Width) (vs : List ℤ) (q r : ℕ) → HoldsAll w vs → r < bit_count w → bit_count w * q + r < packed_len w (length vs) → (8 * q < length vs) × (r < packed_len w (length (take 8 (drop (8 * q) vs)))) × (get_or (packing w vs) (bit_count w * q + r) 0 ≡ get_or (packing w (take 8 (drop (8 * q) vs))) r 0)
-packing-group w vs q r h small within =
-    let b = bit_count w in
-    let n = length vs in
-    let m = 8 * q in
-    let xs = take m vs in
-    let ys = drop m vs in
-    let below : 8 * (b * q + r) < n * b = omega (arith, within) in
-    let there : m < n = elim (cases_lt m n) [
-      | inl lt ↦ lt
-      | inr le ↦ absurd (
-          let more : n * b ≤ m * b = mul-le-mul_right b le in
-          let turned : m * b ≡ 8 * (b * q) = omega arith in
-          omega (arith, below, more, turned))
-    ] in
-    let xs_len : length xs ≡ m = simp length-take (omega arith) in
-    let ys_len : length ys ≡ n - m = length-drop m vs in
-    let whole : xs ++ ys ≡ vs = take-append-drop m vs in
-    let held : HoldsAll w (xs ++ ys) = subst (HoldsAll w) (sym whole) h in
-    let held_ys : HoldsAll w ys = held-append_right w xs ys held in
-    let edge = ends_at_edge w (length xs) q xs_len in
-    let front_len : packed_len w (length xs) ≡ b * q =
-    let bits : b * length xs ≡ 8 * (b * q) = ap (λ (k : ℕ). b * k) xs_len ∙ omega arith in
-    omega (arith, edge, bits) in
-    let joined : packing w vs ≡ packing w xs ++ packing w ys = ap (packing w) (sym whole) ∙ packing-append w xs ys held edge in
-    let lens : packed_len w n ≡ b * q + packed_len w (length ys) = sym (length-packing w vs) ∙ ap length joined ∙ length-append (packing w xs) (packing w ys) ∙ omega (arith, length-packing w xs, length-packing w ys, front_len) in
-    let in_ys : r < packed_len w (length ys) = omega (arith, lens, within) in
-    let front : length (packing w xs) ≡ b * q = length-packing w xs ∙ front_len in
-    let first : get_or (packing w vs) (b * q + r) 0 ≡ get_or (packing w ys) r 0 = ap (λ (zs : List ℕ). get_or zs (b * q + r) 0) joined ∙ ap (λ (k : ℕ). get_or (packing w xs ++ packing w ys) (k + r) 0) (sym front) ∙ get_or-append-add (packing w xs) (packing w ys) r 0 in
-    let second = of_eight w ys r held_ys small in_ys in
-    (there, second.0, first ∙ second.1)
-  where
-    of_eight : (w : Width) (ys : List ℤ) (r : ℕ) → HoldsAll w ys → r < bit_count w → r < packed_len w (length ys) → (r < packed_len w (length (take 8 ys))) × (get_or (packing w ys) r 0 ≡ get_or (packing w (take 8 ys)) r 0)
-    of_eight w ys r held small within = elim (cases_lt 8 (length ys)) [
-      | inl more ↦ (
-          let len : length (take 8 ys) ≡ 8 = simp length-take (omega arith) in
-          let whole : take 8 ys ++ drop 8 ys ≡ ys = take-append-drop 8 ys in
-          let edge = ends_at_edge w (length (take 8 ys)) 1 len in
-          let bits : packed_len w (length (take 8 ys)) ≡ bit_count w = omega (arith, edge, ap (λ (k : ℕ). bit_count w * k) len) in
-          let joined : packing w ys ≡ packing w (take 8 ys) ++ packing w (drop 8 ys) = ap (packing w) (sym whole) ∙ packing-append w (take 8 ys) (drop 8 ys) (subst (HoldsAll w) (sym whole) held) edge in
-          let inside : r < packed_len w (length (take 8 ys)) = omega (arith, small, bits) in
-          let here : r < length (packing w (take 8 ys)) = omega (arith, inside, length-packing w (take 8 ys)) in
-          (inside, ap (λ (zs : List ℕ). get_or zs r 0) joined ∙ get_or_append_left (packing w (take 8 ys)) (packing w (drop 8 ys)) 0 r here))
-      | inr few ↦ (
-          let all : take 8 ys ≡ ys = take_all 8 ys few in
-          (subst (λ (zs : List ℤ). r < packed_len w (length zs)) (sym all) within, ap (λ (zs : List ℤ). get_or (packing w zs) r 0) (sym all)))
-    ]

@@ -5,7 +5,7 @@ use Rattle.std.specs.List.{range_with_len}
 use Rattle.std.specs.Int.{div_ceil, cast_signed, bytes_low_first, w8, w16, w32, w64}
 use Rattle.bit_pack.specs.declared.widths.Width.{Width}
 use Rattle.bit_pack.specs.declared.widths.Width.TheVariants.{W0, W1, W2, W4, W8, W16, W32, W64}
-use Rattle.bit_pack.specs.Width.{bit_count, HoldsAll, IsLeastWidth}
+use Rattle.bit_pack.specs.Width.{bit_count, HoldsAll, IsLeastWidth, least_width}
 
 -- the number whose digits in base b are these, the lowest first
 abbrev pub number_of : ℕ → List ℕ → ℕ
@@ -84,3 +84,7 @@ HasPadding w bytes n = 2 ^ (bit_count w * n) ≤ little_endian bytes
 -- The packing of values at a width: the bytes of their number, the lowest first. It is what PackedAt determines.
 abbrev pub packing : Width → List ℤ → List ℕ
 packing w values = bytes_low_first 0 (packed_len w (length values)) (packed_number w values)
+
+-- the values packed at their least width: the bytes that Packed determines
+abbrev pub packed : List ℤ → List ℕ
+packed values = packing (least_width values) values

@@ -1,5 +1,5 @@
 -- How many bits a value takes at each width, and which values those bits hold.
-use Rattle.std.specs.Prelude.{ℕ, ◌<◌, ◌≤◌, ℤ, pos, negsuc, ◌≤ℤ◌, List, All}
+use Rattle.std.specs.Prelude.{ℕ, ◌<◌, ◌≤◌, ◌^◌, ℤ, pos, negsuc, ◌≤ℤ◌, List, [], ◌∷◌, All, nat_lt, if◌then◌else◌}
 use Rattle.bit_pack.specs.declared.widths.Width.{Width}
 use Rattle.bit_pack.specs.declared.widths.Width.TheVariants.{W0, W1, W2, W4, W8, W16, W32, W64}
 
@@ -55,3 +55,29 @@ pub record IsLeastWidth (w : Width) (values : List ℤ) : Type 0 where
 pub record IsNarrower (u w : Width) : Type 0 where
   pub below : bit_count u < bit_count w
   pub next : (v : Width) → bit_count v < bit_count w → bit_count v ≤ bit_count u
+
+-- the least width that holds a value of 64 bits
+abbrev pub width_of : ℤ → Width
+width_of (pos n) =
+    if nat_lt n 1 then W0
+    else (if nat_lt n 2 then W1
+    else (if nat_lt n 4 then W2
+    else (if nat_lt n 16 then W4
+    else (if nat_lt n (2 ^ 7) then W8
+    else (if nat_lt n (2 ^ 15) then W16
+    else (if nat_lt n (2 ^ 31) then W32
+    else W64))))))
+width_of (negsuc n) =
+    if nat_lt n (2 ^ 7) then W8
+    else (if nat_lt n (2 ^ 15) then W16
+    else (if nat_lt n (2 ^ 31) then W32
+    else W64))
+
+-- the wider of two widths
+abbrev pub wider : Width → Width → Width
+wider u w = if nat_lt (bit_count u) (bit_count w) then w else u
+
+-- the least width that holds all values: the one that IsLeastWidth determines
+abbrev pub least_width : List ℤ → Width
+least_width [] = W0
+least_width (v ∷ values) = wider (width_of v) (least_width values)

@@ -21,7 +21,6 @@ mod widths;
 pub use error::PackError;
 pub use lists::{Bytes, Values};
 pub use packed::{
-    MOST_VALUES, get, is_least, least_width, pack, pack_into, pack_range, packed_byte, put, unpack,
-    unpack_into,
+    MOST_VALUES, check, get, is_least, least_width, pack, pack_into, put, unpack, unpack_into,
 };
 pub use widths::{Width, width_for};

@@ -1,9 +1,9 @@
 //! Packing, unpacking, and single values of packed bytes.
-ghost use Rattle.std.specs.Prelude.{◌≡◌, ℕ, ℤ, List, ◌+◌, ◌*◌, ◌^◌, ◌<◌, ◌≤◌, ◌↔◌, length, slice_get, slice_set, slice_index, slice_range, Some, IsTrue, IfOk, IfErr};
+ghost use Rattle.std.specs.Prelude.{◌≡◌, ◌≢◌, ℕ, ℤ, List, ◌+◌, ◌*◌, ◌^◌, ◌<◌, ◌≤◌, ◌↔◌, length, slice_get, slice_set, Some, IsTrue, IfOk, IfErr, OnOk};
 ghost use Rattle.bit_pack.specs.declared.widths.Width.{Width};
 ghost use Rattle.bit_pack.specs.Width.{Holds, HoldsAll, IsLeastWidth};
-ghost use Rattle.bit_pack.specs.Packed.{Reaches, HasPadding, PackedAt, Packed, packed_len, packing, value_at, values_from};
-ghost use Rattle.bit_pack.specs.Refusal.{IsRefusal};
+ghost use Rattle.bit_pack.specs.Packed.{Reaches, HasPadding, PackedAt, Packed, packed, packed_len, value_at, values_from};
+ghost use Rattle.bit_pack.specs.Refusal.{IsRefusal, IsWhole};
 
 use crate::by_width;
 use crate::error::PackError;
@@ -54,47 +54,6 @@ pub fn pack_into(width: Width, values: &[i64], into: &mut [u8])
     by_width::write_run(width, values, into);
 }
 
-/// The byte at place `at` of the packing of the values, where the width need not be the least. Eight values are
-/// as many bytes as a value has bits, so it packs the eight that the byte is among.
-pub fn packed_byte(width: Width, values: &[i64], at: usize) -> u8
-    requires held { HoldsAll width values.now }
-    requires within { at < packed_len width (length values.now) }
-    ensures { result ≡ slice_index (packing width values.now) at }
-{
-    let bits = usize::from(width.bits());
-    let first = 8 * (at / bits);
-    let group = &values[first..values.len().min(first + 8)];
-    let len = width.packed_len(group.len());
-    let mut bytes = [0; 64];
-    pack_into(width, group, &mut bytes[..len]);
-    bytes[at % bits]
-}
-
-/// Packs the values, where the width need not be the least, and writes the bytes of the packing from place `from`
-/// on. It is fast where it writes all of them.
-pub fn pack_range(width: Width, values: &[i64], from: usize, into: &mut [u8])
-    requires held { HoldsAll width values.now }
-    requires within { from + length into.old ≤ packed_len width (length values.now) }
-    ensures { into.new ≡ slice_range (packing width values.now) from (from + length into.old) }
-{
-    if into.len() == width.packed_len(values.len()) {
-        pack_into(width, values, into);
-    } else {
-        pack_bytes(width, values, from, into);
-    }
-}
-
-/// Writes the bytes of the packing from place `from` on, one by one.
-fn pack_bytes(width: Width, values: &[i64], from: usize, into: &mut [u8])
-    requires held { HoldsAll width values.now }
-    requires within { from + length into.old ≤ packed_len width (length values.now) }
-    ensures { into.new ≡ slice_range (packing width values.now) from (from + length into.old) }
-{
-    for (i, byte) in into.iter_mut().enumerate() {
-        *byte = packed_byte(width, values, from + i);
-    }
-}
-
 /// Whether the width is the least that holds the first `count` values of packed bytes. It stops at the first
 /// value that needs the width.
 pub fn is_least(width: Width, bytes: &[u8], count: usize) -> bool
@@ -129,6 +88,7 @@ fn has_padding(width: Width, bytes: &[u8], count: usize) -> bool
 pub fn pack(alloc: Global, width: Width, values: &[i64]) -> Result<Bytes, PackError>
     requires { IsLeastWidth width values.now }
     ensures packed { IfOk result (Packed width values.now) }
+    ensures value { IfOk result (λ bytes. bytes ≡ packed values.now) }
     ensures only { IfErr result (λ e. e ≡ PackError.Memory) }
 {
     let mut bytes = vec![in alloc; 0; width.packed_len(values.len())]?;
@@ -136,7 +96,8 @@ pub fn pack(alloc: Global, width: Width, values: &[i64]) -> Result<Bytes, PackEr
     Ok(Bytes::from(bytes))
 }
 
-/// The `count` values that the bytes are, packed at this width. The causes of the errors exclude one another.
+/// Whether the bytes are `count` values, packed at this width. The causes of the errors exclude one another. It takes
+/// no memory.
 ///
 /// # Errors
 ///
@@ -144,12 +105,13 @@ pub fn pack(alloc: Global, width: Width, values: &[i64]) -> Result<Bytes, PackEr
 /// - `Length`, where there are more or fewer bytes than so many values take: how many they take, and how
 ///   many there are;
 /// - `Padding`, where a bit past the last value is set: the place of the last byte;
-/// - `NotLeast`, where a smaller width holds the values: the width that was given, and the least one;
-/// - `Memory`, which only bytes that are well packed can get.
-pub fn unpack(alloc: Global, width: Width, count: usize, bytes: &[u8]) -> Result<Values, PackError>
+/// - `NotLeast`, where a smaller width holds the values: the width that was given, and the least one.
+pub fn check(width: Width, count: usize, bytes: &[u8]) -> Result<(), PackError>
     requires { count ≤ MOST_VALUES }
-    ensures packed { IfOk result (λ values. Packed width values bytes.now × (length values ≡ count)) }
+    ensures packed { OnOk result (Packed width (values_from width bytes.now 0 count) bytes.now) }
+    ensures whole { OnOk result (IsWhole width count bytes.now) }
     ensures refused { IfErr result (IsRefusal width count bytes.now) }
+    ensures no_memory { IfErr result (λ e. e ≢ PackError.Memory) }
 {
     let len = width.packed_len(count);
     if bytes.len() != len {
@@ -161,6 +123,21 @@ pub fn unpack(alloc: Global, width: Width, count: usize, bytes: &[u8]) -> Result
     if !is_least(width, bytes, count) {
         return Err(PackError::NotLeast(width, least_width(width, bytes, count)));
     }
+    Ok(())
+}
+
+/// The `count` values that the bytes are, packed at this width.
+///
+/// # Errors
+///
+/// Those of `check`, and `Memory`, which only bytes that are well packed can get.
+pub fn unpack(alloc: Global, width: Width, count: usize, bytes: &[u8]) -> Result<Values, PackError>
+    requires { count ≤ MOST_VALUES }
+    ensures packed { IfOk result (λ values. Packed width values bytes.now × (length values ≡ count)) }
+    ensures value { IfOk result (λ values. bytes.now ≡ packed values) }
+    ensures refused { IfErr result (IsRefusal width count bytes.now) }
+{
+    check(width, count, bytes)?;
     let mut values = vec![in alloc; 0; count]?;
     unpack_into(width, bytes, 0, &mut values);
     Ok(Values::from(values))

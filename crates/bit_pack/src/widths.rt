@@ -2,7 +2,7 @@
 ghost use Rattle.std.specs.Prelude.{◌≡◌, ◌≢◌, ℕ, ℤ, ◌*◌, ◌^◌, ◌<◌, ◌≤◌, ◌↔◌, max, pos, fold, IsTrue, IfSome, IfNone};
 ghost use Rattle.std.specs.Int.{int_min, int_max};
 ghost use Rattle.bit_pack.specs.declared.widths.Width.{Width};
-ghost use Rattle.bit_pack.specs.Width.{bit_count, lowest, highest, Holds, IsLeastWidth, IsNarrower};
+ghost use Rattle.bit_pack.specs.Width.{bit_count, lowest, highest, Holds, IsLeastWidth, IsNarrower, least_width};
 ghost use Rattle.bit_pack.specs.Packed.{packed_len};
 
 /// How many bits each value of a packed list takes. Up to 4 bits are unsigned, and from 8 bits on
@@ -191,7 +191,8 @@ fn range_of(values: &[i64]) -> (i64, i64)
 
 /// The least width that holds all values.
 pub fn width_for(values: &[i64]) -> Width
-    ensures { IsLeastWidth result values.now }
+    ensures least { IsLeastWidth result values.now }
+    ensures value { result ≡ least_width values.now }
 {
     let (low, high) = range_of(values);
     Width::of(low).wider(Width::of(high))

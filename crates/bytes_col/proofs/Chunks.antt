@@ -6,7 +6,7 @@ use Rattle.std.specs.Bool.{OnTrue, OnFalse}
 use Rattle.std.specs.Result.{OnOk, OnErr}
 use Rattle.std.specs.List.{All}
 use Rattle.bytes_col.specs.declared.cell.Cell.{Cell}
-use Rattle.bytes_col.specs.Column.{short_bytes}
+use Rattle.bytes_col.specs.Strings.{short_bytes}
 use Rattle.bytes_col.specs.declared.cell.Piece.{Piece}
 use Rattle.bytes_col.specs.Chunk.{cell_value, cell_values, IsCell, IsApart, AreApart, IsBehind, IsChunk, overwritten}
 use Rattle.bytes_col.proofs.Short.{length-short-append, length-short-set, short_few, short_size}

@@ -5,11 +5,11 @@ use Rattle.std.proofs.lemmas.List.{append-nil, take-append-le, length-append, le
 use Rattle.std.proofs.lemmas.List.Elements.{filter-append}
 use Rattle.std.proofs.lemmas.List.FromFn.{map-range_with_len_more}
 use Rattle.std.specs.List.{filter, range_with_len}
-use Rattle.runs.proofs.Lists.{take-append-more}
-use Rattle.bytes_col.specs.Column.{short_bytes}
-use Rattle.runs.specs.Joined.{joined}
+use Rattle.segments.proofs.Lists.{take-append-more}
+use Rattle.bytes_col.specs.Strings.{short_bytes}
+use Rattle.segments.specs.Joined.{joined}
 use Rattle.bytes_col.proofs.Short.{short-append}
-use Rattle.runs.proofs.Joined.{joined-append}
+use Rattle.segments.proofs.Joined.{joined-append}
 
 drop-past : (b p : List ℕ) (skip : ℕ) → drop (length b + skip) (b ++ p) ≡ drop skip p
 drop-past b p skip =

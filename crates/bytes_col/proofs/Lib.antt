@@ -1,8 +1,9 @@
 pub mod Short
 pub mod Chunks
 pub mod PartLaws
-pub mod Edits
+pub mod Splices
 pub mod Columns
 pub mod Sizes
 pub mod Fills
 pub mod Orders
+mod Filled

@@ -1,8 +1,8 @@
 -- Laws of chunks under construction.
 use Rattle.std.proofs.Common.{◌≡◌, ℕ, zero, suc, ◌+◌, ◌*◌, ◌-◌, ◌<◌, ◌≤◌, List, [], ◌∷◌, ◌++◌, length, get_or, take, drop, replicate, sym, ap, ◌∙◌, arith}
 use Rattle.std.proofs.lemmas.List.{append_assoc, append-nil, replicate-append-replicate, take_more, get_or-drop, length-drop}
-use Rattle.runs.specs.Joined.{joined}
-use Rattle.runs.proofs.Joined.{joined-append}
+use Rattle.segments.specs.Joined.{joined}
+use Rattle.segments.proofs.Joined.{joined-append}
 
 pub joined-copies : (n : ℕ) (c : List (List ℕ)) (m : ℕ) (v : List ℕ) → c ≡ replicate m v → joined (replicate n c) ≡ replicate (n * m) v
 joined-copies zero c m v is = ap (λ k. replicate k v) (let e : 0 ≡ 0 * m = omega arith in e)

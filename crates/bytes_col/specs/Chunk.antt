@@ -3,8 +3,8 @@ use Rattle.std.specs.Prelude.{◌≡◌, ℕ, ◌+◌, ◌<◌, ◌≤◌, ◌�
 use Rattle.std.specs.List.{All}
 use Rattle.bytes_col.specs.declared.cell.Cell.{Cell}
 use Rattle.bytes_col.specs.declared.cell.Piece.{Piece}
-use Rattle.int_col.specs.Column.{Column as Integers}
-use Rattle.bytes_col.specs.Column.{short_bytes}
+use Rattle.int_col.specs.Numbers.{Numbers}
+use Rattle.bytes_col.specs.Strings.{short_bytes}
 
 -- the value of a cell of a chunk that has these bytes
 abbrev pub cell_value : List ℕ → Cell → List ℕ
@@ -48,6 +48,6 @@ pub record IsChunk (cells : List Cell) (bytes : List ℕ) (short : ℕ) : Type 0
   pub count : short ≡ length (short_bytes (cell_values bytes cells))
 
 -- the value's size is that of this row
-pub record HasSize (sizes : Integers) (row : ℕ) (value : List ℕ) : Type 0 where
+pub record HasSize (sizes : Numbers) (row : ℕ) (value : List ℕ) : Type 0 where
   pub size : slice_get sizes.values row ≡ Some (pos (length value))
   pub nowhere : sizes.home ≡ None

@@ -1,7 +1,7 @@
 -- Chunks under construction.
 use Rattle.std.specs.Prelude.{ℕ, List, ◌++◌}
 use Rattle.bytes_col.specs.declared.parts.Parts.{Parts}
-use Rattle.runs.specs.Joined.{joined}
+use Rattle.segments.specs.Joined.{joined}
 
 -- the values added so far
 abbrev pub added : Parts → List (List ℕ)

@@ -1,16 +1,16 @@
 -- The list of a column's chunks, each seen as the list of its values.
 use Rattle.std.specs.Prelude.{◌≡◌, ℕ, ◌-◌, ◌<◌, List, [], length, slice_index_or, Option, None}
-use Rattle.int_col.specs.Column.{Column as Integers}
+use Rattle.int_col.specs.Numbers.{Numbers}
 use Rattle.bytes_col.specs.declared.home.BytesHome.{BytesHome}
-use Rattle.runs.specs.Joined.{joined}
-use Rattle.bytes_col.specs.Column.{Column, sizes_of}
+use Rattle.segments.specs.Joined.{joined}
+use Rattle.bytes_col.specs.Strings.{Strings, sizes_of}
 
 -- what these chunks and this home are seen as
-abbrev pub column_of : List (List (List ℕ)) → Option BytesHome → Column
-column_of chunks home = record { values = joined chunks; home = home }
+abbrev pub strings_of : List (List (List ℕ)) → Option BytesHome → Strings
+strings_of chunks home = record { values = joined chunks; home = home }
 
 -- these are the sizes of the values
-pub record HasSizes (values : List (List ℕ)) (sizes : Integers) : Type 0 where
+pub record HasSizes (values : List (List ℕ)) (sizes : Numbers) : Type 0 where
   pub are : sizes.values ≡ sizes_of values
   pub nowhere : sizes.home ≡ None
 

@@ -1,6 +1,6 @@
-//! A run of values.
+//! A segment of values.
 ghost use Rattle.std.specs.Prelude.{◌≡◌, ℕ, pos, ◌+◌, ◌-◌, ◌*◌, ◌<◌, ◌≤◌, [], ◌∷◌, ◌++◌, length, slice_set, slice_index_or, take, drop, replicate, None, IfOk, OnOk, OnErr};
-ghost use Rattle.bytes_col.specs.Column.{short_bytes};
+ghost use Rattle.bytes_col.specs.Strings.{short_bytes};
 ghost use Rattle.std.specs.Bool.{OnTrue, OnFalse};
 ghost use Rattle.bytes_col.specs.Chunk.{cell_value, IsCell, IsBehind, HasSize, overwritten};
 
@@ -8,6 +8,7 @@ use crate::cell::{Cell, Piece, SHORT_MOST};
 use crate::memo::Memo;
 use int_col::IntCol;
 use mk_value::Memory;
+use segments::Shared;
 use std::alloc::{AllocError, Global};
 use std::marker::Model;
 
@@ -41,6 +42,8 @@ impl Clone for Chunk {
     ghost is_clone = { λ a b. b ≡ a };
 
     /// A copy is made to be written to, so it has room for one more short value.
+    #[cold]
+    #[inline(never)]
     fn clone(&self) -> Result<Chunk, AllocError> {
         let room = self.bytes.len().saturating_add(SHORT_MOST);
         let mut bytes = Vec::with_capacity(*self.bytes.allocator(), room)?;
@@ -84,6 +87,10 @@ impl Chunk {
         self.cells.reserve(count)?;
         self.bytes.reserve(each.saturating_mul(count))?;
         Ok(())
+    }
+
+    pub(crate) fn allocator(&self) -> Global {
+        *self.bytes.allocator()
     }
 
     /// How many values there are.
@@ -250,6 +257,42 @@ impl Chunk {
         }
         Ok(chunk)
     }
+}
+
+/// Adds a value, and its size. Other owners keep the chunk as it was.
+pub(crate) fn push_shared(
+    chunk: &mut Shared<Chunk>,
+    value: &[u8],
+    sizes: &mut IntCol,
+) -> Result<(), Memory>
+    requires room { length chunk.old < 512 }
+    requires few { length sizes.old.values < 16777216 }
+    ensures ok { OnOk result (chunk.new ≡ chunk.old ++ value.now ∷ []) }
+    ensures sizes { OnOk result (sizes.new.values ≡ sizes.old.values ++ pos (length value.now) ∷ []) }
+    ensures home { OnOk result (sizes.new.home ≡ None) }
+    ensures err { OnErr result (chunk.new ≡ chunk.old) }
+    ensures sizes_err { OnErr result (sizes.new ≡ sizes.old) }
+{
+    chunk.own()?.push(value, sizes)
+}
+
+/// Sets a value, and its size. Other owners keep the chunk as it was.
+pub(crate) fn set_shared(
+    chunk: &mut Shared<Chunk>,
+    at: usize,
+    value: &[u8],
+    sizes: &mut IntCol,
+    row: usize,
+) -> Result<(), Memory>
+    requires at { at < length chunk.old }
+    requires size { HasSize sizes.old row (slice_index_or chunk.old at []) }
+    ensures ok { OnOk result (chunk.new ≡ slice_set chunk.old at value.now) }
+    ensures sizes { OnOk result (sizes.new ≡ record sizes.old { values = slice_set sizes.old.values row (pos (length value.now)); home = None }) }
+    ensures len { length chunk.new ≡ length chunk.old }
+    ensures err { OnErr result (chunk.new ≡ chunk.old) }
+    ensures sizes_err { OnErr result (sizes.new ≡ sizes.old) }
+{
+    chunk.own()?.set(at, value, sizes, row)
 }
 
 /// How many short bytes a value has.

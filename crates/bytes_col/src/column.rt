@@ -3,12 +3,13 @@ ghost use Rattle.std.specs.Prelude.{◌≡◌, ℕ, pos, ◌+◌, ◌-◌, ◌<�
 ghost use Rattle.std.specs.List.{filter};
 ghost use Rattle.std.specs.Ordering.{nat_cmp};
 ghost use Rattle.std.specs.Cmp.Lexicographic.{slice_cmp};
-ghost use Rattle.bytes_col.specs.Column.{Column, is_short, short_bytes, sizes_of, memo_rows, home_after};
+ghost use Rattle.bytes_col.specs.Strings.{Strings, is_short, short_bytes, sizes_of, memo_rows, home_after};
 
 use crate::cell::SHORT_MOST;
-use crate::home::BytesHome;
+use crate::chunked::Chunked;
+use crate::home::{BytesHome, Home};
 use crate::order::order;
-use crate::shared::SharedSpine;
+use crate::short_bytes::ShortBytes;
 use int_col::IntCol;
 use mk_value::{Bytes, Memory, Positions};
 use std::alloc::Global;
@@ -20,21 +21,21 @@ use std::marker::Model;
 /// A value of more than 512 bytes is a memo; the others are short.
 #[derive(Drop)]
 pub struct BytesCol {
-    spine: SharedSpine,
+    chunks: Chunked,
     sizes: IntCol,
-    home: Option<BytesHome>,
+    home: Option<Home>,
 }
 
 impl Model for BytesCol {
-    ghost use Rattle.bytes_col.specs.Column.{Column};
-    ghost use Rattle.runs.specs.Joined.{joined};
-    ghost use Rattle.bytes_col.specs.Spine.{column_of, HasSizes};
+    ghost use Rattle.bytes_col.specs.Strings.{Strings};
+    ghost use Rattle.segments.specs.Joined.{joined};
+    ghost use Rattle.bytes_col.specs.Spine.{strings_of, HasSizes};
 
-    ghost Value = { Column };
+    ghost Value = { Strings };
 
-    ghost view = { λ c. column_of c.spine c.home };
+    ghost view = { λ c. strings_of c.chunks c.home };
 
-    ghost invariant = { λ c. HasSizes (joined c.spine) c.sizes };
+    ghost invariant = { λ c. HasSizes (joined c.chunks) c.sizes };
 }
 
 impl BytesCol {
@@ -54,9 +55,9 @@ impl BytesCol {
     {
         let sizes = sizes(alloc, values)?;
         Ok(BytesCol {
-            spine: SharedSpine::of(alloc, values)?,
+            chunks: Chunked::of(alloc, values)?,
             sizes: IntCol::from_values(alloc, &sizes, None)?,
-            home,
+            home: common_home(alloc, home)?,
         })
     }
 
@@ -65,7 +66,7 @@ impl BytesCol {
         ensures len { result ≡ length self.now.values }
         ensures few { length self.now.values ≤ 16777216 }
     {
-        self.spine.spine().len()
+        self.chunks.len()
     }
 
     /// Whether there are no values.
@@ -73,6 +74,14 @@ impl BytesCol {
         ensures { result ≡ (length self.now.values == 0) }
     {
         self.len() == 0
+    }
+
+    /// The value at a place, lent.
+    pub fn value(&self, at: usize) -> &[u8]
+        requires { at < length self.now.values }
+        ensures { result.now ≡ slice_index_or self.now.values at [] }
+    {
+        self.chunks.value(at)
     }
 
     /// A copy of the value at a place.
@@ -84,8 +93,7 @@ impl BytesCol {
         requires { at < length self.now.values }
         ensures { IfOk result (λ value. value.bytes ≡ slice_index_or self.now.values at []) }
     {
-        let spine = self.spine.spine();
-        Bytes::from_slice(spine.allocator(), spine.value(at))
+        Bytes::from_slice(self.chunks.allocator(), self.chunks.value(at))
     }
 
     /// Sets the value at a place. The home is then none, also where the value was there before.
@@ -101,7 +109,7 @@ impl BytesCol {
         ensures ok { OnOk result (self.new ≡ record self.old { values = slice_set self.old.values at value.now; home = None }) }
         ensures err { OnErr result (self.new ≡ self.old) }
     {
-        self.spine.set(at, value, &mut self.sizes)?;
+        self.chunks.set(at, value, &mut self.sizes)?;
         self.home = None;
         Ok(())
     }
@@ -124,7 +132,7 @@ impl BytesCol {
         if count == 0 {
             return Ok(());
         }
-        self.spine.insert(at, value, count, &mut self.sizes)?;
+        self.chunks.insert(at, value, count, &mut self.sizes)?;
         self.home = None;
         Ok(())
     }
@@ -145,7 +153,7 @@ impl BytesCol {
         if count == 0 {
             return Ok(());
         }
-        self.spine.remove(at, count, &mut self.sizes)?;
+        self.chunks.remove(at, count, &mut self.sizes)?;
         self.home = None;
         Ok(())
     }
@@ -155,7 +163,7 @@ impl BytesCol {
         requires { at < length self.now.values }
         ensures { result ≡ slice_cmp nat_cmp (slice_index_or self.now.values at []) with.now }
     {
-        order(self.spine.spine().value(at), with)
+        order(self.chunks.value(at), with)
     }
 
     /// How the values at two places compare, as in `cmp_with`.
@@ -164,8 +172,7 @@ impl BytesCol {
         requires b { b < length self.now.values }
         ensures { result ≡ slice_cmp nat_cmp (slice_index_or self.now.values a []) (slice_index_or self.now.values b []) }
     {
-        let spine = self.spine.spine();
-        order(spine.value(a), spine.value(b))
+        order(self.chunks.value(a), self.chunks.value(b))
     }
 
     /// The sizes of the values in bytes. They have no home of their own.
@@ -181,7 +188,7 @@ impl BytesCol {
         ensures count { result ≡ length (short_bytes self.now.values) }
         ensures sum { result ≡ sum (filter (λ size. nat_le size 512) (map length self.now.values)) }
     {
-        self.spine.spine().short_len() as u64
+        self.chunks.short_len() as u64
     }
 
     /// The rows of the memos, ascending. It costs a look at each value.
@@ -204,7 +211,7 @@ impl BytesCol {
         requires { row < length self.now.values }
         ensures { result ≡ not (is_short (slice_index_or self.now.values row [])) }
     {
-        self.spine.spine().value(row).len() > SHORT_MOST
+        self.chunks.value(row).len() > SHORT_MOST
     }
 
     /// Writes the bytes of the short values, joined in the order of the rows, from byte `from` on.
@@ -212,7 +219,15 @@ impl BytesCol {
         requires { from + length into.old ≤ length (short_bytes self.now.values) }
         ensures { into.new ≡ take (length into.old) (drop from (short_bytes self.now.values)) }
     {
-        self.spine.spine().fill_short(from as usize, into);
+        self.chunks.fill_short(0, from as usize, into);
+    }
+
+    /// The bytes of the short values, joined in the order of the rows, to be written one piece after another. It costs a look at
+    /// each chunk.
+    pub fn short(&self) -> ShortBytes<'_>
+        ensures { result ≡ short_bytes self.now.values }
+    {
+        ShortBytes::of(&self.chunks)
     }
 
     /// Writes the bytes of a value from byte `from` on.
@@ -221,7 +236,7 @@ impl BytesCol {
         requires within { from + length into.old ≤ length (slice_index_or self.now.values row []) }
         ensures { into.new ≡ take (length into.old) (drop from (slice_index_or self.now.values row [])) }
     {
-        let value = self.spine.spine().value(row);
+        let value = self.chunks.value(row);
         let from = from as usize;
         into.copy_from_slice(&value[from..from + into.len()]);
     }
@@ -231,17 +246,21 @@ impl BytesCol {
         ensures some { IfSome result (λ home. self.now.home ≡ Some home.now) }
         ensures none { IfNone result (self.now.home ≡ None) }
     {
-        self.home.as_ref()
+        match &self.home {
+            None => None,
+            Some(home) => Some(home.get()),
+        }
     }
 
     /// Sets the home, and nothing else. It takes no memory.
     pub fn settle(&mut self, home: BytesHome)
         ensures { self.new ≡ record self.old { home = Some home } }
     {
-        self.home = Some(home);
+        self.home = Some(Home::own(home));
     }
 
-    /// A copy, which shares all values. It costs the length of the home.
+    /// A copy, which shares all values and the home. Only where the home was set by `settle` it costs the length of the home; the
+    /// copies of the copy share it.
     ///
     /// # Errors
     ///
@@ -250,9 +269,24 @@ impl BytesCol {
         ensures { IfOk result (λ copy. copy ≡ self.now) }
     {
         Ok(BytesCol {
-            spine: self.spine.clone()?,
+            chunks: self.chunks.clone()?,
             sizes: self.sizes.same()?,
-            home: copy_home(self.spine.spine().allocator(), &self.home)?,
+            home: same_home(self.chunks.allocator(), &self.home)?,
+        })
+    }
+
+    /// The same values without a home, which share all memory.
+    ///
+    /// # Errors
+    ///
+    /// `Memory`, where there are as many copies as can be counted.
+    pub fn unplaced(&self) -> Result<BytesCol, Memory>
+        ensures { IfOk result (λ copy. copy ≡ record self.now { home = None }) }
+    {
+        Ok(BytesCol {
+            chunks: self.chunks.clone()?,
+            sizes: self.sizes.same()?,
+            home: None,
         })
     }
 }
@@ -278,12 +312,22 @@ fn push_where(rows: &mut Positions, sought: bool, row: u32) -> Result<(), Memory
     Ok(())
 }
 
-/// A copy of a home.
-fn copy_home(alloc: Global, home: &Option<BytesHome>) -> Result<Option<BytesHome>, Memory>
-    ensures { IfOk result (λ copy. copy ≡ home.now) }
+/// A home that copies share.
+fn common_home(alloc: Global, home: Option<BytesHome>) -> Result<Option<Home>, Memory>
+    ensures { IfOk result (λ common. common ≡ home) }
 {
     match home {
         None => Ok(None),
-        Some(home) => Ok(Some(home.copy(alloc)?)),
+        Some(home) => Ok(Some(Home::common(alloc, home)?)),
+    }
+}
+
+/// The same home for a copy.
+fn same_home(alloc: Global, home: &Option<Home>) -> Result<Option<Home>, Memory>
+    ensures { IfOk result (λ same. same ≡ home.now) }
+{
+    match home {
+        None => Ok(None),
+        Some(home) => Ok(Some(home.same(alloc)?)),
     }
 }

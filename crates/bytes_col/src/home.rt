@@ -1,9 +1,10 @@
 //! Where a column of byte strings stands in a file.
-
 ghost use Rattle.std.specs.Prelude.{◌≡◌, IfOk};
 
 use mk_value::{Memory, Span, Spans};
+use segments::Shared;
 use std::alloc::Global;
+use std::marker::Model;
 
 /// The blocks of a column: the packed sizes of its values, its short values joined, and each memo, in the order of the
 /// rows.
@@ -30,4 +31,77 @@ impl BytesHome {
             memos: Spans::from(memos),
         })
     }
+}
+
+/// How a column has its home.
+#[derive(Drop)]
+pub(crate) enum Tie {
+    /// By itself, as it was settled.
+    Own(BytesHome),
+    /// Together with its copies.
+    Common(Shared<BytesHome>),
+}
+
+/// The home of a column, which its copies share. A caller sees the home.
+#[derive(Drop)]
+pub(crate) struct Home {
+    tie: Tie,
+}
+
+impl Model for Home {
+    ghost use Rattle.bytes_col.specs.declared.home.BytesHome.{BytesHome};
+
+    ghost Value = { BytesHome };
+
+    ghost use Rattle.bytes_col.specs.Ties.{home_of};
+
+    ghost view = { λ h. home_of h.tie };
+}
+
+impl Home {
+    /// This home. It takes no memory.
+    pub(crate) fn own(home: BytesHome) -> Home
+        ensures { result ≡ home }
+    {
+        Home {
+            tie: Tie::Own(home),
+        }
+    }
+
+    /// This home, for copies to share.
+    pub(crate) fn common(alloc: Global, home: BytesHome) -> Result<Home, Memory>
+        ensures { IfOk result (λ common. common ≡ home) }
+    {
+        Ok(Home {
+            tie: Tie::Common(Shared::of(alloc, home)?),
+        })
+    }
+
+    pub(crate) fn get(&self) -> &BytesHome
+        ensures { result.now ≡ self.now }
+    {
+        match &self.tie {
+            Tie::Own(home) => home,
+            Tie::Common(home) => home.get(),
+        }
+    }
+
+    /// The same home for a copy: one owner more, or where the column has it by itself a copy that further copies share.
+    pub(crate) fn same(&self, alloc: Global) -> Result<Home, Memory>
+        ensures { IfOk result (λ same. same ≡ self.now) }
+    {
+        match &self.tie {
+            Tie::Own(home) => Home::common(alloc, home.copy(alloc)?),
+            Tie::Common(home) => common_of(home),
+        }
+    }
+}
+
+/// One owner more of a home.
+fn common_of(home: &Shared<BytesHome>) -> Result<Home, Memory>
+    ensures { IfOk result (λ common. common ≡ home.now) }
+{
+    Ok(Home {
+        tie: Tie::Common(home.clone()?),
+    })
 }

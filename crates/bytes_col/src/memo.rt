@@ -2,14 +2,15 @@
 ghost use Rattle.std.specs.Prelude.{◌≡◌, length, IfOk};
 ghost use Rattle.std.specs.Bool.{OnTrue, OnFalse};
 
+use mk_value::Memory;
+use segments::Shared;
 use std::alloc::{AllocError, Global};
 use std::marker::Model;
-use std::rc::Rc;
 
 /// The bytes of a long value, in memory of their own that its owners share. They are written to only where there is one owner.
 #[derive(Drop)]
 pub(crate) struct Memo {
-    inner: Rc<Vec<u8>>,
+    bytes: Shared<Vec<u8>>,
 }
 
 impl Model for Memo {
@@ -17,7 +18,7 @@ impl Model for Memo {
 
     ghost Value = { List ℕ };
 
-    ghost view = { λ m. m.inner.value.items };
+    ghost view = { λ m. m.bytes.items };
 }
 
 impl Clone for Memo {
@@ -25,18 +26,25 @@ impl Clone for Memo {
 
     fn clone(&self) -> Result<Memo, AllocError> {
         Ok(Memo {
-            inner: self.inner.clone()?,
+            bytes: self.bytes.clone()?,
         })
     }
 }
 
 impl Memo {
-    pub(crate) fn of(alloc: Global, bytes: &[u8]) -> Result<Memo, AllocError>
+    /// A copy of these bytes.
+    pub(crate) fn of(alloc: Global, bytes: &[u8]) -> Result<Memo, Memory>
         ensures { IfOk result (λ memo. memo ≡ bytes.now) }
     {
-        let bytes = Vec::from_slice(alloc, bytes)?;
+        Memo::from_vec(alloc, Vec::from_slice(alloc, bytes)?)
+    }
+
+    /// These bytes themselves.
+    pub(crate) fn from_vec(alloc: Global, bytes: Vec<u8>) -> Result<Memo, Memory>
+        ensures { IfOk result (λ memo. memo ≡ bytes.items) }
+    {
         Ok(Memo {
-            inner: Rc::new(alloc, bytes)?,
+            bytes: Shared::of(alloc, bytes)?,
         })
     }
 
@@ -46,7 +54,7 @@ impl Memo {
         ensures size { OnTrue result (length bytes.now ≡ length self.old) }
         ensures not_done { OnFalse result (self.new ≡ self.old) }
     {
-        match Rc::get_mut(&mut self.inner) {
+        match self.bytes.sole() {
             Some(own) if own.len() == bytes.len() => {
                 own.copy_from_slice(bytes);
                 true
@@ -58,6 +66,6 @@ impl Memo {
     pub(crate) fn bytes(&self) -> &[u8]
         ensures { result.now ≡ self.now }
     {
-        self.inner.as_slice()
+        self.bytes.get().as_slice()
     }
 }

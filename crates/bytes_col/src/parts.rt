@@ -1,17 +1,17 @@
 //! Chunks under construction.
 ghost use Rattle.std.specs.Prelude.{◌≡◌, ℕ, ◌+◌, ◌-◌, ◌*◌, ◌<◌, ◌≤◌, [], ◌∷◌, ◌++◌, length, slice_index_or, take, drop, replicate, IfOk, OnOk};
-ghost use Rattle.runs.specs.Joined.{joined};
+ghost use Rattle.segments.specs.Joined.{joined};
 
 use crate::chunk::{CHUNK_MOST, Chunk};
-use crate::shared::SharedChunk;
 use mk_value::Memory;
+use segments::Shared;
 use std::alloc::Global;
 use std::mem::replace;
 
 /// Chunks under construction: those that are done, and the last, which takes more values.
 #[derive(Drop)]
 pub(crate) struct Parts {
-    done: Vec<SharedChunk>,
+    done: Vec<Shared<Chunk>>,
     last: Chunk,
 }
 
@@ -35,7 +35,7 @@ impl Parts {
     {
         let alloc = *self.done.allocator();
         let last = replace(&mut self.last, Chunk::new(alloc));
-        self.done.push(SharedChunk::of(alloc, last)?)?;
+        self.done.push(Shared::of(alloc, last)?)?;
         Ok(())
     }
 
@@ -118,16 +118,16 @@ impl Parts {
         let alloc = *self.done.allocator();
         let mut whole = Chunk::new(alloc);
         whole.add_copies(one, 0, CHUNK_MOST)?;
-        push_clones(&mut self.done, &SharedChunk::of(alloc, whole)?, count)
+        push_clones(&mut self.done, &Shared::of(alloc, whole)?, count)
     }
 
     /// The chunks.
-    pub(crate) fn finish(self) -> Result<Vec<SharedChunk>, Memory>
+    pub(crate) fn finish(self) -> Result<Vec<Shared<Chunk>>, Memory>
         ensures { IfOk result (λ chunks. joined chunks.items ≡ added self) }
     {
         let Parts { mut done, last } = self;
         if last.len() > 0 {
-            done.push(SharedChunk::of(*done.allocator(), last)?)?;
+            done.push(Shared::of(*done.allocator(), last)?)?;
         }
         Ok(done)
     }
@@ -135,8 +135,8 @@ impl Parts {
 
 /// Adds owners of a chunk.
 fn push_clones(
-    chunks: &mut Vec<SharedChunk>,
-    chunk: &SharedChunk,
+    chunks: &mut Vec<Shared<Chunk>>,
+    chunk: &Shared<Chunk>,
     count: usize,
 ) -> Result<(), Memory>
     ensures { OnOk result (chunks.new.items ≡ chunks.old.items ++ replicate count chunk.now) }

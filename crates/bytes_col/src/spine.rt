@@ -1,66 +1,63 @@
 //! The list of a column's chunks.
 ghost use Rattle.std.specs.Prelude.{◌≡◌, ℕ, pos, ◌+◌, ◌-◌, ◌<◌, ◌≤◌, List, [], ◌∷◌, ◌++◌, length, sum, slice_set, slice_index_or, take, drop, replicate, map, None, All, IfOk, OnOk, OnErr};
 ghost use Rattle.std.specs.Bool.{OnTrue};
-ghost use Rattle.runs.specs.Runs.{IsPlace};
-ghost use Rattle.runs.specs.Edits.{Applies, Covers, items_after, replaced};
-ghost use Rattle.runs.specs.Joined.{joined, counts_of};
-ghost use Rattle.bytes_col.specs.Column.{short_bytes, sizes_of};
+ghost use Rattle.segments.specs.Segments.{IsPlace};
+ghost use Rattle.segments.specs.Splices.{Applies, Covers, items_after, spliced};
+ghost use Rattle.segments.specs.Joined.{joined, counts_of};
+ghost use Rattle.bytes_col.specs.Strings.{short_bytes, sizes_of};
 ghost use Rattle.bytes_col.specs.Spine.{HasSizes, LastTakes};
 ghost use Rattle.bytes_col.specs.Parts.{added};
 
-use crate::chunk::{CHUNK_MOST, Chunk};
+use crate::chunk::{CHUNK_MOST, Chunk, push_shared, set_shared};
 use crate::parts::Parts;
-use crate::shared::SharedChunk;
 use int_col::IntCol;
-use mk_value::{Bytes, Memory};
-use runs::{Edit, Place, Runs, Touched, replace_parts};
+use mk_value::Memory;
+use segments::{Place, Replaced, Segments, Shared, Splice, replace_parts};
 use std::alloc::{AllocError, Global};
 use std::marker::Model;
 
 /// The chunks in order, and how they cut the list of values.
 #[derive(Drop)]
 pub(crate) struct Spine {
-    chunks: Vec<SharedChunk>,
-    runs: Runs<CHUNK_MOST>,
+    chunks: Vec<Shared<Chunk>>,
+    ends: Segments<CHUNK_MOST>,
 }
 
 impl Model for Spine {
     ghost use Rattle.std.specs.Prelude.{◌≡◌, List, ℕ};
-    ghost use Rattle.runs.specs.Joined.{counts_of};
+    ghost use Rattle.segments.specs.Joined.{counts_of};
 
     ghost Value = { List (List (List ℕ)) };
 
     ghost view = { λ s. s.chunks.items };
 
-    ghost invariant = { λ s. s.runs ≡ counts_of s.chunks.items };
+    ghost invariant = { λ s. s.ends ≡ counts_of s.chunks.items };
 }
 
 impl Clone for Spine {
     ghost is_clone = { λ a b. b ≡ a };
 
+    #[cold]
+    #[inline(never)]
     fn clone(&self) -> Result<Spine, AllocError> {
         Ok(Spine {
             chunks: Vec::from_clones(*self.chunks.allocator(), &self.chunks)?,
-            runs: self.runs.clone()?,
+            ends: self.ends.clone()?,
         })
     }
 }
 
 impl Spine {
-    /// The spine of these values, in full chunks and a last one of what is left.
-    pub(crate) fn of(alloc: Global, values: &[Bytes]) -> Result<Spine, Memory>
-        requires { length values.now ≤ 16777216 }
-        ensures { IfOk result (λ spine. joined spine ≡ map (λ v. v.bytes) values.now) }
+    /// The spine of these chunks.
+    pub(crate) fn of_chunks(chunks: Vec<Shared<Chunk>>) -> Result<Spine, Memory>
+        requires { length (joined chunks.items) ≤ 16777216 }
+        ensures { IfOk result (λ spine. spine ≡ chunks.items) }
     {
-        let mut parts = Parts::new(alloc);
-        for value in values {
-            parts.append(value.as_slice())?;
-        }
-        let chunks = parts.finish()?;
+        let alloc = *chunks.allocator();
         let counts = counts(alloc, &chunks)?;
         Ok(Spine {
             chunks,
-            runs: Runs::from_counts(alloc, &counts)?,
+            ends: Segments::from_counts(alloc, &counts)?,
         })
     }
 
@@ -69,10 +66,21 @@ impl Spine {
     }
 
     /// The chunks in order.
-    pub(crate) fn chunks(&self) -> &[SharedChunk]
+    pub(crate) fn chunks(&self) -> &[Shared<Chunk>]
         ensures { result.now ≡ self.now }
     {
         &self.chunks
+    }
+
+    /// The chunks themselves.
+    pub(crate) fn into_chunks(self) -> Vec<Shared<Chunk>>
+        ensures { result.items ≡ self }
+    {
+        let Spine {
+            chunks,
+            ends: _ends,
+        } = self;
+        chunks
     }
 
     /// How many values there are.
@@ -80,16 +88,16 @@ impl Spine {
         ensures len { result ≡ length (joined self.now) }
         ensures few { result ≤ 16777216 }
     {
-        self.runs.len()
+        self.ends.len()
     }
 
     /// Where a value stands.
-    fn find(&self, at: usize) -> Place
+    pub(crate) fn find(&self, at: usize) -> Place
         requires { at < length (joined self.now) }
-        ensures in_range { result.run < length self.now }
+        ensures in_range { result.segment < length self.now }
         ensures place { IsPlace (counts_of self.now) at result }
     {
-        self.runs.find(at)
+        self.ends.find(at)
     }
 
     /// The value at a place.
@@ -98,7 +106,7 @@ impl Spine {
         ensures { result.now ≡ slice_index_or (joined self.now) at [] }
     {
         let place = self.find(at);
-        let chunk = self.chunks[place.run].chunk();
+        let chunk = self.chunks[place.segment].get();
         chunk.value(place.offset)
     }
 
@@ -112,8 +120,8 @@ impl Spine {
         ensures sizes_err { OnErr result (sizes.new ≡ sizes.old) }
     {
         let place = self.find(at);
-        let chunk = &mut self.chunks[place.run];
-        chunk.set(place.offset, value, sizes, at)
+        let chunk = &mut self.chunks[place.segment];
+        set_shared(chunk, place.offset, value, sizes, at)
     }
 
     /// Whether the last chunk takes one more value.
@@ -122,7 +130,7 @@ impl Spine {
     {
         match self.chunks.last() {
             None => false,
-            Some(last) => last.chunk().len() < CHUNK_MOST,
+            Some(last) => last.get().len() < CHUNK_MOST,
         }
     }
 
@@ -138,8 +146,8 @@ impl Spine {
     {
         let last = self.chunks.len() - 1;
         let chunk = &mut self.chunks[last];
-        chunk.push(value, sizes)?;
-        self.runs.extend_last();
+        push_shared(chunk, value, sizes)?;
+        self.ends.extend_last();
         Ok(())
     }
 
@@ -166,7 +174,7 @@ impl Spine {
         ensures values { IfOk result (λ next. added parts.new ≡ added parts.old ++ take (next - from) (drop from (joined self.now))) }
     {
         let place = self.find(from);
-        let chunk = self.chunks[place.run].chunk();
+        let chunk = self.chunks[place.segment].get();
         let count = (chunk.len() - place.offset).min(to - from);
         parts.add(chunk, place.offset, place.offset + count)?;
         Ok(from + count)
@@ -194,7 +202,7 @@ impl Spine {
         let mut longer = sizes.same()?;
         longer.insert(at, value.len() as i64, count)?;
         let end = at;
-        self.replace(&Edit { at, end, count }, value)?;
+        self.replace(&Splice { at, end, count }, value)?;
         *sizes = longer;
         Ok(())
     }
@@ -217,61 +225,71 @@ impl Spine {
         let mut shorter = sizes.same()?;
         shorter.remove(at, count)?;
         let end = at + count;
-        self.replace(&Edit { at, end, count: 0 }, &[])?;
+        self.replace(&Splice { at, end, count: 0 }, &[])?;
         *sizes = shorter;
         Ok(())
     }
 
-    /// Makes an edit, with copies of the value: the touched chunks are replaced, and all others stay.
-    fn replace(&mut self, edit: &Edit, value: &[u8]) -> Result<(), Memory>
-        requires { Applies (length (joined self.old)) edit.now }
-        ensures ok { OnOk result (joined self.new ≡ replaced (joined self.old) edit.now.at edit.now.end edit.now.count value.now) }
+    /// Makes a splice, with copies of the value: the replaced chunks are spliced, and all others stay.
+    fn replace(&mut self, splice: &Splice, value: &[u8]) -> Result<(), Memory>
+        requires { Applies (length (joined self.old)) splice.now }
+        ensures ok { OnOk result (joined self.new ≡ spliced (joined self.old) splice.now.at splice.now.end splice.now.count value.now) }
         ensures err { OnErr result (self.new ≡ self.old) }
     {
-        let touched = self.touched(edit);
-        let parts = self.parts_after(edit, &touched, value)?;
-        self.put(touched.first, touched.after, parts.finish()?)
+        let replaced = self.replaced(splice);
+        let parts = self.parts_after(splice, &replaced, value)?;
+        self.put(replaced.first, replaced.after, parts.finish()?)
     }
 
-    /// The chunks that an edit replaces.
-    fn touched(&self, edit: &Edit) -> Touched
-        requires { Applies (length (joined self.now)) edit.now }
-        ensures { Covers (counts_of self.now) edit.now result }
+    /// The chunks that a splice replaces.
+    fn replaced(&self, splice: &Splice) -> Replaced
+        requires { Applies (length (joined self.now)) splice.now }
+        ensures { Covers (counts_of self.now) splice.now result }
     {
-        self.runs.touched(edit)
+        self.ends.replaced(splice)
     }
 
-    /// Where an edit adds values at the end, makes room for a whole chunk of values like those of the chunk before, since more are
+    /// Where a splice adds values at the end, makes room for a whole chunk of values like those of the chunk before, since more are
     /// likely to follow.
-    fn expect_more(&self, parts: &mut Parts, edit: &Edit, touched: &Touched) -> Result<(), Memory>
-        requires { touched.now.first ≤ length self.now }
+    fn expect_more(
+        &self,
+        parts: &mut Parts,
+        splice: &Splice,
+        replaced: &Replaced,
+    ) -> Result<(), Memory>
+        requires { replaced.now.first ≤ length self.now }
         ensures { OnOk result (added parts.new ≡ added parts.old) }
     {
-        if touched.first == 0 || edit.at < self.len() {
+        if replaced.first == 0 || splice.at < self.len() {
             return Ok(());
         }
-        parts.prepare(self.chunks[touched.first - 1].chunk(), CHUNK_MOST)
+        parts.prepare(self.chunks[replaced.first - 1].get(), CHUNK_MOST)
     }
 
-    /// The values that stand in place of those of the touched chunks.
-    fn parts_after(&self, edit: &Edit, touched: &Touched, value: &[u8]) -> Result<Parts, Memory>
-        requires applies { Applies (length (joined self.now)) edit.now }
-        requires covers { Covers (counts_of self.now) edit.now touched.now }
-        ensures { IfOk result (λ parts. added parts ≡ items_after (joined self.now) edit.now touched.now value.now) }
+    /// The values that stand in place of those of the replaced chunks.
+    fn parts_after(
+        &self,
+        splice: &Splice,
+        replaced: &Replaced,
+        value: &[u8],
+    ) -> Result<Parts, Memory>
+        requires applies { Applies (length (joined self.now)) splice.now }
+        requires covers { Covers (counts_of self.now) splice.now replaced.now }
+        ensures { IfOk result (λ parts. added parts ≡ items_after (joined self.now) splice.now replaced.now value.now) }
     {
         let alloc = self.allocator();
         let mut one = Chunk::new(alloc);
         one.append(value)?;
         let mut parts = Parts::new(alloc);
-        self.expect_more(&mut parts, edit, touched)?;
-        self.add_to(&mut parts, touched.start, edit.at)?;
-        parts.add_copies(&one, edit.count)?;
-        self.add_to(&mut parts, edit.end, touched.stop)?;
+        self.expect_more(&mut parts, splice, replaced)?;
+        self.add_to(&mut parts, replaced.start, splice.at)?;
+        parts.add_copies(&one, splice.count)?;
+        self.add_to(&mut parts, splice.end, replaced.stop)?;
         Ok(parts)
     }
 
     /// Puts chunks in place of those from `first` up to `after`.
-    fn put(&mut self, first: usize, after: usize, fresh: Vec<SharedChunk>) -> Result<(), Memory>
+    fn put(&mut self, first: usize, after: usize, fresh: Vec<Shared<Chunk>>) -> Result<(), Memory>
         requires order { first ≤ after }
         requires in_range { after ≤ length self.old }
         requires few { sum (take first (counts_of self.old) ++ (counts_of fresh.items ++ drop after (counts_of self.old))) ≤ 16777216 }
@@ -279,21 +297,21 @@ impl Spine {
         ensures err { OnErr result (self.new ≡ self.old) }
     {
         let counts = counts(self.allocator(), &fresh)?;
-        let runs = self.runs.replaced(first, after, &counts)?;
+        let ends = self.ends.spliced(first, after, &counts)?;
         replace_parts(&mut self.chunks, first, after, fresh)?;
-        self.runs = runs;
+        self.ends = ends;
         Ok(())
     }
 }
 
 /// How many values each chunk has.
-fn counts(alloc: Global, chunks: &[SharedChunk]) -> Result<Vec<usize>, Memory>
+fn counts(alloc: Global, chunks: &[Shared<Chunk>]) -> Result<Vec<usize>, Memory>
     ensures counts { IfOk result (λ counts. counts.items ≡ counts_of chunks.now) }
     ensures few { IfOk result (λ counts. All (λ n. n ≤ 512) counts.items) }
 {
     let mut counts = Vec::with_capacity(alloc, chunks.len())?;
     for shared in chunks {
-        counts.push(shared.chunk().len())?;
+        counts.push(shared.get().len())?;
     }
     Ok(counts)
 }

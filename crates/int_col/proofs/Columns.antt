@@ -5,20 +5,20 @@ use Rattle.mk_value.specs.declared.span.Span.{Span}
 use Rattle.bit_pack.specs.declared.widths.Width.{Width}
 use Rattle.bit_pack.specs.Width.{bit_count, IsLeastWidth}
 use Rattle.bit_pack.proofs.LeastWidth.{least-append}
-use Rattle.runs.specs.declared.edit.Edit.{Edit}
-use Rattle.runs.specs.declared.edit.Touched.{Touched}
-use Rattle.runs.specs.Edits.{Covers, TakesNeighbors, AreApartBefore, AreApartBehind, size_after}
-use Rattle.runs.specs.Joined.{joined, counts_of}
-use Rattle.runs.proofs.Lists.{drop-cons-at, last_parts, set_last}
-use Rattle.runs.proofs.Joined.{joined-append, length-joined, length-counts, drop-joined, get_or-counts, count_is, counts-pushed, counts-replaced}
-use Rattle.runs.proofs.Counted.{runs_replaced, runs_pushed}
+use Rattle.segments.specs.declared.splice.Splice.{Splice}
+use Rattle.segments.specs.declared.splice.Replaced.{Replaced}
+use Rattle.segments.specs.Splices.{Covers, TakesNeighbors, AreApartBefore, AreApartBehind, size_after}
+use Rattle.segments.specs.Joined.{joined, counts_of}
+use Rattle.segments.proofs.Lists.{drop-cons-at, last_parts, set_last}
+use Rattle.segments.proofs.Joined.{joined-append, length-joined, length-counts, drop-joined, get_or-counts, count_is, counts-pushed, counts-spliced}
+use Rattle.segments.proofs.Counted.{segments_spliced, segments_pushed}
 use Rattle.int_col.specs.Cuts.{AreCuts}
-use Rattle.int_col.specs.Column.{IsColumn, segment_values}
-use Rattle.int_col.specs.Spine.{column_of, IsSpine, LastTakes}
+use Rattle.int_col.specs.Numbers.{IsColumn, segment_values}
+use Rattle.int_col.specs.Spine.{numbers_of, IsSpine, LastTakes}
 use Rattle.int_col.proofs.CutLaws.{AreCuts-last-more}
-use Rattle.int_col.proofs.Edits.{touched_apart}
+use Rattle.int_col.proofs.Splices.{replaced_apart}
 
-pub IsColumn-of : (ss : List (List ℤ)) (home : Option Span) → length (joined ss) ≤ 16777216 → AreCuts (counts_of ss) → IsColumn (column_of ss home)
+pub IsColumn-of : (ss : List (List ℤ)) (home : Option Span) → length (joined ss) ≤ 16777216 → AreCuts (counts_of ss) → IsColumn (numbers_of ss home)
 IsColumn-of ss home few cut = record {
   few = few;
   cut = cut;
@@ -26,7 +26,7 @@ IsColumn-of ss home few cut = record {
 }
 
 -- what segment k of a column is
-pub segment_values-of : (ss : List (List ℤ)) (home : Option Span) (k : ℕ) → k < length ss → segment_values (column_of ss home) k ≡ get_or ss k []
+pub segment_values-of : (ss : List (List ℤ)) (home : Option Span) (k : ℕ) → k < length ss → segment_values (numbers_of ss home) k ≡ get_or ss k []
 segment_values-of ss home k l =
     let s : List ℤ = get_or ss k [] in
     let rest : drop (sum (take k (counts_of ss))) (joined ss) ≡ s ++ joined (drop (suc k) ss) =
@@ -45,20 +45,20 @@ least-more ss k s w u t l here before own wider =
     ∙ ap (λ x. joined (take k ss) ++ x) (append-nil (get_or ss k s) ∙ sym here) in
     subst P (sym is) (least-append w u t (joined (take k ss)) s before own wider)
 
--- what an edit of a spine touches
-pub touched_parts : (ss : List (List ℤ)) (counts : List ℕ) (e : Edit) (t : Touched) → IsSpine ss counts → Covers counts e t → TakesNeighbors 2048 counts e t → Covers (counts_of ss) e t × AreApartBefore 2048 (counts_of ss) t.first (size_after e t) × AreApartBehind 2048 (size_after e t) (drop t.after (counts_of ss))
-touched_parts ss counts e t h c taken =
+-- what a splice of a spine touches
+pub replaced_parts : (ss : List (List ℤ)) (counts : List ℕ) (e : Splice) (t : Replaced) → IsSpine ss counts → Covers counts e t → TakesNeighbors 2048 counts e t → Covers (counts_of ss) e t × AreApartBefore 2048 (counts_of ss) t.first (size_after e t) × AreApartBehind 2048 (size_after e t) (drop t.after (counts_of ss))
+replaced_parts ss counts e t h c taken =
     let P : List ℕ → Type 0 = λ cs. Covers cs e t in
     let Q : List ℕ → Type 0 = λ cs. TakesNeighbors 2048 cs e t in
     let covers : Covers (counts_of ss) e t = subst P h.counted c in
-    let apart = touched_apart (counts_of ss) e t h.cut covers (subst Q h.counted taken) in
+    let apart = replaced_apart (counts_of ss) e t h.cut covers (subst Q h.counted taken) in
     (covers, apart.0, apart.1)
 
 -- segments in place of those from a up to b
-pub IsSpine-replaced : (ss fresh : List (List ℤ)) (counts made new : List ℕ) (a b : ℕ) → IsSpine ss counts → made ≡ counts_of fresh → AreCuts (take a (counts_of ss) ++ (counts_of fresh ++ drop b (counts_of ss))) → new ≡ take a counts ++ (made ++ drop b counts) → IsSpine (take a ss ++ (fresh ++ drop b ss)) new
-IsSpine-replaced ss fresh counts made new a b h are cut is = record {
-  cut = subst AreCuts (sym (counts-replaced ss fresh a b)) cut;
-  counted = runs_replaced ss counts h.counted fresh made new a b are is;
+pub IsSpine-spliced : (ss fresh : List (List ℤ)) (counts made new : List ℕ) (a b : ℕ) → IsSpine ss counts → made ≡ counts_of fresh → AreCuts (take a (counts_of ss) ++ (counts_of fresh ++ drop b (counts_of ss))) → new ≡ take a counts ++ (made ++ drop b counts) → IsSpine (take a ss ++ (fresh ++ drop b ss)) new
+IsSpine-spliced ss fresh counts made new a b h are cut is = record {
+  cut = subst AreCuts (sym (counts-spliced ss fresh a b)) cut;
+  counted = segments_spliced ss counts h.counted fresh made new a b are is;
 }
 
 -- a value more in the last segment
@@ -74,7 +74,7 @@ IsSpine-pushed ss counts new s v last h len here room is =
     counts-pushed ss s v last len here ∙ ap (λ m. set cs last (m + 1)) (sym count) ∙ set_last cs n (n + 1) last whole read in
     record {
       cut = subst AreCuts (sym longer) (AreCuts-last-more (take last cs) n (subst AreCuts old h.cut) room);
-      counted = runs_pushed ss counts h.counted s last len here new v is;
+      counted = segments_pushed ss counts h.counted s last len here new v is;
     }
 
 -- the last segment has room where it takes one more value

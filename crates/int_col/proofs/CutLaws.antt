@@ -2,8 +2,8 @@
 use Rattle.std.proofs.Common.{◌≡◌, ℕ, zero, suc, ◌+◌, ◌-◌, ◌*◌, ◌/◌, ◌%◌, ◌<◌, ◌≤◌, inl, inr, List, [], ◌∷◌, ◌++◌, length, get_or, take, drop, replicate, refl, sym, ap, subst, ◌∙◌, arith, sum}
 use Rattle.std.proofs.lemmas.List.{append-nil, replicate_more}
 use Rattle.std.proofs.lemmas.Bool.{cases_lt}
-use Rattle.runs.specs.Edits.{AreApartBefore, AreApartBehind}
-use Rattle.runs.proofs.Counts.{sum-cons, sum-append}
+use Rattle.segments.specs.Splices.{AreApartBefore, AreApartBehind}
+use Rattle.segments.proofs.Counts.{sum-cons, sum-append}
 use Rattle.int_col.specs.Cuts.{Precedes, AreCuts, rest_cut, full_cuts}
 
 -- a last cut c may stand right before these cuts
@@ -173,10 +173,10 @@ last_apart n (d ∷ ds) h apart =
     ]
 
 -- n values in place of the segments from a up to b
-pub AreCuts-replaced : (cs : List ℕ) (a b n : ℕ) → AreCuts cs → a ≤ length cs → AreApartBefore 2048 cs a n → AreApartBehind 2048 n (drop b cs) → AreCuts (take a cs ++ (full_cuts n ++ drop b cs))
-AreCuts-replaced cs zero b n h in_range left right =
+pub AreCuts-spliced : (cs : List ℕ) (a b n : ℕ) → AreCuts cs → a ≤ length cs → AreApartBefore 2048 cs a n → AreApartBehind 2048 n (drop b cs) → AreCuts (take a cs ++ (full_cuts n ++ drop b cs))
+AreCuts-spliced cs zero b n h in_range left right =
     AreCuts-append (full_cuts n) (drop b cs) (AreCuts-full_cuts n) (AreCuts-drop b cs h) (last_apart n (drop b cs) (AreCuts-drop b cs h) right)
-AreCuts-replaced cs (suc k) b n h in_range left right =
+AreCuts-spliced cs (suc k) b n h in_range left right =
     let in_cuts : k < length cs = omega arith in
     let behind : AreCuts (full_cuts n ++ drop b cs) = AreCuts-append (full_cuts n) (drop b cs) (AreCuts-full_cuts n) (AreCuts-drop b cs h) (last_apart n (drop b cs) (AreCuts-drop b cs h) right) in
     let before : Precedes (get_or cs k 0) (full_cuts n ++ drop b cs) = first_apart (get_or cs k 0) n (drop b cs) (cut_some cs k h in_cuts) (cut_few cs k h in_cuts) (left k refl) in

@@ -9,7 +9,7 @@ use Rattle.bit_pack.specs.Width.{bit_count, Holds, HoldsAll, IsLeastWidth}
 use Rattle.bit_pack.specs.Packed.{packed_len, packing}
 use Rattle.bit_pack.proofs.Parts.{packing-append, length-packing, ends_at_edge}
 use Rattle.bit_pack.proofs.LeastWidth.{same_least}
-use Rattle.int_col.specs.Column.{HasPackedBytes}
+use Rattle.int_col.specs.Numbers.{HasPackedBytes}
 
 -- n blocks are n times as many bytes
 pub packed_len-blocks : (w : Width) (n : ℕ) → packed_len w (512 * n) ≡ packed_len w 512 * n

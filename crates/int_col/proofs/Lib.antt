@@ -1,6 +1,7 @@
 pub mod CutLaws
 pub mod Lists
-pub mod Edits
+pub mod Splices
 pub mod Segments
 pub mod Columns
 pub mod Fills
+mod PackedCuts

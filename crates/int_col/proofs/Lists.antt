@@ -1,7 +1,7 @@
 -- Laws of values that are copied, and of copies that others are written over.
 use Rattle.std.proofs.Common.{◌≡◌, ℕ, ◌+◌, ◌-◌, ◌≤◌, List, ◌++◌, length, take, drop, replicate, sym, ap, ◌∙◌, arith}
 use Rattle.std.proofs.lemmas.List.{append_assoc, drop-drop, take_at, length-take-le, length-drop, take-replicate, drop-replicate}
-use Rattle.runs.proofs.Lists.{take-append-more, take-split}
+use Rattle.segments.proofs.Lists.{take-append-more, take-split}
 
 -- what a copy has reached: `done` values of `from` on, and r more
 pub copied_more : {X : Type 0} (whole xs ys zs rest : List X) (from done r : ℕ) → done ≤ length xs → from + done + r ≤ length whole → ys ≡ take r (drop (from + done) whole) ++ rest → take done xs ≡ take done (drop from whole) → take (done + r) (take done xs ++ (ys ++ zs)) ≡ take (done + r) (drop from whole)

@@ -34,6 +34,11 @@ segment_reaches count k w bytes h le =
     let len = length-values_from w bytes 0 count in
     reaches_within w bytes k (length (values_from w bytes 0 count)) (omega arith) (reaches_all w (values_from w bytes 0 count) bytes h.packed.packed)
 
+-- packed bytes have the bits of each value that they are
+pub packed_reaches : (w : Width) (n k : ℕ) (bytes : List ℕ) → PackedAt w (values_from w bytes 0 n) bytes → k ≤ n → Reaches w bytes k
+packed_reaches w n k bytes h le =
+    reaches_within w bytes k (length (values_from w bytes 0 n)) (omega (arith, length-values_from w bytes 0 n)) (reaches_all w (values_from w bytes 0 n) bytes h)
+
 -- the values from a place on, read from the bytes
 pub values_part : (w : Width) (bytes : List ℕ) (from n count : ℕ) → from + n ≤ count → values_from w bytes from n ≡ take n (drop from (values_from w bytes 0 count))
 values_part w bytes from n count within =

@@ -1,4 +1,5 @@
 pub mod Cuts
-pub mod Column
+pub mod Numbers
 pub mod Segment
+pub mod Segmented
 pub mod Spine

@@ -1,14 +1,14 @@
 -- The list of a column's segments, each seen as the list of its values.
 use Rattle.std.specs.Prelude.{◌≡◌, ℕ, ◌-◌, ◌<◌, ℤ, List, [], length, slice_index_or, Option}
 use Rattle.mk_value.specs.declared.span.Span.{Span}
-use Rattle.runs.specs.Joined.{joined, counts_of}
+use Rattle.segments.specs.Joined.{joined, counts_of}
 use Rattle.int_col.specs.Cuts.{AreCuts}
-use Rattle.int_col.specs.Column.{Column}
+use Rattle.int_col.specs.Numbers.{Numbers}
 use Rattle.int_col.specs.Segment.{Takes}
 
 -- what these segments and this home are seen as
-abbrev pub column_of : List (List ℤ) → Option Span → Column
-column_of segments home = record { values = joined segments; cuts = counts_of segments; home = home }
+abbrev pub numbers_of : List (List ℤ) → Option Span → Numbers
+numbers_of segments home = record { values = joined segments; cuts = counts_of segments; home = home }
 
 -- the segments are cut as they have to be, and these are their counts
 pub record IsSpine (segments : List (List ℤ)) (counts : List ℕ) : Type 0 where

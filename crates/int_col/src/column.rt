@@ -1,14 +1,16 @@
 //! A column of integers.
-ghost use Rattle.std.specs.Prelude.{◌≡◌, ℕ, ℤ, ◌+◌, ◌-◌, ◌<◌, ◌≤◌, ◌==◌, [], ◌++◌, length, take, drop, replicate, slice_get, slice_set, sum, if◌then◌else◌, Some, None, IfOk, OnOk, OnErr};
+ghost use Rattle.std.specs.Prelude.{◌≡◌, ℕ, ℤ, ◌+◌, ◌-◌, ◌<◌, ◌≤◌, ◌==◌, [], ◌++◌, length, take, drop, replicate, slice_get, slice_set, sum, if◌then◌else◌, Some, None, IfOk, IfErr, OnOk, OnErr};
 ghost use Rattle.bit_pack.specs.declared.widths.Width.{Width};
 ghost use Rattle.bit_pack.specs.Width.{IsLeastWidth};
-ghost use Rattle.bit_pack.specs.Packed.{Packed, packed_len};
+ghost use Rattle.bit_pack.specs.Packed.{Packed, packed};
+ghost use Rattle.bit_pack.specs.Refusal.{IsRefusal};
 ghost use Rattle.int_col.specs.Cuts.{full_cuts};
-ghost use Rattle.int_col.specs.Column.{Column, IsColumn, segment_values, home_after, HasPackedBytes, ArePackedBytes};
+ghost use Rattle.int_col.specs.Numbers.{Numbers, IsColumn, segment_values, home_after, HasPackedBytes, ArePackedBytes};
 
 use crate::held::Held;
-use crate::shared::SharedSpine;
-use bit_pack::Width;
+use crate::packed::PackedBytes;
+use crate::segmented::Segmented;
+use bit_pack::{PackError, Width};
 use mk_value::{Memory, Span};
 use std::alloc::Global;
 use std::marker::Model;
@@ -16,17 +18,17 @@ use std::marker::Model;
 /// A column of at most 16,777,216 integers, and where it stands in a file.
 #[derive(Drop)]
 pub struct IntCol {
-    spine: SharedSpine,
+    segments: Segmented,
     home: Option<Span>,
 }
 
 impl Model for IntCol {
-    ghost use Rattle.int_col.specs.Column.{Column};
-    ghost use Rattle.int_col.specs.Spine.{column_of};
+    ghost use Rattle.int_col.specs.Numbers.{Numbers};
+    ghost use Rattle.int_col.specs.Spine.{numbers_of};
 
-    ghost Value = { Column };
+    ghost Value = { Numbers };
 
-    ghost view = { λ c. column_of c.spine c.home };
+    ghost view = { λ c. numbers_of c.segments c.home };
 }
 
 impl IntCol {
@@ -42,8 +44,35 @@ impl IntCol {
         ensures home { IfOk result (λ column. column.home ≡ home) }
         ensures column { IfOk result IsColumn }
     {
-        let spine = SharedSpine::of(alloc, values)?;
-        Ok(IntCol { spine, home })
+        let segments = Segmented::of(alloc, values)?;
+        Ok(IntCol { segments, home })
+    }
+
+    /// The column of the `count` values that these bytes are, packed at this width, cut like those of `from_values`. It goes
+    /// segment by segment, and copies the bytes of each segment that needs the width itself.
+    ///
+    /// # Errors
+    ///
+    /// Those of `unpack`: `Length`, `Padding`, `NotLeast`, and `Memory`, which only bytes that are well packed can get.
+    pub fn from_packed(
+        alloc: Global,
+        width: Width,
+        count: usize,
+        bytes: &[u8],
+        home: Option<Span>,
+    ) -> Result<IntCol, PackError>
+        requires { count ≤ 16777216 }
+        ensures packed { IfOk result (λ column. Packed width column.values bytes.now × (length column.values ≡ count)) }
+        ensures cuts { IfOk result (λ column. column.cuts ≡ full_cuts count) }
+        ensures home { IfOk result (λ column. column.home ≡ home) }
+        ensures column { IfOk result IsColumn }
+        ensures refused { IfErr result (IsRefusal width count bytes.now) }
+    {
+        bit_pack::check(width, count, bytes)?;
+        match Segmented::of_packed(alloc, width, count, bytes) {
+            Ok(segments) => Ok(IntCol { segments, home }),
+            Err(Memory) => Err(PackError::Memory),
+        }
     }
 
     /// How many values there are.
@@ -51,7 +80,7 @@ impl IntCol {
         ensures len { result ≡ length self.now.values }
         ensures column { IsColumn self.now }
     {
-        self.spine.spine().len()
+        self.segments.len()
     }
 
     /// Whether there are no values.
@@ -66,7 +95,7 @@ impl IntCol {
         ensures count { result ≡ length self.now.cuts }
         ensures column { IsColumn self.now }
     {
-        self.spine.spine().segments()
+        self.segments.segments()
     }
 
     /// The segment of this number, counted from 0: how many values it holds, and their bytes, packed at their
@@ -76,7 +105,7 @@ impl IntCol {
         ensures count { slice_get self.now.cuts k ≡ Some result.count }
         ensures packed { Packed result.width (segment_values self.now k) result.bytes.now }
     {
-        self.spine.spine().segment(k)
+        self.segments.segment(k)
     }
 
     /// The value at a place.
@@ -84,7 +113,15 @@ impl IntCol {
         requires { at < length self.now.values }
         ensures { slice_get self.now.values at ≡ Some result }
     {
-        self.spine.spine().get(at)
+        self.segments.get(at)
+    }
+
+    /// Reads the values from a place on, as many as the slice takes. It takes no memory.
+    pub fn read(&self, from: usize, into: &mut [i64])
+        requires { from + length into.old ≤ length self.now.values }
+        ensures { into.new ≡ take (length into.old) (drop from self.now.values) }
+    {
+        self.segments.copy_values(from, into);
     }
 
     /// Sets the value at a place. The home is then none, also where the value was there before.
@@ -99,7 +136,7 @@ impl IntCol {
         ensures ok { OnOk result (self.new ≡ record self.old { values = slice_set self.old.values at value; home = None }) }
         ensures err { OnErr result (self.new ≡ self.old) }
     {
-        self.spine.set(at, value)?;
+        self.segments.set(at, value)?;
         self.home = None;
         Ok(())
     }
@@ -121,7 +158,7 @@ impl IntCol {
         if count == 0 {
             return Ok(());
         }
-        self.spine.insert(at, value, count)?;
+        self.segments.insert(at, value, count)?;
         self.home = None;
         Ok(())
     }
@@ -142,7 +179,7 @@ impl IntCol {
         if count == 0 {
             return Ok(());
         }
-        self.spine.remove(at, count)?;
+        self.segments.remove(at, count)?;
         self.home = None;
         Ok(())
     }
@@ -151,7 +188,7 @@ impl IntCol {
     pub fn width(&self) -> Width
         ensures { IsLeastWidth result self.now.values }
     {
-        self.spine.spine().width()
+        self.segments.width()
     }
 
     /// Writes the packed bytes of all values, at their least width, from byte `from` on.
@@ -159,7 +196,14 @@ impl IntCol {
         requires { HasPackedBytes self.now.values (from + length into.old) }
         ensures { ArePackedBytes self.now.values from into.new }
     {
-        self.spine.spine().fill(from, into);
+        self.segments.fill(self.segments.width(), from, into);
+    }
+
+    /// The packed bytes of all values, at their least width, to be written one piece after another.
+    pub fn packed(&self) -> PackedBytes<'_>
+        ensures { result ≡ packed self.now.values }
+    {
+        PackedBytes::of(&self.segments)
     }
 
     /// Where the column stands in a file, if it stands there as it is.
@@ -185,8 +229,22 @@ impl IntCol {
         ensures { IfOk result (λ copy. copy ≡ self.now) }
     {
         Ok(IntCol {
-            spine: self.spine.clone()?,
+            segments: self.segments.clone()?,
             home: self.home,
+        })
+    }
+
+    /// The same values without a home, which share all segments.
+    ///
+    /// # Errors
+    ///
+    /// `Memory`, where there are as many copies as can be counted.
+    pub fn unplaced(&self) -> Result<IntCol, Memory>
+        ensures { IfOk result (λ copy. copy ≡ record self.now { home = None }) }
+    {
+        Ok(IntCol {
+            segments: self.segments.clone()?,
+            home: None,
         })
     }
 }

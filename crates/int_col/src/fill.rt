@@ -2,10 +2,9 @@
 ghost use Rattle.std.specs.Prelude.{◌≡◌, ℕ, ◌+◌, ◌<◌, ◌≤◌, ◌++◌, length, take, drop};
 ghost use Rattle.bit_pack.specs.Width.{HoldsAll, IsLeastWidth};
 ghost use Rattle.bit_pack.specs.Packed.{packed_len, packing};
-ghost use Rattle.int_col.specs.Column.{HasPackedBytes, ArePackedBytes};
-ghost use Rattle.runs.specs.Joined.{joined};
+ghost use Rattle.segments.specs.Joined.{joined};
 
-use crate::spine::Spine;
+use crate::segmented::Segmented;
 use bit_pack::Width;
 
 /// How many values are packed at once. They are whole bytes at each width.
@@ -14,13 +13,13 @@ const BLOCK: usize = 512;
 /// The bytes of a block at the widest width.
 const BLOCK_MOST: usize = 4096;
 
-impl Spine {
+impl Segmented {
     /// Writes the packed bytes of all values, at their least width, from byte `from` on.
-    pub(crate) fn fill(&self, from: usize, into: &mut [u8])
-        requires { HasPackedBytes (joined self.now) (from + length into.old) }
-        ensures { ArePackedBytes (joined self.now) from into.new }
+    pub(crate) fn fill(&self, width: Width, from: usize, into: &mut [u8])
+        requires least { IsLeastWidth width (joined self.now) }
+        requires within { from + length into.old ≤ packed_len width (length (joined self.now)) }
+        ensures { into.new ≡ take (length into.old) (drop from (packing width (joined self.now))) }
     {
-        let width = self.width();
         let _few = self.len();
         let mut done = 0;
         while done < into.len() {

@@ -3,18 +3,21 @@
 //! An [`IntCol`] is a list of up to 16,777,216 integers and a home, the place of its block in a file. The list
 //! is cut into segments of at most 2,048 values, each packed at the least width that holds its own. Copies share
 //! the segments and the spine that lists them; an edit copies the segments it touches and the spine, and only
-//! where they are shared.
+//! where they are shared. A column of one segment has no spine, and an empty one takes no memory.
 //!
-//! It stands on `bit_pack`, which says what packed bytes are, and on `runs`, which says where segments end and which
-//! ones an edit replaces. It knows nothing of files: a home is only kept.
+//! It stands on `bit_pack`, which says what packed bytes are, and on `segments`, which says where segments end and which
+//! ones an edit replaces. It knows nothing of files: a home is only kept, and `PackedBytes` gives the bytes of a block.
 #![tactic(auto)]
 
 mod column;
+mod cut;
 mod fill;
 mod held;
+mod packed;
 mod segment;
-mod shared;
+mod segmented;
 mod spine;
 
 pub use column::IntCol;
 pub use held::Held;
+pub use packed::PackedBytes;

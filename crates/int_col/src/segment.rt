@@ -1,14 +1,15 @@
-//! A run of values, packed.
+//! A segment of values, packed.
 ghost use Rattle.std.specs.Prelude.{◌≡◌, ◌≢◌, ℕ, ℤ, pos, ◌+◌, ◌-◌, ◌<◌, ◌≤◌, [], ◌∷◌, ◌++◌, length, slice_get, slice_set, slice_index_or, take, drop, replicate, Some, IfOk, OnOk, OnErr};
 ghost use Rattle.std.specs.Bool.{OnTrue};
 ghost use Rattle.bit_pack.specs.declared.widths.Width.{Width};
 ghost use Rattle.bit_pack.specs.Width.{Holds, HoldsAll, IsLeastWidth};
-ghost use Rattle.bit_pack.specs.Packed.{Packed};
+ghost use Rattle.bit_pack.specs.Packed.{Packed, PackedAt, values_from};
 ghost use Rattle.int_col.specs.Segment.{Takes};
 
 use crate::held::Held;
 use bit_pack::{Width, width_for};
 use mk_value::Memory;
+use segments::Shared;
 use std::alloc::{AllocError, Global};
 use std::marker::Model;
 
@@ -38,6 +39,8 @@ impl Model for Segment {
 impl Clone for Segment {
     ghost is_clone = { λ a b. b ≡ a };
 
+    #[cold]
+    #[inline(never)]
     fn clone(&self) -> Result<Segment, AllocError> {
         Ok(Segment {
             count: self.count,
@@ -61,6 +64,42 @@ impl Segment {
             width,
             bytes,
         })
+    }
+
+    /// The segment of the values that are packed in these bytes.
+    pub(crate) fn of_packed(
+        alloc: Global,
+        width: Width,
+        count: usize,
+        bytes: &[u8],
+    ) -> Result<Segment, Memory>
+        requires few { count ≤ 2048 }
+        requires packed { PackedAt width (values_from width bytes.now 0 count) bytes.now }
+        ensures { IfOk result (λ segment. segment ≡ values_from width bytes.now 0 count) }
+    {
+        if !bit_pack::is_least(width, bytes, count) {
+            return Segment::repacked(alloc, width, count, bytes);
+        }
+        Ok(Segment {
+            count,
+            width,
+            bytes: Vec::from_slice(alloc, bytes)?,
+        })
+    }
+
+    /// The same, for values that need less than this width.
+    fn repacked(alloc: Global, width: Width, count: usize, bytes: &[u8]) -> Result<Segment, Memory>
+        requires few { count ≤ 2048 }
+        requires packed { PackedAt width (values_from width bytes.now 0 count) bytes.now }
+        ensures { IfOk result (λ segment. segment ≡ values_from width bytes.now 0 count) }
+    {
+        let mut values = vec![in alloc; 0; count]?;
+        bit_pack::unpack_into(width, bytes, 0, &mut values);
+        Segment::of(alloc, &values)
+    }
+
+    pub(crate) fn allocator(&self) -> Global {
+        *self.bytes.allocator()
     }
 
     /// How many values there are.
@@ -218,4 +257,23 @@ fn lengthen(bytes: &mut Vec<u8>, len: usize) -> Result<(), Memory>
         bytes.resize(len, 0)?;
     }
     Ok(())
+}
+
+/// Sets one value of a segment. Other owners keep it as it was.
+pub(crate) fn set_shared(segment: &mut Shared<Segment>, at: usize, value: i64) -> Result<(), Memory>
+    requires { at < length segment.old }
+    ensures ok { OnOk result (segment.new ≡ slice_set segment.old at value) }
+    ensures len { length segment.new ≡ length segment.old }
+    ensures err { OnErr result (segment.new ≡ segment.old) }
+{
+    segment.own()?.set(at, value)
+}
+
+/// Adds a value that the segment takes. Other owners keep it as it was.
+pub(crate) fn push_shared(segment: &mut Shared<Segment>, value: i64) -> Result<(), Memory>
+    requires { Takes segment.old value }
+    ensures ok { OnOk result (segment.new ≡ segment.old ++ value ∷ []) }
+    ensures err { OnErr result (segment.new ≡ segment.old) }
+{
+    segment.own()?.push(value)
 }

@@ -3,26 +3,26 @@ ghost use Rattle.std.specs.Prelude.{◌≡◌, ℕ, ℤ, ◌+◌, ◌-◌, ◌<�
 ghost use Rattle.std.specs.Bool.{OnTrue};
 ghost use Rattle.bit_pack.specs.Width.{IsLeastWidth};
 ghost use Rattle.bit_pack.specs.Packed.{Packed};
-ghost use Rattle.runs.specs.Runs.{IsPlace};
-ghost use Rattle.runs.specs.Edits.{Applies, Covers, AreApartBefore, AreApartBehind, size_after, items_after, replaced};
-ghost use Rattle.runs.specs.Joined.{joined, counts_of};
+ghost use Rattle.segments.specs.Segments.{IsPlace};
+ghost use Rattle.segments.specs.Splices.{Applies, Covers, AreApartBefore, AreApartBehind, size_after, items_after, spliced};
+ghost use Rattle.segments.specs.Joined.{joined, counts_of};
 ghost use Rattle.int_col.specs.Cuts.{AreCuts, full_cuts};
 ghost use Rattle.int_col.specs.Spine.{LastTakes};
 
+use crate::cut::cut;
 use crate::held::Held;
-use crate::segment::SEGMENT_MOST;
-use crate::shared::SharedSegment;
+use crate::segment::{SEGMENT_MOST, Segment, push_shared, set_shared};
 use bit_pack::Width;
 use mk_value::Memory;
-use runs::{Edit, Place, Runs, Touched, replace_parts};
+use segments::{Place, Replaced, Segments, Shared, Splice, replace_parts};
 use std::alloc::{AllocError, Global};
 use std::marker::Model;
 
 /// The segments in order, and how they cut the list of values.
 #[derive(Drop)]
 pub(crate) struct Spine {
-    segments: Vec<SharedSegment>,
-    runs: Runs<SEGMENT_MOST>,
+    segments: Vec<Shared<Segment>>,
+    ends: Segments<SEGMENT_MOST>,
 }
 
 impl Model for Spine {
@@ -33,33 +33,39 @@ impl Model for Spine {
 
     ghost view = { λ s. s.segments.items };
 
-    ghost invariant = { λ s. IsSpine s.segments.items s.runs };
+    ghost invariant = { λ s. IsSpine s.segments.items s.ends };
 }
 
 impl Clone for Spine {
     ghost is_clone = { λ a b. b ≡ a };
 
+    #[cold]
+    #[inline(never)]
     fn clone(&self) -> Result<Spine, AllocError> {
         Ok(Spine {
             segments: Vec::from_clones(*self.segments.allocator(), &self.segments)?,
-            runs: self.runs.clone()?,
+            ends: self.ends.clone()?,
         })
     }
 }
 
 impl Spine {
-    /// The spine of these values, cut into full segments and a last one of what is left.
-    pub(crate) fn of(alloc: Global, values: &[i64]) -> Result<Spine, Memory>
-        requires { length values.now ≤ 16777216 }
-        ensures values { IfOk result (λ spine. joined spine ≡ values.now) }
-        ensures cuts { IfOk result (λ spine. counts_of spine ≡ full_cuts (length values.now)) }
+    /// The spine of these segments.
+    pub(crate) fn of_segments(segments: Vec<Shared<Segment>>) -> Result<Spine, Memory>
+        requires cut { AreCuts (counts_of segments.items) }
+        requires few { length (joined segments.items) ≤ 16777216 }
+        ensures { IfOk result (λ spine. spine ≡ segments.items) }
     {
-        let segments = cut(alloc, values)?;
+        let alloc = *segments.allocator();
         let counts = counts(alloc, &segments)?;
         Ok(Spine {
             segments,
-            runs: Runs::from_counts(alloc, &counts)?,
+            ends: Segments::from_counts(alloc, &counts)?,
         })
+    }
+
+    pub(crate) fn allocator(&self) -> Global {
+        *self.segments.allocator()
     }
 
     /// How many segments there are.
@@ -68,7 +74,7 @@ impl Spine {
         ensures few { length (joined self.now) ≤ 16777216 }
         ensures cut { AreCuts (counts_of self.now) }
     {
-        self.runs.count()
+        self.ends.count()
     }
 
     /// The segment of this number, lent.
@@ -77,7 +83,7 @@ impl Spine {
         ensures count { result.count ≡ length (slice_index_or self.now k []) }
         ensures packed { Packed result.width (slice_index_or self.now k []) result.bytes.now }
     {
-        self.segments[k].segment().lend()
+        self.segments[k].get().lend()
     }
 
     /// The least width that holds all values.
@@ -93,16 +99,16 @@ impl Spine {
         ensures few { result ≤ 16777216 }
         ensures cut { AreCuts (counts_of self.now) }
     {
-        self.runs.len()
+        self.ends.len()
     }
 
     /// Where a value stands.
     fn find(&self, at: usize) -> Place
         requires { at < length (joined self.now) }
-        ensures in_range { result.run < length self.now }
+        ensures in_range { result.segment < length self.now }
         ensures place { IsPlace (counts_of self.now) at result }
     {
-        self.runs.find(at)
+        self.ends.find(at)
     }
 
     /// The value at a place.
@@ -111,7 +117,7 @@ impl Spine {
         ensures { slice_get (joined self.now) at ≡ Some result }
     {
         let place = self.find(at);
-        let segment = self.segments[place.run].segment();
+        let segment = self.segments[place.segment].get();
         segment.get(place.offset)
     }
 
@@ -123,8 +129,8 @@ impl Spine {
         ensures err { OnErr result (self.new ≡ self.old) }
     {
         let place = self.find(at);
-        let segment = &mut self.segments[place.run];
-        segment.set(place.offset, value)
+        let segment = &mut self.segments[place.segment];
+        set_shared(segment, place.offset, value)
     }
 
     /// Copies the values from place `from` on.
@@ -148,44 +154,49 @@ impl Spine {
         ensures values { into.new ≡ take result (drop from (joined self.now)) ++ drop result into.old }
     {
         let place = self.find(from);
-        let segment = self.segments[place.run].segment();
+        let segment = self.segments[place.segment].get();
         let count = (segment.len() - place.offset).min(into.len());
         segment.copy_values(place.offset, &mut into[..count]);
         count
     }
 
-    /// The segments that an edit replaces.
-    fn touched(&self, edit: &Edit) -> Touched
-        requires { Applies (length (joined self.now)) edit.now }
-        ensures covers { Covers (counts_of self.now) edit.now result }
-        ensures before { AreApartBefore 2048 (counts_of self.now) result.first (size_after edit.now result) }
-        ensures behind { AreApartBehind 2048 (size_after edit.now result) (drop result.after (counts_of self.now)) }
+    /// The segments that a splice replaces.
+    fn replaced(&self, splice: &Splice) -> Replaced
+        requires { Applies (length (joined self.now)) splice.now }
+        ensures covers { Covers (counts_of self.now) splice.now result }
+        ensures before { AreApartBefore 2048 (counts_of self.now) result.first (size_after splice.now result) }
+        ensures behind { AreApartBehind 2048 (size_after splice.now result) (drop result.after (counts_of self.now)) }
     {
-        self.runs.touched(edit)
+        self.ends.replaced(splice)
     }
 
-    /// The values that stand in place of those of the touched segments.
-    fn values_after(&self, edit: &Edit, value: i64, touched: &Touched) -> Result<Vec<i64>, Memory>
-        requires applies { Applies (length (joined self.now)) edit.now }
-        requires covers { Covers (counts_of self.now) edit.now touched.now }
-        ensures { IfOk result (λ values. values.items ≡ items_after (joined self.now) edit.now touched.now value) }
+    /// The values that stand in place of those of the replaced segments.
+    fn values_after(
+        &self,
+        splice: &Splice,
+        value: i64,
+        replaced: &Replaced,
+    ) -> Result<Vec<i64>, Memory>
+        requires applies { Applies (length (joined self.now)) splice.now }
+        requires covers { Covers (counts_of self.now) splice.now replaced.now }
+        ensures { IfOk result (λ values. values.items ≡ items_after (joined self.now) splice.now replaced.now value) }
     {
         let mut values = Vec::new(*self.segments.allocator());
-        values.resize(edit.size_after(touched), value)?;
-        self.copy_around(edit, value, touched, values.as_mut_slice());
+        values.resize(splice.size_after(replaced), value)?;
+        self.copy_around(splice, value, replaced, values.as_mut_slice());
         Ok(values)
     }
 
-    /// Copies the values before and behind those that the edit replaces.
-    fn copy_around(&self, edit: &Edit, value: i64, touched: &Touched, into: &mut [i64])
-        requires applies { Applies (length (joined self.now)) edit.now }
-        requires covers { Covers (counts_of self.now) edit.now touched.now }
-        requires copies { into.old ≡ replicate (size_after edit.now touched.now) value }
-        ensures { into.new ≡ items_after (joined self.now) edit.now touched.now value }
+    /// Copies the values before and behind those that the splice replaces.
+    fn copy_around(&self, splice: &Splice, value: i64, replaced: &Replaced, into: &mut [i64])
+        requires applies { Applies (length (joined self.now)) splice.now }
+        requires covers { Covers (counts_of self.now) splice.now replaced.now }
+        requires copies { into.old ≡ replicate (size_after splice.now replaced.now) value }
+        ensures { into.new ≡ items_after (joined self.now) splice.now replaced.now value }
     {
-        let before = edit.at - touched.start;
-        self.copy_values(touched.start, &mut into[..before]);
-        self.copy_values(edit.end, &mut into[before + edit.count..]);
+        let before = splice.at - replaced.start;
+        self.copy_values(replaced.start, &mut into[..before]);
+        self.copy_values(splice.end, &mut into[before + splice.count..]);
     }
 
     /// Inserts copies of a value before a place, or at the end.
@@ -199,7 +210,7 @@ impl Spine {
             return self.push(value);
         }
         let end = at;
-        self.replace(&Edit { at, end, count }, value)
+        self.replace(&Splice { at, end, count }, value)
     }
 
     /// Removes values from a place on.
@@ -210,7 +221,7 @@ impl Spine {
     {
         let _few = self.len();
         let end = at + count;
-        self.replace(&Edit { at, end, count: 0 }, 0)
+        self.replace(&Splice { at, end, count: 0 }, 0)
     }
 
     /// Whether the last segment takes one more value.
@@ -219,7 +230,7 @@ impl Spine {
     {
         match self.segments.last() {
             None => false,
-            Some(last) => last.segment().takes(value),
+            Some(last) => last.get().takes(value),
         }
     }
 
@@ -232,25 +243,25 @@ impl Spine {
     {
         let last = self.segments.len() - 1;
         let segment = &mut self.segments[last];
-        segment.push(value)?;
-        self.runs.extend_last();
+        push_shared(segment, value)?;
+        self.ends.extend_last();
         Ok(())
     }
 
-    /// Makes an edit, with copies of the value: the touched segments are replaced, and all others stay.
-    fn replace(&mut self, edit: &Edit, value: i64) -> Result<(), Memory>
-        requires { Applies (length (joined self.old)) edit.now }
-        ensures ok { OnOk result (joined self.new ≡ replaced (joined self.old) edit.now.at edit.now.end edit.now.count value) }
+    /// Makes a splice, with copies of the value: the replaced segments are spliced, and all others stay.
+    fn replace(&mut self, splice: &Splice, value: i64) -> Result<(), Memory>
+        requires { Applies (length (joined self.old)) splice.now }
+        ensures ok { OnOk result (joined self.new ≡ spliced (joined self.old) splice.now.at splice.now.end splice.now.count value) }
         ensures err { OnErr result (self.new ≡ self.old) }
     {
-        let touched = self.touched(edit);
-        let values = self.values_after(edit, value, &touched)?;
+        let replaced = self.replaced(splice);
+        let values = self.values_after(splice, value, &replaced)?;
         let fresh = cut(*self.segments.allocator(), &values)?;
-        self.put(touched.first, touched.after, fresh)
+        self.put(replaced.first, replaced.after, fresh)
     }
 
     /// Puts segments in place of those from `first` up to `after`.
-    fn put(&mut self, first: usize, after: usize, fresh: Vec<SharedSegment>) -> Result<(), Memory>
+    fn put(&mut self, first: usize, after: usize, fresh: Vec<Shared<Segment>>) -> Result<(), Memory>
         requires order { first ≤ after }
         requires in_range { after ≤ length self.old }
         requires cut { AreCuts (take first (counts_of self.old) ++ (counts_of fresh.items ++ drop after (counts_of self.old))) }
@@ -259,48 +270,32 @@ impl Spine {
         ensures err { OnErr result (self.new ≡ self.old) }
     {
         let counts = counts(*self.segments.allocator(), &fresh)?;
-        let runs = self.runs.replaced(first, after, &counts)?;
+        let ends = self.ends.spliced(first, after, &counts)?;
         replace_parts(&mut self.segments, first, after, fresh)?;
-        self.runs = runs;
+        self.ends = ends;
         Ok(())
     }
 }
 
 /// The least width that holds the values of all segments.
-fn widest(segments: &[SharedSegment]) -> Width
+fn widest(segments: &[Shared<Segment>]) -> Width
     ensures { IsLeastWidth result (joined segments.now) }
 {
     let mut width = Width::W0;
     for shared in segments {
-        width = width.wider(shared.segment().width());
+        width = width.wider(shared.get().width());
     }
     width
 }
 
 /// How many values each segment has.
-fn counts(alloc: Global, segments: &[SharedSegment]) -> Result<Vec<usize>, Memory>
+fn counts(alloc: Global, segments: &[Shared<Segment>]) -> Result<Vec<usize>, Memory>
     ensures counts { IfOk result (λ counts. counts.items ≡ counts_of segments.now) }
     ensures few { IfOk result (λ counts. All (λ n. n ≤ 2048) counts.items) }
 {
     let mut counts = Vec::with_capacity(alloc, segments.len())?;
     for shared in segments {
-        counts.push(shared.segment().len())?;
+        counts.push(shared.get().len())?;
     }
     Ok(counts)
-}
-
-/// Cuts values into segments: full ones, and a last one of what is left.
-fn cut(alloc: Global, values: &[i64]) -> Result<Vec<SharedSegment>, Memory>
-    requires { length values.now ≤ 16777216 }
-    ensures values { IfOk result (λ segments. joined segments.items ≡ values.now) }
-    ensures cuts { IfOk result (λ segments. counts_of segments.items ≡ full_cuts (length values.now)) }
-{
-    let mut segments = Vec::new(alloc);
-    let mut from = 0;
-    while from < values.len() {
-        let to = (from + SEGMENT_MOST).min(values.len());
-        segments.push(SharedSegment::of(alloc, &values[from..to])?)?;
-        from = to;
-    }
-    Ok(segments)
 }

@@ -1,7 +1,7 @@
 //! Packed integers: worked rows, each expected value computed by hand.
 use bit_pack::{
-    Bytes, PackError, Values, Width, get, is_least, least_width, pack, pack_into, pack_range,
-    packed_byte, put, unpack, unpack_into, width_for,
+    Bytes, PackError, Values, Width, check, get, is_least, least_width, pack, pack_into, put, unpack,
+    unpack_into, width_for,
 };
 use std::process::Abort;
 
@@ -76,12 +76,7 @@ fn packs<R: Abort + AllocGlobal>(
     assert_eq!(rt; bytes.as_slice(), want);
     let count = values.len();
     assert!(rt; count < 100);
-    if bytes.len() > 1 {
-        let mut second = [0];
-        pack_range(least, values, 1, &mut second);
-        assert_eq!(rt; second[0], bytes.as_slice()[1]);
-        assert_eq!(rt; packed_byte(least, values, 1), second[0]);
-    }
+    check(width, count, want)?;
     let back = unpack(rt.alloc(), width, count, want)?;
     assert_eq!(rt; back.as_slice(), values);
     Ok(())

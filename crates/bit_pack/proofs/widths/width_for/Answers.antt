@@ -3,10 +3,11 @@ use Rattle.std.specs.Int.{w64}
 use Rattle.std.proofs.lemmas.Int.{to_z-of_z}
 use Rattle.bit_pack.specs.Width.{bit_count}
 use Rattle.bit_pack.proofs.LeastWidth.{least_by_range, Holds-wider}
+use Rattle.bit_pack.proofs.Least.{least_is}
 use Rattle.bit_pack.proofs.widths.width_for.Goals as goal
 
-pub returns : goal.returns
-returns c =
+pub returns-clause-least : goal.returns-clause-least
+returns-clause-least c =
     let low = c.range_of-low.result.0 in
     let high = c.range_of-low.result.1 in
     let low_fits : FitsSigned w64 low = search rules in
@@ -19,3 +20,6 @@ returns c =
     (Holds-wider c.of.result c.wider.result (to_z w64 (of_z w64 low)) below c.of.ensures.holds)
     (Holds-wider c.of-2.result c.wider.result (to_z w64 (of_z w64 high)) above c.of-2.ensures.holds)
     (λ u h k. let first = c.of.ensures.least u h in let second = c.of-2.ensures.least u k in omega (arith, c.wider.ensures, first, second))
+
+pub returns-clause-value : goal.returns-clause-value
+returns-clause-value c = least_is c.wider.result c.args.values.now (returns-clause-least c)

@@ -1,5 +1,5 @@
 use Rattle.std.proofs.Common.{◌≡◌, map, take}
-use Rattle.bytes_col.specs.Column.{sizes_of}
+use Rattle.bytes_col.specs.Strings.{sizes_of}
 use Rattle.bytes_col.proofs.column.sizes.Given as goal
 
 abbrev pub invariant-loop-value : goal.invariant-loop-value

@@ -1,6 +1,6 @@
 use Rattle.std.proofs.Common.{◌≡◌, ◌≤◌, take}
 use Rattle.std.specs.List.{All}
-use Rattle.runs.specs.Joined.{counts_of}
+use Rattle.segments.specs.Joined.{counts_of}
 use Rattle.int_col.proofs.spine.counts.Given as goal
 
 abbrev pub invariant-loop-shared : goal.invariant-loop-shared

@@ -1,6 +1,6 @@
 use Rattle.std.proofs.Common.{take}
 use Rattle.bit_pack.specs.Width.{IsLeastWidth}
-use Rattle.runs.specs.Joined.{joined}
+use Rattle.segments.specs.Joined.{joined}
 use Rattle.int_col.proofs.spine.widest.Given as goal
 
 abbrev pub invariant-loop-shared : goal.invariant-loop-shared

@@ -1,6 +1,6 @@
 use Rattle.std.proofs.Common.{◌≡◌, ◌+◌, ◌-◌, ◌∷◌, [], length, refl, arith}
 use Rattle.std.proofs.lemmas.List.{length-map}
-use Rattle.bytes_col.specs.Column.{short_bytes}
+use Rattle.bytes_col.specs.Strings.{short_bytes}
 use Rattle.bytes_col.specs.Chunk.{cell_value}
 use Rattle.bytes_col.proofs.Chunks.{on_err_holds, cell_set, chunk_stays, set_fits, short_bound}
 use Rattle.bytes_col.proofs.chunk.Chunk.put.Goals as goal

@@ -1,6 +1,6 @@
 use Rattle.std.proofs.Common.{◌++◌, ◌∷◌, [], cond, get_or, sym, ap, ◌∙◌}
 use Rattle.std.specs.Prelude.{not}
-use Rattle.bytes_col.specs.Column.{is_short}
+use Rattle.bytes_col.specs.Strings.{is_short}
 use Rattle.bytes_col.proofs.Fills.{rows_more}
 use Rattle.bytes_col.proofs.column.BytesCol.memo_rows.Goals as goal
 

@@ -1,7 +1,7 @@
 use Rattle.std.proofs.Common.{◌≡◌, [], get_or}
 use Rattle.std.specs.Prelude.{not}
 use Rattle.std.specs.List.{filter, range_with_len}
-use Rattle.bytes_col.specs.Column.{is_short}
+use Rattle.bytes_col.specs.Strings.{is_short}
 use Rattle.bytes_col.proofs.column.BytesCol.memo_rows.Given as goal
 
 abbrev pub invariant-loop-row : goal.invariant-loop-row

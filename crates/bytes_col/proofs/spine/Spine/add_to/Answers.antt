@@ -1,8 +1,8 @@
 use Rattle.std.proofs.Common.{◌-◌, ◌++◌, ap, ◌∙◌, take, drop, arith}
 use Rattle.std.proofs.lemmas.List.{append_assoc}
 use Rattle.bytes_col.specs.Parts.{added}
-use Rattle.runs.specs.Joined.{joined}
-use Rattle.bytes_col.proofs.Edits.{parts_next}
+use Rattle.segments.specs.Joined.{joined}
+use Rattle.bytes_col.proofs.Splices.{parts_next}
 use Rattle.bytes_col.proofs.spine.Spine.add_to.Goals as goal
 
 pub loop-at-preserved : goal.loop-at-preserved

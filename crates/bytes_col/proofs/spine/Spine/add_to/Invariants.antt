@@ -1,6 +1,6 @@
 use Rattle.std.proofs.Common.{◌≡◌, ◌-◌, ◌++◌, ◌≤◌, take, drop}
 use Rattle.bytes_col.specs.Parts.{added}
-use Rattle.runs.specs.Joined.{joined}
+use Rattle.segments.specs.Joined.{joined}
 use Rattle.bytes_col.proofs.spine.Spine.add_to.Given as goal
 
 abbrev pub invariant-loop-at : goal.invariant-loop-at

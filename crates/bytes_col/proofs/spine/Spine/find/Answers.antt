@@ -1,15 +1,15 @@
 use Rattle.std.proofs.Common.{List, ℕ, subst, arith}
-use Rattle.runs.specs.Runs.{IsPlace}
-use Rattle.runs.proofs.Counted.{runs_len, runs_count}
+use Rattle.segments.specs.Segments.{IsPlace}
+use Rattle.segments.proofs.Counted.{segments_len, segments_count}
 use Rattle.bytes_col.proofs.spine.Spine.find.Goals as goal
 
 pub find-requires : goal.find-requires
 find-requires c =
-    omega (arith, runs_len c.self.inside.chunks.items c.self.inside.runs c.self.invariant, rw (← c.self.view_is) at c.requires)
+    omega (arith, segments_len c.self.inside.chunks.items c.self.inside.ends c.self.invariant, rw (← c.self.view_is) at c.requires)
 
 pub returns-clause-in_range : goal.returns-clause-in_range
 returns-clause-in_range c =
-    rw (← c.self.view_is) (omega (arith, c.find.ensures.run, runs_count c.self.inside.chunks.items c.self.inside.runs c.self.invariant))
+    rw (← c.self.view_is) (omega (arith, c.find.ensures.segment, segments_count c.self.inside.chunks.items c.self.inside.ends c.self.invariant))
 
 pub returns-clause-place : goal.returns-clause-place
 returns-clause-place c =

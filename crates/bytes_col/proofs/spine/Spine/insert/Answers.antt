@@ -1,5 +1,5 @@
 use Rattle.std.proofs.Common.{◌≡◌, pos, length, to_z, w64, rules}
-use Rattle.runs.specs.Joined.{joined}
+use Rattle.segments.specs.Joined.{joined}
 use Rattle.bytes_col.proofs.Sizes.{sizes_inserted}
 use Rattle.bytes_col.proofs.spine.Spine.insert.Goals as goal
 

@@ -1,7 +1,7 @@
 use Rattle.std.proofs.Common.{◌∙◌}
-use Rattle.runs.proofs.Counted.{runs_len}
+use Rattle.segments.proofs.Counted.{segments_len}
 use Rattle.bytes_col.proofs.spine.Spine.len.Goals as goal
 
 pub returns-clause-len : goal.returns-clause-len
 returns-clause-len c =
-    rw (← c.self.view_is) (c.len.ensures.len ∙ runs_len c.self.inside.chunks.items c.self.inside.runs c.self.invariant)
+    rw (← c.self.view_is) (c.len.ensures.len ∙ segments_len c.self.inside.chunks.items c.self.inside.ends c.self.invariant)

@@ -1,8 +1,8 @@
 use Rattle.std.proofs.Common.{◌≡◌, ◌-◌, suc, arith, rules, length}
 use Rattle.std.specs.Vec.{vec_len}
-use Rattle.runs.specs.Joined.{joined}
-use Rattle.runs.proofs.Joined.{joined-pushed}
-use Rattle.runs.proofs.Counted.{runs_len, runs_count, last_count, runs_pushed}
+use Rattle.segments.specs.Joined.{joined}
+use Rattle.segments.proofs.Joined.{joined-pushed}
+use Rattle.segments.proofs.Counted.{segments_len, segments_count, last_count, segments_pushed}
 use Rattle.bytes_col.proofs.Columns.{last_room}
 use Rattle.bytes_col.proofs.Sizes.{sizes_pushed}
 use Rattle.bytes_col.proofs.spine.Spine.push.Goals as goal
@@ -15,11 +15,11 @@ extend_last-requires c =
     let last = c.len-last.result - 1 in
     let len : suc last ≡ length c.self.inside.chunks.items = omega (arith, c.len-last.ensures, takes.some) in
     let room = last_room c.self.inside.chunks.items c.index_mut-chunk.result.now last takes len c.index_mut-chunk.ensures.value in
-    let count = last_count c.self.inside.chunks.items c.self.inside.runs c.self.invariant c.index_mut-chunk.result.now last len c.index_mut-chunk.ensures.value in (
+    let count = last_count c.self.inside.chunks.items c.self.inside.ends c.self.invariant c.index_mut-chunk.result.now last len c.index_mut-chunk.ensures.value in (
       omega arith,
       (
-        omega (arith, takes.some, runs_count c.self.inside.chunks.items c.self.inside.runs c.self.invariant),
-        (omega (arith, room, count), omega (arith, runs_len c.self.inside.chunks.items c.self.inside.runs c.self.invariant)),
+        omega (arith, takes.some, segments_count c.self.inside.chunks.items c.self.inside.ends c.self.invariant),
+        (omega (arith, room, count), omega (arith, segments_len c.self.inside.chunks.items c.self.inside.ends c.self.invariant)),
       ),
     )
 
@@ -29,8 +29,8 @@ invariant_of-self-2 c =
     let chunks : vec_len c.self.inside.chunks ≡ length c.self.inside.chunks.items = search rules in
     let last = c.len-last.result - 1 in
     let len : suc last ≡ length c.self.inside.chunks.items = omega (arith, c.len-last.ensures, takes.some) in
-    rw c.in_ok-push.ensures.ok
-    (runs_pushed c.self.inside.chunks.items c.self.inside.runs c.self.invariant c.index_mut-chunk.result.now last len c.index_mut-chunk.ensures.value
+    rw c.in_ok-push_shared.ensures.ok
+    (segments_pushed c.self.inside.chunks.items c.self.inside.ends c.self.invariant c.index_mut-chunk.result.now last len c.index_mut-chunk.ensures.value
     c.extend_last.new.self c.args.value.now c.extend_last.ensures)
 
 pub returns-clause-ok : goal.returns-clause-ok
@@ -39,7 +39,7 @@ returns-clause-ok c =
     let chunks : vec_len c.self.inside.chunks ≡ length c.self.inside.chunks.items = search rules in
     let last = c.len-last.result - 1 in
     let len : suc last ≡ length c.self.inside.chunks.items = omega (arith, c.len-last.ensures, takes.some) in
-    rw (c.in_ok-push.ensures.ok, ← c.self.view_is)
+    rw (c.in_ok-push_shared.ensures.ok, ← c.self.view_is)
     (joined-pushed c.self.inside.chunks.items c.index_mut-chunk.result.now c.args.value.now last len c.index_mut-chunk.ensures.value)
 
 pub returns-clause-sizes : goal.returns-clause-sizes
@@ -48,6 +48,6 @@ returns-clause-sizes c =
     let chunks : vec_len c.self.inside.chunks ≡ length c.self.inside.chunks.items = search rules in
     let last = c.len-last.result - 1 in
     let len : suc last ≡ length c.self.inside.chunks.items = omega (arith, c.len-last.ensures, takes.some) in
-    sizes_pushed (joined c.self.inside.chunks.items) _ c.args.sizes.now c.push.new.sizes c.args.value.now (rw (← c.self.view_is) at c.requires.sizes)
-    (rw c.in_ok-push.ensures.ok (joined-pushed c.self.inside.chunks.items c.index_mut-chunk.result.now c.args.value.now last len c.index_mut-chunk.ensures.value))
-    c.in_ok-push.ensures.sizes c.in_ok-push.ensures.home
+    sizes_pushed (joined c.self.inside.chunks.items) _ c.args.sizes.now c.push_shared.new.sizes c.args.value.now (rw (← c.self.view_is) at c.requires.sizes)
+    (rw c.in_ok-push_shared.ensures.ok (joined-pushed c.self.inside.chunks.items c.index_mut-chunk.result.now c.args.value.now last len c.index_mut-chunk.ensures.value))
+    c.in_ok-push_shared.ensures.sizes c.in_ok-push_shared.ensures.home

@@ -1,4 +1,4 @@
-use Rattle.runs.specs.Joined.{joined}
+use Rattle.segments.specs.Joined.{joined}
 use Rattle.bytes_col.proofs.Sizes.{sizes_removed}
 use Rattle.bytes_col.proofs.spine.Spine.remove.Goals as goal
 

@@ -1,7 +1,7 @@
 use Rattle.std.proofs.Common.{[], sym, ◌∙◌}
 use Rattle.std.proofs.lemmas.Result.{on_ok_weaker}
-use Rattle.runs.specs.Joined.{joined}
-use Rattle.runs.proofs.Joined.{same_counts, set_place, read_place}
+use Rattle.segments.specs.Joined.{joined}
+use Rattle.segments.proofs.Joined.{same_counts, set_place, read_place}
 use Rattle.bytes_col.proofs.Chunks.{both_ok}
 use Rattle.bytes_col.proofs.Sizes.{sizes_set, size_at}
 use Rattle.bytes_col.proofs.spine.Spine.set.Goals as goal
@@ -10,25 +10,25 @@ pub invariant_of-self : goal.invariant_of-self
 invariant_of-self c =
     c.self.invariant
     ∙ sym (same_counts c.self.inside.chunks.items c.args.at c.find-place.result c.index_mut-chunk.result.now
-    (rw (← c.self.view_is) at c.find-place.ensures.place) c.index_mut-chunk.ensures.value c.set.new.self c.set.ensures.len)
+    (rw (← c.self.view_is) at c.find-place.ensures.place) c.index_mut-chunk.ensures.value c.set_shared.new.chunk c.set_shared.ensures.len)
 
 pub returns-clause-ok : goal.returns-clause-ok
 returns-clause-ok c =
     rw (← c.self.view_is)
-    (on_ok_weaker c.set.result
+    (on_ok_weaker c.set_shared.result
     (set_place c.self.inside.chunks.items c.args.at c.find-place.result c.index_mut-chunk.result.now
-    (rw (← c.self.view_is) at c.find-place.ensures.place) c.index_mut-chunk.ensures.value c.set.new.self c.args.value.now)
-    c.set.ensures.ok)
+    (rw (← c.self.view_is) at c.find-place.ensures.place) c.index_mut-chunk.ensures.value c.set_shared.new.chunk c.args.value.now)
+    c.set_shared.ensures.ok)
 
 pub returns-clause-sizes : goal.returns-clause-sizes
 returns-clause-sizes c =
-    (both_ok c.set.result
-    (λ put sized. sizes_set (joined c.self.inside.chunks.items) _ c.args.sizes.now c.set.new.sizes c.args.at c.args.value.now (rw (← c.self.view_is) at c.requires.sizes)
+    (both_ok c.set_shared.result
+    (λ put sized. sizes_set (joined c.self.inside.chunks.items) _ c.args.sizes.now c.set_shared.new.sizes c.args.at c.args.value.now (rw (← c.self.view_is) at c.requires.sizes)
     (set_place c.self.inside.chunks.items c.args.at c.find-place.result c.index_mut-chunk.result.now
-    (rw (← c.self.view_is) at c.find-place.ensures.place) c.index_mut-chunk.ensures.value c.set.new.self c.args.value.now put) sized)
-    c.set.ensures.ok c.set.ensures.sizes)
+    (rw (← c.self.view_is) at c.find-place.ensures.place) c.index_mut-chunk.ensures.value c.set_shared.new.chunk c.args.value.now put) sized)
+    c.set_shared.ensures.ok c.set_shared.ensures.sizes)
 
-pub set-requires-clause-size : goal.set-requires-clause-size
-set-requires-clause-size c =
+pub set_shared-requires-clause-size : goal.set_shared-requires-clause-size
+set_shared-requires-clause-size c =
     size_at (joined c.self.inside.chunks.items) c.args.sizes.now c.args.at _ (rw (← c.self.view_is) at c.requires.sizes) (rw (← c.self.view_is) at c.requires.at)
     (read_place c.self.inside.chunks.items c.args.at c.find-place.result c.index_mut-chunk.result.now (rw (← c.self.view_is) at c.find-place.ensures.place) c.index_mut-chunk.ensures.value [])

@@ -1,9 +1,9 @@
 use Rattle.std.proofs.Common.{◌≡◌, ◌<◌, ℕ, List, length, get_or, take, ap, arith}
 use Rattle.std.proofs.lemmas.List.{length-append}
-use Rattle.bytes_col.specs.Column.{short_bytes}
-use Rattle.runs.specs.Joined.{joined}
+use Rattle.bytes_col.specs.Strings.{short_bytes}
+use Rattle.segments.specs.Joined.{joined}
 use Rattle.bytes_col.proofs.Short.{short_few}
-use Rattle.runs.proofs.Joined.{part_within}
+use Rattle.segments.proofs.Joined.{part_within}
 use Rattle.bytes_col.proofs.Fills.{short_chunk_more}
 use Rattle.bytes_col.proofs.spine.Spine.short_len.Goals as goal
 
@@ -18,7 +18,7 @@ pub loop-shared-preserved : goal.loop-shared-preserved
 loop-shared-preserved c =
     let ss : List (List (List ℕ)) = c.args.self.now in
     let k = c.loop-shared.shared-index in
-    let s : List (List ℕ) = c.chunk.result.now in
+    let s : List (List ℕ) = c.get.result.now in
     let l : k < length ss = rw c.chunks-chunks.ensures at c.loop-shared-test.true in
-    let here : s ≡ get_or ss k s = rw (← c.chunk.ensures, c.chunks-chunks.ensures) at c.shared-item.is in
+    let here : s ≡ get_or ss k s = rw (← c.get.ensures, c.chunks-chunks.ensures) at c.shared-item.is in
     omega (arith, c.loop-shared.invariant, c.short_len-total.ensures.count, ap length (short_chunk_more ss k s l here), length-append (short_bytes (joined (take k ss))) (short_bytes s))

@@ -1,6 +1,6 @@
 use Rattle.std.proofs.Common.{◌≡◌, length, take}
-use Rattle.bytes_col.specs.Column.{short_bytes}
-use Rattle.runs.specs.Joined.{joined}
+use Rattle.bytes_col.specs.Strings.{short_bytes}
+use Rattle.segments.specs.Joined.{joined}
 use Rattle.bytes_col.proofs.spine.Spine.short_len.Given as goal
 
 abbrev pub invariant-loop-shared : goal.invariant-loop-shared

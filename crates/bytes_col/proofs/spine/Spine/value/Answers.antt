@@ -1,10 +1,10 @@
 use Rattle.std.proofs.Common.{[], ◌∙◌}
-use Rattle.runs.proofs.Joined.{read_place}
+use Rattle.segments.proofs.Joined.{read_place}
 use Rattle.bytes_col.proofs.spine.Spine.value.Goals as goal
 
 pub returns : goal.returns
 returns c =
     rw (← c.self.view_is)
     (c.value.ensures
-    ∙ read_place c.self.inside.chunks.items c.args.at c.find-place.result c.chunk-chunk.result.now
-    (rw (← c.self.view_is) at c.find-place.ensures.place) (rw (← c.chunk-chunk.ensures) at c.index.ensures) [])
+    ∙ read_place c.self.inside.chunks.items c.args.at c.find-place.result c.get-chunk.result.now
+    (rw (← c.self.view_is) at c.find-place.ensures.place) (rw (← c.get-chunk.ensures) at c.index.ensures) [])

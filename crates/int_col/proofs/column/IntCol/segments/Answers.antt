@@ -3,6 +3,4 @@ use Rattle.int_col.proofs.column.IntCol.segments.Goals as goal
 
 pub returns-clause-column : goal.returns-clause-column
 returns-clause-column c =
-    rw (← c.self.view_is)
-    (IsColumn-of c.self.inside.spine c.self.inside.home
-    (rw c.spine.ensures at c.segments.ensures.few) (rw c.spine.ensures at c.segments.ensures.cut))
+    rw (← c.self.view_is) (IsColumn-of c.self.inside.segments c.self.inside.home c.segments.ensures.few c.segments.ensures.cut)

@@ -7,10 +7,10 @@ use Rattle.int_col.proofs.segment.Segment.of.Goals as goal
 pub invariant_of-result : goal.invariant_of-result
 invariant_of-result c =
     let len : length c.pack_into.new.into ≡ c.in_ok-bytes.bytes.len = omega (arith, c.pack_into.auto.into, c.deref_mut.ensures.len) in
-    rw take_at (segment_made (length c.args.values.now) c.width_for-width.result c.args.values.now c.pack_into.new.into c.pack_into.ensures c.width_for-width.ensures refl c.requires).0
+    rw take_at (segment_made (length c.args.values.now) c.width_for-width.result c.args.values.now c.pack_into.new.into c.pack_into.ensures c.width_for-width.ensures.least refl c.requires).0
 
 pub returns : goal.returns
 returns c =
     let len : length c.pack_into.new.into ≡ c.in_ok-bytes.bytes.len = omega (arith, c.pack_into.auto.into, c.deref_mut.ensures.len) in
     ap (λ bytes. values_from c.width_for-width.result bytes 0 (length c.args.values.now)) (take_at c.pack_into.new.into _ c.in_ok-bytes.bytes.len len)
-    ∙ (segment_made (length c.args.values.now) c.width_for-width.result c.args.values.now c.pack_into.new.into c.pack_into.ensures c.width_for-width.ensures refl c.requires).1
+    ∙ (segment_made (length c.args.values.now) c.width_for-width.result c.args.values.now c.pack_into.new.into c.pack_into.ensures c.width_for-width.ensures.least refl c.requires).1

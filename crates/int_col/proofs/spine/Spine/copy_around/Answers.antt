@@ -1,15 +1,15 @@
 use Rattle.std.proofs.Common.{◌≡◌, ◌∙◌, ◌+◌, ◌-◌, ◌++◌, ℕ, List, ℤ, ap, arith, length, take, drop}
 use Rattle.std.proofs.lemmas.List.{length-take, length-take-le, length-drop, length-append, length-replicate, drop_all}
-use Rattle.runs.specs.Edits.{size_after}
-use Rattle.runs.specs.Joined.{joined}
-use Rattle.runs.proofs.Joined.{stop_within}
-use Rattle.int_col.proofs.Edits.{arranged}
+use Rattle.segments.specs.Splices.{size_after}
+use Rattle.segments.specs.Joined.{joined}
+use Rattle.segments.proofs.Joined.{stop_within}
+use Rattle.int_col.proofs.Splices.{arranged}
 use Rattle.int_col.proofs.spine.Spine.copy_around.Goals as goal
 
 pub copy_values-requires-2 : goal.copy_values-requires-2
 copy_values-requires-2 c =
-    let e = c.args.edit.now in
-    let t = c.args.touched.now in
+    let e = c.args.splice.now in
+    let t = c.args.replaced.now in
     let size : length c.args.into.now ≡ size_after e t = ap length c.requires.copies ∙ length-replicate (size_after e t) c.args.value in
     let front : length (take (e.at - t.start) c.args.into.now) ≡ e.at - t.start = length-take-le (e.at - t.start) c.args.into.now (omega arith) in
     let copied : length c.copy_values.new.into ≡ e.at - t.start = c.copy_values.auto.into ∙ front in
@@ -20,8 +20,8 @@ copy_values-requires-2 c =
 
 pub returns : goal.returns
 returns c =
-    let e = c.args.edit.now in
-    let t = c.args.touched.now in
+    let e = c.args.splice.now in
+    let t = c.args.replaced.now in
     let k : ℕ = e.at - t.start + e.count in
     let size : length c.args.into.now ≡ size_after e t = ap length c.requires.copies ∙ length-replicate (size_after e t) c.args.value in
     let front : length (take (e.at - t.start) c.args.into.now) ≡ e.at - t.start = length-take-le (e.at - t.start) c.args.into.now (omega arith) in

@@ -1,6 +1,6 @@
 use Rattle.std.proofs.Common.{◌-◌, length, drop, arith, rules}
 use Rattle.std.proofs.lemmas.List.{places, length-take, length-drop}
-use Rattle.runs.specs.Joined.{joined}
+use Rattle.segments.specs.Joined.{joined}
 use Rattle.int_col.proofs.Lists.{copied_more}
 use Rattle.int_col.proofs.spine.Spine.copy_values.Goals as goal
 

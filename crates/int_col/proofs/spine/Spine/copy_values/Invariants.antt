@@ -1,5 +1,5 @@
 use Rattle.std.proofs.Common.{◌≡◌, ◌-◌, ◌≤◌, length, take, drop}
-use Rattle.runs.specs.Joined.{joined}
+use Rattle.segments.specs.Joined.{joined}
 use Rattle.int_col.proofs.spine.Spine.copy_values.Given as goal
 
 abbrev pub invariant-loop-done : goal.invariant-loop-done

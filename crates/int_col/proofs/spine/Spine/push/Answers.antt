@@ -1,8 +1,8 @@
 use Rattle.std.proofs.Common.{◌≡◌, ◌-◌, suc, arith, rules, length, FitsSigned, w64}
 use Rattle.std.proofs.lemmas.Int.{to_z-of_z}
 use Rattle.std.specs.Vec.{vec_len}
-use Rattle.runs.proofs.Joined.{joined-pushed}
-use Rattle.runs.proofs.Counted.{runs_len, runs_count, last_count}
+use Rattle.segments.proofs.Joined.{joined-pushed}
+use Rattle.segments.proofs.Counted.{segments_len, segments_count, last_count}
 use Rattle.int_col.proofs.Columns.{IsSpine-pushed, last_room}
 use Rattle.int_col.proofs.spine.Spine.push.Goals as goal
 
@@ -14,11 +14,11 @@ extend_last-requires c =
     let last = c.len-last.result - 1 in
     let len : suc last ≡ length c.self.inside.segments.items = omega (arith, c.len-last.ensures, takes.some) in
     let room = last_room c.self.inside.segments.items c.index_mut-segment.result.now c.args.value last takes len c.index_mut-segment.ensures.value in
-    let count = last_count c.self.inside.segments.items c.self.inside.runs c.self.invariant.counted c.index_mut-segment.result.now last len c.index_mut-segment.ensures.value in (
+    let count = last_count c.self.inside.segments.items c.self.inside.ends c.self.invariant.counted c.index_mut-segment.result.now last len c.index_mut-segment.ensures.value in (
       omega arith,
       (
-        omega (arith, takes.some, runs_count c.self.inside.segments.items c.self.inside.runs c.self.invariant.counted),
-        (omega (arith, room, count), omega (arith, runs_len c.self.inside.segments.items c.self.inside.runs c.self.invariant.counted)),
+        omega (arith, takes.some, segments_count c.self.inside.segments.items c.self.inside.ends c.self.invariant.counted),
+        (omega (arith, room, count), omega (arith, segments_len c.self.inside.segments.items c.self.inside.ends c.self.invariant.counted)),
       ),
     )
 
@@ -30,8 +30,8 @@ invariant_of-self-2 c =
     let last = c.len-last.result - 1 in
     let len : suc last ≡ length c.self.inside.segments.items = omega (arith, c.len-last.ensures, takes.some) in
     let room = last_room c.self.inside.segments.items c.index_mut-segment.result.now c.args.value last takes len c.index_mut-segment.ensures.value in
-    rw (c.in_ok-push.ensures.ok, to_z-of_z w64 c.args.value fits)
-    (IsSpine-pushed c.self.inside.segments.items c.self.inside.runs c.extend_last.new.self c.index_mut-segment.result.now c.args.value last
+    rw (c.in_ok-push_shared.ensures.ok, to_z-of_z w64 c.args.value fits)
+    (IsSpine-pushed c.self.inside.segments.items c.self.inside.ends c.extend_last.new.self c.index_mut-segment.result.now c.args.value last
     c.self.invariant len c.index_mut-segment.ensures.value room c.extend_last.ensures)
 
 pub returns-clause-ok : goal.returns-clause-ok
@@ -41,5 +41,5 @@ returns-clause-ok c =
     let segments : vec_len c.self.inside.segments ≡ length c.self.inside.segments.items = search rules in
     let last = c.len-last.result - 1 in
     let len : suc last ≡ length c.self.inside.segments.items = omega (arith, c.len-last.ensures, takes.some) in
-    rw (c.in_ok-push.ensures.ok, to_z-of_z w64 c.args.value fits, ← c.self.view_is)
+    rw (c.in_ok-push_shared.ensures.ok, to_z-of_z w64 c.args.value fits, ← c.self.view_is)
     (joined-pushed c.self.inside.segments.items c.index_mut-segment.result.now c.args.value last len c.index_mut-segment.ensures.value)

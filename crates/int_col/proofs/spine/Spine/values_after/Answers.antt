@@ -1,7 +1,7 @@
 use Rattle.std.proofs.Common.{arith}
-use Rattle.runs.proofs.Joined.{size_few_of}
+use Rattle.segments.proofs.Joined.{size_few_of}
 use Rattle.int_col.proofs.spine.Spine.values_after.Goals as goal
 
 pub size_after-requires-clause-fits : goal.size_after-requires-clause-fits
 size_after-requires-clause-fits c =
-    omega (arith, size_few_of c.args.self.now c.args.edit.now c.args.touched.now c.requires.applies c.requires.covers)
+    omega (arith, size_few_of c.args.self.now c.args.splice.now c.args.replaced.now c.requires.applies c.requires.covers)

@@ -1,0 +1,332 @@
+//! A list of values in chunks, which copies of a column share.
+ghost use Rattle.std.specs.Prelude.{◌≡◌, ℕ, pos, ◌+◌, ◌-◌, ◌<◌, ◌≤◌, [], ◌∷◌, ◌++◌, length, take, drop, map, replicate, slice_set, slice_index_or, None, IfOk, OnOk, OnErr};
+ghost use Rattle.std.specs.Bool.{OnTrue};
+ghost use Rattle.segments.specs.Joined.{joined};
+ghost use Rattle.bytes_col.specs.Strings.{short_bytes};
+ghost use Rattle.bytes_col.specs.Spine.{HasSizes};
+
+use crate::chunk::{CHUNK_MOST, Chunk, push_shared, set_shared};
+use crate::parts::Parts;
+use crate::spine::Spine;
+use int_col::IntCol;
+use mk_value::{Bytes, Memory};
+use segments::Shared;
+use std::alloc::{AllocError, Global};
+use std::marker::Model;
+
+/// What is kept, by the number of chunks.
+#[derive(Drop)]
+pub(crate) enum Kind {
+    /// No values, which take no memory.
+    Empty(Global),
+    /// One chunk, and no list of chunks.
+    One(Shared<Chunk>),
+    /// The list of the chunks. Those that are left may be few.
+    Many(Shared<Spine>),
+}
+
+impl Clone for Kind {
+    ghost is_clone = { λ a b. b ≡ a };
+
+    fn clone(&self) -> Result<Kind, AllocError> {
+        match self {
+            Kind::Empty(alloc) => Ok(Kind::Empty(*alloc)),
+            Kind::One(chunk) => Ok(Kind::One(chunk.clone()?)),
+            Kind::Many(spine) => Ok(Kind::Many(spine.clone()?)),
+        }
+    }
+}
+
+/// The values in chunks. A caller sees the list of the chunks, each as the list of its values.
+#[derive(Drop)]
+pub(crate) struct Chunked {
+    kind: Kind,
+}
+
+impl Model for Chunked {
+    ghost use Rattle.std.specs.Prelude.{List, ℕ};
+    ghost use Rattle.bytes_col.specs.Chunked.{chunks_of};
+
+    ghost Value = { List (List (List ℕ)) };
+
+    ghost view = { λ c. chunks_of c.kind };
+}
+
+impl Clone for Chunked {
+    ghost is_clone = { λ a b. b ≡ a };
+
+    fn clone(&self) -> Result<Chunked, AllocError> {
+        Ok(Chunked {
+            kind: self.kind.clone()?,
+        })
+    }
+}
+
+impl Chunked {
+    ghost use Rattle.bytes_col.specs.Chunked.{chunks_of};
+
+    /// Copies of these values, in full chunks and a last one of what is left.
+    pub(crate) fn of(alloc: Global, values: &[Bytes]) -> Result<Chunked, Memory>
+        requires { length values.now ≤ 16777216 }
+        ensures { IfOk result (λ chunks. joined chunks ≡ map (λ v. v.bytes) values.now) }
+    {
+        let mut parts = Parts::new(alloc);
+        for value in values {
+            parts.append(value.as_slice())?;
+        }
+        Chunked::of_chunks(alloc, parts.finish()?)
+    }
+
+    /// These chunks.
+    pub(crate) fn of_chunks(alloc: Global, chunks: Vec<Shared<Chunk>>) -> Result<Chunked, Memory>
+        requires { length (joined chunks.items) ≤ 16777216 }
+        ensures { IfOk result (λ chunked. chunked ≡ chunks.items) }
+    {
+        if chunks.len() > 1 {
+            let spine = Spine::of_chunks(chunks)?;
+            return Ok(Chunked {
+                kind: Kind::Many(Shared::of(alloc, spine)?),
+            });
+        }
+        Ok(Chunked::of_one(alloc, chunks))
+    }
+
+    /// At most one chunk.
+    fn of_one(alloc: Global, mut chunks: Vec<Shared<Chunk>>) -> Chunked
+        requires { length chunks.items ≤ 1 }
+        ensures { result ≡ chunks.items }
+    {
+        match chunks.pop() {
+            None => Chunked {
+                kind: Kind::Empty(alloc),
+            },
+            Some(one) => Chunked {
+                kind: Kind::One(one),
+            },
+        }
+    }
+
+    /// What is kept.
+    pub(crate) fn kind(&self) -> &Kind
+        ensures { chunks_of result.now ≡ self.now }
+    {
+        &self.kind
+    }
+
+    pub(crate) fn allocator(&self) -> Global {
+        match &self.kind {
+            Kind::Empty(alloc) => *alloc,
+            Kind::One(chunk) => chunk.get().allocator(),
+            Kind::Many(spine) => spine.get().allocator(),
+        }
+    }
+
+    /// How many values there are.
+    pub(crate) fn len(&self) -> usize
+        ensures len { result ≡ length (joined self.now) }
+        ensures few { result ≤ 16777216 }
+    {
+        match &self.kind {
+            Kind::Empty(_) => 0,
+            Kind::One(chunk) => chunk.get().len(),
+            Kind::Many(spine) => spine.get().len(),
+        }
+    }
+
+    /// How many bytes the short values have together.
+    pub(crate) fn short_len(&self) -> usize
+        ensures count { result ≡ length (short_bytes (joined self.now)) }
+    {
+        match &self.kind {
+            Kind::Empty(_) => 0,
+            Kind::One(chunk) => chunk.get().short_len(),
+            Kind::Many(spine) => spine.get().short_len(),
+        }
+    }
+
+    /// The value at a place.
+    pub(crate) fn value(&self, at: usize) -> &[u8]
+        requires { at < length (joined self.now) }
+        ensures { result.now ≡ slice_index_or (joined self.now) at [] }
+    {
+        match &self.kind {
+            Kind::Empty(_) => unreachable!(),
+            Kind::One(chunk) => chunk.get().value(at),
+            Kind::Many(spine) => spine.get().value(at),
+        }
+    }
+
+    /// Sets a value, and its size.
+    pub(crate) fn set(&mut self, at: usize, value: &[u8], sizes: &mut IntCol) -> Result<(), Memory>
+        requires at { at < length (joined self.old) }
+        requires sizes { HasSizes (joined self.old) sizes.old }
+        ensures ok { OnOk result (joined self.new ≡ slice_set (joined self.old) at value.now) }
+        ensures sizes { OnOk result (HasSizes (joined self.new) sizes.new) }
+        ensures err { OnErr result (self.new ≡ self.old) }
+        ensures sizes_err { OnErr result (sizes.new ≡ sizes.old) }
+    {
+        match &mut self.kind {
+            Kind::Empty(_) => unreachable!(),
+            Kind::One(chunk) => set_in_chunk(chunk, at, value, sizes),
+            Kind::Many(spine) => spine.own()?.set(at, value, sizes),
+        }
+    }
+
+    /// Inserts copies of a value before a place, or at the end, and their sizes.
+    pub(crate) fn insert(
+        &mut self,
+        at: usize,
+        value: &[u8],
+        count: usize,
+        sizes: &mut IntCol,
+    ) -> Result<(), Memory>
+        requires at { at ≤ length (joined self.old) }
+        requires few { length (joined self.old) + count ≤ 16777216 }
+        requires sizes { HasSizes (joined self.old) sizes.old }
+        ensures ok { OnOk result (joined self.new ≡ take at (joined self.old) ++ (replicate count value.now ++ drop at (joined self.old))) }
+        ensures sizes { OnOk result (HasSizes (joined self.new) sizes.new) }
+        ensures err { OnErr result (self.new ≡ self.old) }
+        ensures sizes_err { OnErr result (sizes.new ≡ sizes.old) }
+    {
+        match &mut self.kind {
+            Kind::Many(spine) => spine.own()?.insert(at, value, count, sizes),
+            Kind::One(chunk) if count == 1 && takes_at(chunk.get(), at) => {
+                push_to_chunk(chunk, value, sizes)
+            }
+            _ => self.insert_anew(at, value, count, sizes),
+        }
+    }
+
+    /// Removes values from a place on, and their sizes.
+    pub(crate) fn remove(
+        &mut self,
+        at: usize,
+        count: usize,
+        sizes: &mut IntCol,
+    ) -> Result<(), Memory>
+        requires within { at + count ≤ length (joined self.old) }
+        requires sizes { HasSizes (joined self.old) sizes.old }
+        ensures ok { OnOk result (joined self.new ≡ take at (joined self.old) ++ drop (at + count) (joined self.old)) }
+        ensures sizes { OnOk result (HasSizes (joined self.new) sizes.new) }
+        ensures err { OnErr result (self.new ≡ self.old) }
+        ensures sizes_err { OnErr result (sizes.new ≡ sizes.old) }
+    {
+        match &mut self.kind {
+            Kind::Many(spine) => spine.own()?.remove(at, count, sizes),
+            _ => self.remove_anew(at, count, sizes),
+        }
+    }
+
+    /// Makes an insert in a list of the chunks, which stays where they are several then.
+    fn insert_anew(
+        &mut self,
+        at: usize,
+        value: &[u8],
+        count: usize,
+        sizes: &mut IntCol,
+    ) -> Result<(), Memory>
+        requires at { at ≤ length (joined self.old) }
+        requires few { length (joined self.old) + count ≤ 16777216 }
+        requires sizes { HasSizes (joined self.old) sizes.old }
+        ensures ok { OnOk result (joined self.new ≡ take at (joined self.old) ++ (replicate count value.now ++ drop at (joined self.old))) }
+        ensures sizes { OnOk result (HasSizes (joined self.new) sizes.new) }
+        ensures err { OnErr result (self.new ≡ self.old) }
+        ensures sizes_err { OnErr result (sizes.new ≡ sizes.old) }
+    {
+        let mut longer = sizes.same()?;
+        let mut spine = self.to_spine()?;
+        spine.insert(at, value, count, &mut longer)?;
+        *self = Chunked::of_spine(spine)?;
+        *sizes = longer;
+        Ok(())
+    }
+
+    /// Makes a removal in a list of the chunks.
+    fn remove_anew(&mut self, at: usize, count: usize, sizes: &mut IntCol) -> Result<(), Memory>
+        requires within { at + count ≤ length (joined self.old) }
+        requires sizes { HasSizes (joined self.old) sizes.old }
+        ensures ok { OnOk result (joined self.new ≡ take at (joined self.old) ++ drop (at + count) (joined self.old)) }
+        ensures sizes { OnOk result (HasSizes (joined self.new) sizes.new) }
+        ensures err { OnErr result (self.new ≡ self.old) }
+        ensures sizes_err { OnErr result (sizes.new ≡ sizes.old) }
+    {
+        let mut shorter = sizes.same()?;
+        let mut spine = self.to_spine()?;
+        spine.remove(at, count, &mut shorter)?;
+        *self = Chunked::of_spine(spine)?;
+        *sizes = shorter;
+        Ok(())
+    }
+
+    /// A list of the same chunks.
+    fn to_spine(&self) -> Result<Spine, Memory>
+        ensures { IfOk result (λ spine. joined spine ≡ joined self.now) }
+    {
+        let _few = self.len();
+        match &self.kind {
+            Kind::Empty(alloc) => Spine::of_chunks(Vec::new(*alloc)),
+            Kind::One(chunk) => spine_of_one(chunk),
+            Kind::Many(spine) => Ok(spine.get().clone()?),
+        }
+    }
+
+    /// The chunks of a list, without it where there is at most one.
+    fn of_spine(spine: Spine) -> Result<Chunked, Memory>
+        ensures { IfOk result (λ chunked. joined chunked ≡ joined spine) }
+    {
+        let alloc = spine.allocator();
+        if spine.chunks().len() > 1 {
+            return Ok(Chunked {
+                kind: Kind::Many(Shared::of(alloc, spine)?),
+            });
+        }
+        Ok(Chunked::of_one(alloc, spine.into_chunks()))
+    }
+}
+
+/// A list of one chunk.
+fn spine_of_one(chunk: &Shared<Chunk>) -> Result<Spine, Memory>
+    ensures { IfOk result (λ spine. spine ≡ chunk.now ∷ []) }
+{
+    let mut chunks = Vec::with_capacity(chunk.get().allocator(), 1)?;
+    let _few = chunk.get().len();
+    chunks.push(chunk.clone()?)?;
+    Spine::of_chunks(chunks)
+}
+
+/// Whether a value at this place is one more of the chunk, which has room for it.
+fn takes_at(chunk: &Chunk, at: usize) -> bool
+    ensures place { OnTrue result (at ≡ length chunk.now) }
+    ensures room { OnTrue result (length chunk.now < 512) }
+{
+    at == chunk.len() && at < CHUNK_MOST
+}
+
+/// Sets a value of a chunk that has all values, and its size.
+fn set_in_chunk(
+    chunk: &mut Shared<Chunk>,
+    at: usize,
+    value: &[u8],
+    sizes: &mut IntCol,
+) -> Result<(), Memory>
+    requires at { at < length chunk.old }
+    requires sizes { HasSizes chunk.old sizes.old }
+    ensures ok { OnOk result (chunk.new ≡ slice_set chunk.old at value.now) }
+    ensures sizes { OnOk result (HasSizes chunk.new sizes.new) }
+    ensures err { OnErr result (chunk.new ≡ chunk.old) }
+    ensures sizes_err { OnErr result (sizes.new ≡ sizes.old) }
+{
+    set_shared(chunk, at, value, sizes, at)
+}
+
+/// Adds a value to a chunk that has all values, and its size.
+fn push_to_chunk(chunk: &mut Shared<Chunk>, value: &[u8], sizes: &mut IntCol) -> Result<(), Memory>
+    requires room { length chunk.old < 512 }
+    requires sizes { HasSizes chunk.old sizes.old }
+    ensures ok { OnOk result (chunk.new ≡ chunk.old ++ value.now ∷ []) }
+    ensures sizes { OnOk result (HasSizes chunk.new sizes.new) }
+    ensures err { OnErr result (chunk.new ≡ chunk.old) }
+    ensures sizes_err { OnErr result (sizes.new ≡ sizes.old) }
+{
+    push_shared(chunk, value, sizes)
+}

@@ -1,0 +1,298 @@
+//! A list of values in segments, which copies of a column share.
+ghost use Rattle.std.specs.Prelude.{◌≡◌, ℕ, ℤ, ◌+◌, ◌-◌, ◌<◌, ◌≤◌, List, [], ◌∷◌, ◌++◌, length, slice_get, slice_set, slice_index_or, take, drop, replicate, Some, IfOk, OnOk, OnErr};
+ghost use Rattle.std.specs.Bool.{OnTrue};
+ghost use Rattle.bit_pack.specs.Width.{IsLeastWidth};
+ghost use Rattle.bit_pack.specs.Packed.{Packed, PackedAt, values_from};
+ghost use Rattle.segments.specs.Splices.{Applies, spliced};
+ghost use Rattle.segments.specs.Joined.{joined, counts_of};
+ghost use Rattle.int_col.specs.Cuts.{AreCuts, full_cuts};
+ghost use Rattle.int_col.specs.Segment.{Takes};
+
+use crate::cut::{cut, cut_packed};
+use crate::held::Held;
+use crate::segment::{Segment, push_shared, set_shared};
+use crate::spine::Spine;
+use bit_pack::Width;
+use mk_value::Memory;
+use segments::{Shared, Splice};
+use std::alloc::{AllocError, Global};
+use std::marker::Model;
+
+/// What is kept, by the number of segments.
+#[derive(Drop)]
+pub(crate) enum Kind {
+    /// No values, which take no memory.
+    Empty(Global),
+    /// One segment, and no list of segments.
+    One(Shared<Segment>),
+    /// The list of the segments. Those that are left may be few.
+    Many(Shared<Spine>),
+}
+
+impl Clone for Kind {
+    ghost is_clone = { λ a b. b ≡ a };
+
+    fn clone(&self) -> Result<Kind, AllocError> {
+        match self {
+            Kind::Empty(alloc) => Ok(Kind::Empty(*alloc)),
+            Kind::One(segment) => Ok(Kind::One(segment.clone()?)),
+            Kind::Many(spine) => Ok(Kind::Many(spine.clone()?)),
+        }
+    }
+}
+
+/// The values in segments. A caller sees the list of the segments, each as the list of its values.
+#[derive(Drop)]
+pub(crate) struct Segmented {
+    kind: Kind,
+}
+
+impl Model for Segmented {
+    ghost use Rattle.std.specs.Prelude.{List, ℤ};
+    ghost use Rattle.int_col.specs.Segmented.{segments_of, IsSegmented};
+
+    ghost Value = { List (List ℤ) };
+
+    ghost view = { λ s. segments_of s.kind };
+
+    ghost invariant = { λ s. IsSegmented s.kind };
+}
+
+impl Clone for Segmented {
+    ghost is_clone = { λ a b. b ≡ a };
+
+    fn clone(&self) -> Result<Segmented, AllocError> {
+        Ok(Segmented {
+            kind: self.kind.clone()?,
+        })
+    }
+}
+
+impl Segmented {
+    /// These values, cut into full segments and a last one of what is left.
+    pub(crate) fn of(alloc: Global, values: &[i64]) -> Result<Segmented, Memory>
+        requires { length values.now ≤ 16777216 }
+        ensures values { IfOk result (λ segments. joined segments ≡ values.now) }
+        ensures cuts { IfOk result (λ segments. counts_of segments ≡ full_cuts (length values.now)) }
+    {
+        Segmented::of_segments(alloc, cut(alloc, values)?)
+    }
+
+    /// The values that are packed in these bytes, cut like those of `of`.
+    pub(crate) fn of_packed(
+        alloc: Global,
+        width: Width,
+        count: usize,
+        bytes: &[u8],
+    ) -> Result<Segmented, Memory>
+        requires few { count ≤ 16777216 }
+        requires packed { PackedAt width (values_from width bytes.now 0 count) bytes.now }
+        ensures values { IfOk result (λ segments. joined segments ≡ values_from width bytes.now 0 count) }
+        ensures cuts { IfOk result (λ segments. counts_of segments ≡ full_cuts count) }
+    {
+        Segmented::of_segments(alloc, cut_packed(alloc, width, count, bytes)?)
+    }
+
+    /// These segments.
+    fn of_segments(alloc: Global, segments: Vec<Shared<Segment>>) -> Result<Segmented, Memory>
+        requires cut { AreCuts (counts_of segments.items) }
+        requires few { length (joined segments.items) ≤ 16777216 }
+        ensures { IfOk result (λ segmented. segmented ≡ segments.items) }
+    {
+        if segments.len() > 1 {
+            let spine = Spine::of_segments(segments)?;
+            return Ok(Segmented {
+                kind: Kind::Many(Shared::of(alloc, spine)?),
+            });
+        }
+        Ok(Segmented::of_one(alloc, segments))
+    }
+
+    /// At most one segment.
+    fn of_one(alloc: Global, mut segments: Vec<Shared<Segment>>) -> Segmented
+        requires cut { AreCuts (counts_of segments.items) }
+        requires few { length segments.items ≤ 1 }
+        ensures { result ≡ segments.items }
+    {
+        match segments.pop() {
+            None => Segmented {
+                kind: Kind::Empty(alloc),
+            },
+            Some(one) => Segmented {
+                kind: Kind::One(one),
+            },
+        }
+    }
+
+    fn allocator(&self) -> Global {
+        match &self.kind {
+            Kind::Empty(alloc) => *alloc,
+            Kind::One(segment) => segment.get().allocator(),
+            Kind::Many(spine) => spine.get().allocator(),
+        }
+    }
+
+    /// How many values there are.
+    pub(crate) fn len(&self) -> usize
+        ensures len { result ≡ length (joined self.now) }
+        ensures few { result ≤ 16777216 }
+        ensures cut { AreCuts (counts_of self.now) }
+    {
+        match &self.kind {
+            Kind::Empty(_) => 0,
+            Kind::One(segment) => segment.get().len(),
+            Kind::Many(spine) => spine.get().len(),
+        }
+    }
+
+    /// How many segments there are.
+    pub(crate) fn segments(&self) -> usize
+        ensures count { result ≡ length self.now }
+        ensures few { length (joined self.now) ≤ 16777216 }
+        ensures cut { AreCuts (counts_of self.now) }
+    {
+        let _few = self.len();
+        match &self.kind {
+            Kind::Empty(_) => 0,
+            Kind::One(_) => 1,
+            Kind::Many(spine) => spine.get().segments(),
+        }
+    }
+
+    /// The segment of this number, lent.
+    pub(crate) fn segment(&self, k: usize) -> Held<'_>
+        requires { k < length self.now }
+        ensures count { result.count ≡ length (slice_index_or self.now k []) }
+        ensures packed { Packed result.width (slice_index_or self.now k []) result.bytes.now }
+    {
+        match &self.kind {
+            Kind::Empty(_) => unreachable!(),
+            Kind::One(segment) => segment.get().lend(),
+            Kind::Many(spine) => spine.get().segment(k),
+        }
+    }
+
+    /// The least width that holds all values.
+    pub(crate) fn width(&self) -> Width
+        ensures { IsLeastWidth result (joined self.now) }
+    {
+        match &self.kind {
+            Kind::Empty(_) => Width::W0,
+            Kind::One(segment) => segment.get().width(),
+            Kind::Many(spine) => spine.get().width(),
+        }
+    }
+
+    /// The value at a place.
+    pub(crate) fn get(&self, at: usize) -> i64
+        requires { at < length (joined self.now) }
+        ensures { slice_get (joined self.now) at ≡ Some result }
+    {
+        match &self.kind {
+            Kind::Empty(_) => unreachable!(),
+            Kind::One(segment) => segment.get().get(at),
+            Kind::Many(spine) => spine.get().get(at),
+        }
+    }
+
+    /// Copies the values from place `from` on.
+    pub(crate) fn copy_values(&self, from: usize, into: &mut [i64])
+        requires { from + length into.old ≤ length (joined self.now) }
+        ensures { into.new ≡ take (length into.old) (drop from (joined self.now)) }
+    {
+        match &self.kind {
+            Kind::Empty(_) => {}
+            Kind::One(segment) => segment.get().copy_values(from, into),
+            Kind::Many(spine) => spine.get().copy_values(from, into),
+        }
+    }
+
+    /// Sets one value.
+    pub(crate) fn set(&mut self, at: usize, value: i64) -> Result<(), Memory>
+        requires { at < length (joined self.old) }
+        ensures values { OnOk result (joined self.new ≡ slice_set (joined self.old) at value) }
+        ensures cuts { counts_of self.new ≡ counts_of self.old }
+        ensures err { OnErr result (self.new ≡ self.old) }
+    {
+        match &mut self.kind {
+            Kind::Empty(_) => unreachable!(),
+            Kind::One(segment) => set_shared(segment, at, value),
+            Kind::Many(spine) => spine.own()?.set(at, value),
+        }
+    }
+
+    /// Inserts copies of a value before a place, or at the end.
+    pub(crate) fn insert(&mut self, at: usize, value: i64, count: usize) -> Result<(), Memory>
+        requires at { at ≤ length (joined self.old) }
+        requires few { length (joined self.old) + count ≤ 16777216 }
+        ensures ok { OnOk result (joined self.new ≡ take at (joined self.old) ++ (replicate count value ++ drop at (joined self.old))) }
+        ensures err { OnErr result (self.new ≡ self.old) }
+    {
+        match &mut self.kind {
+            Kind::Many(spine) => spine.own()?.insert(at, value, count),
+            Kind::One(segment) if count == 1 && takes_at(segment.get(), at, value) => {
+                push_shared(segment, value)
+            }
+            _ => {
+                let end = at;
+                self.splice(&Splice { at, end, count }, value)
+            }
+        }
+    }
+
+    /// Removes values from a place on.
+    pub(crate) fn remove(&mut self, at: usize, count: usize) -> Result<(), Memory>
+        requires { at + count ≤ length (joined self.old) }
+        ensures ok { OnOk result (joined self.new ≡ take at (joined self.old) ++ drop (at + count) (joined self.old)) }
+        ensures err { OnErr result (self.new ≡ self.old) }
+    {
+        let _few = self.len();
+        match &mut self.kind {
+            Kind::Many(spine) => spine.own()?.remove(at, count),
+            _ => {
+                let end = at + count;
+                self.splice(&Splice { at, end, count: 0 }, 0)
+            }
+        }
+    }
+
+    /// Makes an edit, with copies of the value: all values are cut anew.
+    fn splice(&mut self, splice: &Splice, value: i64) -> Result<(), Memory>
+        requires { Applies (length (joined self.old)) splice.now }
+        ensures ok { OnOk result (joined self.new ≡ spliced (joined self.old) splice.now.at splice.now.end splice.now.count value) }
+        ensures err { OnErr result (self.new ≡ self.old) }
+    {
+        let values = self.values_after(splice, value)?;
+        *self = Segmented::of(*values.allocator(), &values)?;
+        Ok(())
+    }
+
+    /// The values after an edit.
+    fn values_after(&self, splice: &Splice, value: i64) -> Result<Vec<i64>, Memory>
+        requires { Applies (length (joined self.now)) splice.now }
+        ensures { IfOk result (λ values. values.items ≡ spliced (joined self.now) splice.now.at splice.now.end splice.now.count value) }
+    {
+        let mut values = Vec::new(self.allocator());
+        values.resize(splice.at + splice.count + (self.len() - splice.end), value)?;
+        self.copy_around(splice, value, values.as_mut_slice());
+        Ok(values)
+    }
+
+    /// Copies the values before and behind those that the edit replaces.
+    fn copy_around(&self, splice: &Splice, value: i64, into: &mut [i64])
+        requires applies { Applies (length (joined self.now)) splice.now }
+        requires copies { into.old ≡ replicate (splice.now.at + splice.now.count + (length (joined self.now) - splice.now.end)) value }
+        ensures { into.new ≡ spliced (joined self.now) splice.now.at splice.now.end splice.now.count value }
+    {
+        self.copy_values(0, &mut into[..splice.at]);
+        self.copy_values(splice.end, &mut into[splice.at + splice.count..]);
+    }
+}
+
+/// Whether a value at this place is one more of the segment, which takes it.
+fn takes_at(segment: &Segment, at: usize, value: i64) -> bool
+    ensures place { OnTrue result (at ≡ length segment.now) }
+    ensures takes { OnTrue result (Takes segment.now value) }
+{
+    at == segment.len() && segment.takes(value)
+}

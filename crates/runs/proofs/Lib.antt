@@ -1,6 +1,0 @@
-pub mod Lists
-pub mod Counts
-pub mod Places
-pub mod Edits
-pub mod Joined
-pub mod Counted

@@ -1,0 +1,6 @@
+pub mod Lists
+pub mod Counts
+pub mod Places
+pub mod Splices
+pub mod Joined
+pub mod Counted
