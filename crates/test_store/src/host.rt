@@ -1,5 +1,5 @@
 // A host in memory, call by call. The expected values were worked out by hand from the script and the room.
-use crate::{Disk, Effect, Failed, Fault, Host, MemHost};
+use host_io::{Disk, Effect, Failed, Fault, Host, MemHost};
 use std::process::Abort;
 use std::test::Fail;
 

@@ -1,6 +1,6 @@
 use Rattle.std.proofs.Common.{get_or, arith}
 use Rattle.free_space.proofs.ExtentLemmas.{extent_len-lt}
-use Rattle.free_space.proofs.tests.placed.Goals as goal
+use Rattle.test_store.proofs.space.placed.Goals as goal
 
 pub take-requires-clause-block : goal.take-requires-clause-block
 take-requires-clause-block g c =

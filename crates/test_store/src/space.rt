@@ -1,7 +1,7 @@
 ghost use Rattle.std.specs.Prelude.{◌≡◌, All, IsTrue};
 ghost use Rattle.free_space.specs.Extents.{IsBlock};
 
-use crate::{FreeError, FreeMap, extent_end, extent_len};
+use free_space::{FreeError, FreeMap, extent_end, extent_len, is_site};
 use mk_value::Span;
 use std::alloc::Global;
 use std::process::Abort;
@@ -11,7 +11,7 @@ use std::test::Fail;
 const FAR: u64 = 1 << 40;
 
 /// Whether the span is a block of a file that ends before `FAR`.
-#[tactic(auto, unfolding(crate::specs::Extents::extent_len))]
+#[tactic(auto, unfolding(free_space::specs::Extents::extent_len))]
 fn is_near_block(span: &Span) -> bool
     ensures { IsTrue result → IsBlock span.now }
 {
@@ -201,7 +201,17 @@ fn gives_space_back(rt: HostRuntime) -> Result<(), Fail> {
 }
 
 #[test]
-fn places_what_no_file_can_hold(rt: HostRuntime) -> Result<(), Fail> {
+#[tactic(auto, unfolding(free_space::specs::Extents::extent_len))]
+fn rounds_up_to_16(rt: HostRuntime) -> Result<(), Fail> {
+    for (len, extent) in [(0, 0), (1, 16), (16, 16), (86, 96)] {
+        assert_eq!(rt; extent_len(len), extent);
+    }
+    assert_eq!(rt; extent_end(&span(256, 86)), 352);
+    assert!(rt; is_site(352, &span(256, 86)));
+    for site in [span(256, 97), span(248, 8), span(176, 16), span(256, 0), span(352, 1)] {
+        assert!(rt; !is_site(352, &site));
+    }
+    // A place is found also for a block that no file can hold.
     let last = u64::MAX - 15;
     let map = FreeMap::from_used(rt.alloc(), last, &[])?;
     assert_eq!(rt; map.place(u64::MAX), last);
@@ -209,12 +219,15 @@ fn places_what_no_file_can_hold(rt: HostRuntime) -> Result<(), Fail> {
     Ok(())
 }
 
+// Behind two holes that are too short for each, 100,000 blocks of 32, 48 and 64 bytes with their rounding. A search of
+// all that is in use for each of them would take ten seconds.
 #[test]
-#[tactic(auto, unfolding(crate::specs::Extents::extent_len))]
-fn rounds_up_to_16(rt: HostRuntime) {
-    assert_eq!(rt; extent_len(0), 0);
-    assert_eq!(rt; extent_len(1), 16);
-    assert_eq!(rt; extent_len(16), 16);
-    assert_eq!(rt; extent_len(86), 96);
-    assert_eq!(rt; extent_end(&span(256, 86)), 352);
+fn places_many_blocks(rt: HostRuntime) -> Result<(), Fail> {
+    let mut lens = Vec::new(rt.alloc());
+    for number in 0..100_000 {
+        lens.push(17 + number % 3 * 16)?;
+    }
+    let (_places, end) = placed(&rt, rt.alloc(), 192, &[span(208, 16), span(240, 16)], &lens)?;
+    assert_eq!(rt; end, 256 + 33_334 * 32 + 33_333 * (48 + 64));
+    Ok(())
 }
