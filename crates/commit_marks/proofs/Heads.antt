@@ -13,7 +13,7 @@ pub slot_in_head : (head image : List ℕ) (len slot : ℕ) → slot ≤ 1 → I
 slot_in_head head image len slot low is =
     let rest : slot_place slot + (192 - slot_place slot) ≡ 192 = omega arith in
     let cut : drop (slot_place slot) (take (slot_place slot + (192 - slot_place slot)) image) ≡ take (192 - slot_place slot) (drop (slot_place slot) image) = drop-take (slot_place slot) (192 - slot_place slot) image in
-    ap (λ (l : List ℕ). take 64 (drop (slot_place slot) l)) (sym is.head ∙ ap (λ (n : ℕ). take n image) (sym rest))
+    ap (λ (l : List ℕ). take 64 (drop (slot_place slot) l)) (sym is.front ∙ ap (λ (n : ℕ). take n image) (sym rest))
     ∙ ap (λ (l : List ℕ). take 64 l) cut
     ∙ take-take 64 (192 - slot_place slot) (drop (slot_place slot) image) (omega (arith, low))
 
@@ -31,11 +31,11 @@ has_slot image slot (Open m) is = record { good = is.0; bytes = is.1 }
 
 -- the header stands in the first bytes
 pub header_in_head : (head image : List ℕ) (len : ℕ) → IsHeadOf head len image → take 64 head ≡ take 64 image
-header_in_head head image len is = ap (λ (l : List ℕ). take 64 l) (sym is.head) ∙ take-take 64 192 image (omega arith)
+header_in_head head image len is = ap (λ (l : List ℕ). take 64 l) (sym is.front) ∙ take-take 64 192 image (omega arith)
 
 -- some bytes begin so
 pub some_image : (head : List ℕ) (len : ℕ) → length head ≡ 192 → 192 ≤ len → IsHeadOf head len (head ++ replicate (len - 192) 0)
 some_image head len long reaches = record {
-  head = take_at head (replicate (len - 192) 0) 192 long;
-  len = let a = length-append head (replicate (len - 192) 0) in let b = length-replicate {A = ℕ} (len - 192) 0 in omega (arith, a, b, long, reaches);
+  front = take_at head (replicate (len - 192) 0) 192 long;
+  long = let a = length-append head (replicate (len - 192) 0) in let b = length-replicate {A = ℕ} (len - 192) 0 in omega (arith, a, b, long, reaches);
 }

@@ -1,3 +1,3 @@
 pub mod Bodies
-pub mod Choosing
+pub mod Chosen
 mod Heads

@@ -110,7 +110,7 @@ abbrev pub IsBadMark : List ℕ → ℕ → Type 0
 IsBadMark image place =
     ((slot : ℕ) × IsFirstSpoiled image slot × (place ≡ slot_place slot))
     ⊎ ((HasOneNumber image × (place ≡ slot_place 1))
-      ⊎ ((slot : ℕ) × (m : Mark) × (other : Option Mark) × Chooses image slot m other × (¬ FitsFile (length image) m) × (place ≡ slot_place slot)))
+    ⊎ ((slot : ℕ) × (m : Mark) × (other : Option Mark) × Chooses image slot m other × (¬ FitsFile (length image) m) × (place ≡ slot_place slot)))
 
 -- The cause of each refusal. No two of them are met together, and none where the file has marks.
 abbrev pub IsMarkRefusal : List ℕ → MarkError → Type 0

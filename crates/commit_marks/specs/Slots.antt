@@ -18,8 +18,8 @@ AreMarksOfSome slot chosen other = (image : List ℕ) × AreMarks image slot cho
 
 -- the bytes are the first of an image of this length
 pub record IsHeadOf (head : List ℕ) (len : ℕ) (image : List ℕ) : Type 0 where
-  pub head : take 192 image ≡ head
-  pub len : length image ≡ len
+  pub front : take 192 image ≡ head
+  pub long : length image ≡ len
 
 -- what the fields of a slot's bytes say
 pub record IsParsed (slot : List ℕ) (m : Mark) : Type 0 where

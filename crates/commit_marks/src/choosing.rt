@@ -10,6 +10,7 @@ use crate::slot::{Slot, read_slot};
 use std::cmp::Ordering;
 
 const FIRST_SLOT: u64 = 64;
+
 const SECOND_SLOT: u64 = 128;
 
 /// The marks that two slots give, whether or not the chosen one fits the file.
@@ -54,7 +55,7 @@ pub(crate) fn choose(head: &[u8], len: u64) -> Result<Marks, MarkError>
     ensures gives { (image : List ℕ) → IsHeadOf head.now len image → GivesMarks image result }
     ensures no_fault { result ≢ Err mark_error.Failed }
 {
-    if head[..64] != HEADER {
+    if &head[..64] != HEADER.as_slice() {
         return Err(MarkError::NotAStore);
     }
     let marks = pick(read_slot(&head[64..128]), read_slot(&head[128..]))?;

@@ -14,6 +14,7 @@ pub(crate) const OPEN: u8 = 0xa5;
 const MAX_NUMBER: u64 = (1 << 63) - 1;
 
 /// What a slot holds.
+#[derive(Clone, Copy)]
 pub(crate) enum Slot {
     Closed,
     /// It is open, over the body of no mark.

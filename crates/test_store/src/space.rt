@@ -208,7 +208,13 @@ fn rounds_up_to_16(rt: HostRuntime) -> Result<(), Fail> {
     }
     assert_eq!(rt; extent_end(&span(256, 86)), 352);
     assert!(rt; is_site(352, &span(256, 86)));
-    for site in [span(256, 97), span(248, 8), span(176, 16), span(256, 0), span(352, 1)] {
+    for site in [
+        span(256, 97),
+        span(248, 8),
+        span(176, 16),
+        span(256, 0),
+        span(352, 1),
+    ] {
         assert!(rt; !is_site(352, &site));
     }
     // A place is found also for a block that no file can hold.

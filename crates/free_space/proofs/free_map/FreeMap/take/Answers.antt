@@ -13,10 +13,11 @@ pub invariant_of-self : goal.invariant_of-self
 invariant_of-self c =
     let used = c.args.self.now.used in
     let at = c.count_below-at.result in
-    let laid : IsLaidOut used = rw (← c.self.view_is) c.self.invariant.1 in
-    (c.self.invariant.0,
-    rw (inserted c) (laid_out_insert used at c.args.span laid c.requires.block c.requires.free c.count_below-at.ensures.bound c.count_below-at.ensures.splits),
-    rw (inserted c) (cursors_taken _ c.args.span used (insert used at c.args.span) _ (IsPermutation-insert used at c.args.span) (rw (← c.self.view_is) c.self.invariant.2)))
+    let laid : IsLaidOut used = rw (← c.self.view_is) c.self.invariant.1 in (
+      c.self.invariant.0,
+      rw (inserted c) (laid_out_insert used at c.args.span laid c.requires.block c.requires.free c.count_below-at.ensures.bound c.count_below-at.ensures.splits),
+      rw (inserted c) (cursors_taken _ c.args.span used (insert used at c.args.span) _ (IsPermutation-insert used at c.args.span) (rw (← c.self.view_is) c.self.invariant.2)),
+    )
 
 -- what stands in use afterwards
 taken : (c : goal.After-advance) → c.advance.new.self.used ≡ insert c.args.self.now.used c.count_below-at.result c.args.span

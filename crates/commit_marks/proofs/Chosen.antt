@@ -58,8 +58,8 @@ open_from_mark image slot m headed low is = ap first_of (sym (slot_parts image s
 gate_clear : (slot : ℕ) (range : Range) → slot ≤ 1 → (range.start + range.count ≤ 64) ⊎ (range ≡ slot_range slot) → IsClear (gate_range (other_slot slot) ∷ []) range
 gate_clear slot range low where_ place within among = ⊎_elim
     (λ here. ⊎_elim (λ front. let a = here.0 in let w = within.1 in omega (arith, a, front, w, low))
-      (λ is. let a = here.0 in let b = here.1 in let f = subst (λ (r : Range). r.start ≤ place) is within.0 in let g = subst (λ (r : Range). place < r.start + r.count) is within.1 in omega (arith, a, b, f, g, low))
-      where_)
+    (λ is. let a = here.0 in let b = here.1 in let f = subst (λ (r : Range). r.start ≤ place) is within.0 in let g = subst (λ (r : Range). place < r.start + r.count) is within.1 in omega (arith, a, b, f, g, low))
+    where_)
     (λ none. absurd none) among
 
 -- The old mark stays chosen where the header and its slot were not written over and the other gate reads closed.
@@ -116,8 +116,11 @@ opened_chooses full image slot chosen next agrees chooses good greater body open
         ∙ ap (λ (b : ℕ). b ∷ bytes_in image (body_range (other_slot slot))) open_
         ∙ ap (λ (l : List ℕ). open_byte ∷ l) (bytes_agree (gate_range (other_slot slot) ∷ []) full image (body_range (other_slot slot)) agrees clear (let o = chooses.headed.long in omega (arith, o)) ∙ body);
   };
-  beside = (subst (λ (s : ℕ). HasMark image s chosen) (sym (other_other slot chooses.low))
-    (marked_on (gate_range (other_slot slot) ∷ []) full image slot chosen chooses.low (gate_clear slot (slot_range slot) chooses.low (inr refl)) agrees chooses.headed chooses.here), greater);
+  beside = (
+    subst (λ (s : ℕ). HasMark image s chosen) (sym (other_other slot chooses.low))
+        (marked_on (gate_range (other_slot slot) ∷ []) full image slot chosen chooses.low (gate_clear slot (slot_range slot) chooses.low (inr refl)) agrees chooses.headed chooses.here),
+    greater,
+  );
 } where
   headed : IsHeaded image
   headed = headed_on (gate_range (other_slot slot) ∷ []) full image (gate_clear slot header_range chooses.low (inl (omega arith))) agrees chooses.headed
@@ -153,11 +156,11 @@ lesser image slot chosen n (Some m) chooses is =
 pub one_slot : (image : List ℕ) (s t : ℕ) (m n : Mark) (one two : Option Mark) → Chooses image s m one → Chooses image t n two → s ≡ t
 one_slot image s t m n one two first second = ⊎_elim (λ same. same)
     (λ differ.
-      let other : t ≡ other_slot s = let a = first.low in let b = second.low in omega (arith, a, b, differ) in
-      let back : s ≡ other_slot t = let a = first.low in let b = second.low in omega (arith, a, b, differ) in
-      let below : n.number < m.number = lesser image s m n one first (subst (λ (k : ℕ). HasMark image k n) other second.here) in
-      let above : m.number < n.number = lesser image t n m two second (subst (λ (k : ℕ). HasMark image k m) back first.here) in
-      absurd (omega (arith, below, above)))
+    let other : t ≡ other_slot s = let a = first.low in let b = second.low in omega (arith, a, b, differ) in
+    let back : s ≡ other_slot t = let a = first.low in let b = second.low in omega (arith, a, b, differ) in
+    let below : n.number < m.number = lesser image s m n one first (subst (λ (k : ℕ). HasMark image k n) other second.here) in
+    let above : m.number < n.number = lesser image t n m two second (subst (λ (k : ℕ). HasMark image k m) back first.here) in
+    absurd (omega (arith, below, above)))
     (cases_eq s t)
 
 -- The file chooses one mark, in one slot, and the other slot has one thing.
@@ -167,5 +170,5 @@ marks_unique image s t m n one two first second =
     let there : HasMark image s n = subst (λ (k : ℕ). HasMark image k n) (sym slots) second.here in
     let marks : m ≡ n = one_mark image s m n first.here there in
     let beside : HasOther image (other_slot s) m two = subst (λ (k : Mark). HasOther image (other_slot s) k two) (sym marks)
-        (subst (λ (k : ℕ). HasOther image (other_slot k) n two) (sym slots) second.beside) in
+    (subst (λ (k : ℕ). HasOther image (other_slot k) n two) (sym slots) second.beside) in
     (slots, marks, one_other image (other_slot s) m one two first.headed (other_low s) first.beside beside)
