@@ -1,14 +1,14 @@
 -- Which mark is chosen, while a commit closes the other slot, writes behind its closed gate, and opens it.
-use Rattle.std.proofs.Common.{◌≡◌, refl, sym, ◌∙◌, ap, subst, ℕ, ◌+◌, ◌-◌, ◌*◌, ◌<◌, ◌≤◌, ◌⊎◌, inl, inr, ⊎_elim, List, [], ◌∷◌, ◌++◌, length, take, drop, arith, slice_index, Option, Some, None}
-use Rattle.std.proofs.lemmas.Bool.{cases_eq, cases_lt}
-use Rattle.std.proofs.lemmas.List.{drop_more, ext_get_or, get_or-drop, get_or-take}
-use Rattle.host_io.specs.Disk.{Range, IsWithin}
+use Rattle.std.proofs.Common.{◌≡◌, refl, sym, ◌∙◌, ap, subst, ℕ, ◌+◌, ◌<◌, ◌≤◌, ◌⊎◌, inl, inr, ⊎_elim, List, [], ◌∷◌, take, arith, slice_index, Option, Some, None}
+use Rattle.std.proofs.lemmas.Bool.{cases_eq}
+use Rattle.std.proofs.lemmas.List.{drop_more}
+use Rattle.host_io.specs.Disk.{Range}
 use Rattle.host_io.specs.Calls.{put_bytes}
 use Rattle.host_io.specs.Ranges.{IsAmong, IsClear, AgreesBut, bytes_in}
-use Rattle.host_io.proofs.Bytes.{length-put_bytes, read-put_bytes, slice_index-put_bytes_inside}
-use Rattle.host_io.proofs.Ranges.{agrees_put, byte_agrees, bytes_agree}
+use Rattle.host_io.proofs.Bytes.{read-put_bytes, slice_index-put_bytes_inside}
+use Rattle.host_io.proofs.Ranges.{byte_agrees, bytes_agree}
 use Rattle.commit_marks.specs.declared.mark.Mark.{Mark}
-use Rattle.commit_marks.specs.Marks.{header, IsHeaded, slot_place, other_slot, slot_range, gate_range, body_range, slot_bytes, open_byte, IsOpen, body_bytes, IsMark, HasMark, HasOther, Chooses}
+use Rattle.commit_marks.specs.Marks.{IsHeaded, slot_place, other_slot, slot_range, gate_range, body_range, slot_bytes, open_byte, IsOpen, body_bytes, IsMark, HasMark, HasOther, Chooses}
 use Rattle.commit_marks.proofs.Bodies.{one_mark}
 
 abbrev pub header_range : Range

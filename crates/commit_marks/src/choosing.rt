@@ -1,6 +1,6 @@
 // Which of two slots is chosen.
-ghost use Rattle.std.specs.Prelude.{◌≡◌, ◌≢◌, ℕ, List, length, IfErr, IfOk, MatchResult};
-ghost use Rattle.commit_marks.specs.Marks.{AreMarks, Chooses, IsHeaded, IsMarkRefusal};
+ghost use Rattle.std.specs.Prelude.{◌≡◌, ◌≢◌, ◌↔◌, ℕ, List, length, IsTrue, MatchResult};
+ghost use Rattle.commit_marks.specs.Marks.{Chooses, IsHeaded, IsMarkRefusal, header};
 ghost use Rattle.commit_marks.specs.Slots.{HasSlot, IsHeadOf, GivesMarks};
 ghost use Rattle.commit_marks.specs.declared.error.MarkError.TheVariants as mark_error;
 
@@ -12,6 +12,13 @@ use std::cmp::Ordering;
 const FIRST_SLOT: u64 = 64;
 
 const SECOND_SLOT: u64 = 128;
+
+/// Whether these bytes are the header of a store.
+fn is_header(front: &[u8]) -> bool
+    ensures { IsTrue result ↔ (front.now ≡ header) }
+{
+    front == HEADER.as_slice()
+}
 
 /// The marks that two slots give, whether or not the chosen one fits the file.
 fn pick(first: Slot, second: Slot) -> Result<Marks, MarkError>
@@ -55,10 +62,10 @@ pub(crate) fn choose(head: &[u8], len: u64) -> Result<Marks, MarkError>
     ensures gives { (image : List ℕ) → IsHeadOf head.now len image → GivesMarks image result }
     ensures no_fault { result ≢ Err mark_error.Failed }
 {
-    if &head[..64] != HEADER.as_slice() {
+    if !is_header(&head[..64]) {
         return Err(MarkError::NotAStore);
     }
-    let marks = pick(read_slot(&head[64..128]), read_slot(&head[128..]))?;
+    let marks = pick(read_slot(&head[64..128]), read_slot(&head[128..192]))?;
     if fits_file(&marks.chosen, len) {
         Ok(marks)
     } else {

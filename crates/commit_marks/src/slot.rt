@@ -51,8 +51,8 @@ fn parse(slot: &[u8]) -> Mark
 }
 
 /// Whether a body may say this.
-fn is_mark(mark: &Mark) -> bool
-    ensures { IsTrue result ↔ IsMark mark.now }
+fn is_mark(mark: Mark) -> bool
+    ensures { IsTrue result ↔ IsMark mark }
 {
     (mark.version == 1 || mark.version == 2) && mark.number <= MAX_NUMBER
 }
@@ -73,7 +73,7 @@ pub(crate) fn read_slot(slot: &[u8]) -> Slot
         return Slot::Closed;
     }
     let mark = parse(slot);
-    if is_mark(&mark) && spells(&mark, slot) {
+    if is_mark(mark) && spells(&mark, slot) {
         Slot::Open(mark)
     } else {
         Slot::Spoiled

@@ -1,9 +1,8 @@
-use Rattle.std.proofs.Common.{rules, ◌≡◌, ◌≤◌, ℕ, List, IfOk, IsErrOf, ◌+◌, ◌-◌, ◌*◌, ◌<◌, length, ◌/◌, ◌%◌, Bool, true, false, nat_eq, nat_lt, [], ◌∷◌, ◌++◌, slice_index_or, slice_set, bit_and, bit_or, Fits, w8, w32, w64, Bor, MutBor}
-use Rattle.host_io.specs.Calls.{CountsFaults, Looks}
-use Rattle.commit_marks.specs.Marks.{AreMarks}
-use Rattle.commit_marks.specs.Slots.{AreMarksOfSome, GivesMarks}
+use Rattle.std.proofs.Common.{◌++◌, replicate, ◌-◌, arith}
+use Rattle.commit_marks.proofs.Heads.{some_image, some_of}
 use Rattle.commit_marks.proofs.reading.read_marks.Goals as goal
 
--- src/reading.rt:20:1
 pub returns-clause-some : goal.returns-clause-some
-returns-clause-some g c = ?
+returns-clause-some g c =
+    let image = c.read_at.new.into ++ replicate (c.in_ok-len.len - 192) 0 in
+    some_of image c.choose.result (c.choose.ensures.gives image (some_image c.read_at.new.into c.in_ok-len.len (omega arith) c.if-len-lt-FIRST_PLACE.false))

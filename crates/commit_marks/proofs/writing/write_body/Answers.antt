@@ -1,9 +1,7 @@
-use Rattle.std.proofs.Common.{rules, ◌≡◌, ◌+◌, ◌<◌, ◌≤◌, [], ◌∷◌, length, IsOk, IsSome, ℕ, ◌-◌, ◌*◌, ◌/◌, ◌%◌, Bool, true, false, nat_eq, nat_lt, List, ◌++◌, slice_index_or, slice_set, bit_and, bit_or, Fits, w8, w32, w64, Bor, MutBor}
-use Rattle.host_io.specs.Calls.{CountsDisk}
-use Rattle.host_io.specs.Ranges.{Puts, PutsAndSyncs}
-use Rattle.commit_marks.specs.Marks.{body_bytes, open_byte, other_slot, slot_place}
+use Rattle.std.proofs.Common.{arith}
+use Rattle.host_io.proofs.Ranges.{Puts-writes}
 use Rattle.commit_marks.proofs.writing.write_body.Goals as goal
 
--- src/writing.rt:50:1
 pub returns-clause-writes : goal.returns-clause-writes
-returns-clause-writes g c = ?
+returns-clause-writes g c = λ tells.
+    Puts-writes (let l = c.requires.long tells in omega (arith, l, c.requires.low)) (rw (c.slot_place.ensures, c.slot_bytes-bytes.ensures) at (c.write_at.ensures.writes tells))
