@@ -1,5 +1,5 @@
 -- Cursors: where a search may begin, and that what is taken keeps them.
-use Rattle.std.proofs.Common.{ℕ, ◌≡◌, ◌+◌, ◌-◌, ◌<◌, ◌≤◌, List, ◌∷◌, length, get_or, arith, All, IsPermutation, sym, subst}
+use Rattle.std.proofs.Common.{ℕ, ◌-◌, ◌<◌, ◌≤◌, List, ◌∷◌, length, get_or, arith, All, IsPermutation, sym, subst}
 use Rattle.std.specs.List.Sorted.{IsPartitionPoint}
 use Rattle.std.proofs.lemmas.List.Elements.{All-tail, All-weaker}
 use Rattle.std.proofs.lemmas.List.Sorted.{IsPermutation-sym}
@@ -7,7 +7,7 @@ use Rattle.mk_value.specs.declared.span.Span.{Span}
 use Rattle.free_space.specs.declared.cursor.Cursor.{Cursor}
 use Rattle.free_space.specs.Cursors.{HasLen, IsAtFloor, IsCursor}
 use Rattle.free_space.specs.Extents.{IsAligned, Meets, extent_end, extent_len}
-use Rattle.free_space.specs.FreeSpace.{CanStandAt, IsFree, IsLaidOut, IsLeastPlace}
+use Rattle.free_space.specs.FreeSpace.{CanStandAt, IsLaidOut, IsLeastPlace}
 use Rattle.free_space.proofs.ExtentLemmas.{extent_len-aligned, extent_len-least, le-extent_len}
 use Rattle.free_space.proofs.PlaceLemmas.{IsReached, free_permutation, span_at}
 

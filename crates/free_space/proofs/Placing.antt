@@ -1,14 +1,14 @@
 -- Blocks that were placed one after another: they meet nothing in use and not one another, each begins where the file may already reach, and
 -- there is one way to place them.
-use Rattle.std.proofs.Common.{◌≡◌, refl, sym, ◌∙◌, ap, subst, ℕ, zero, suc, ◌+◌, ◌<◌, ◌≤◌, ◌⊎◌, inl, inr, ⊎_elim, List, [], ◌∷◌, length, arith, max, All, AllPairs}
+use Rattle.std.proofs.Common.{◌≡◌, refl, sym, ◌∙◌, ap, subst, ℕ, zero, suc, ◌+◌, ◌<◌, ◌≤◌, ◌⊎◌, inl, inr, ⊎_elim, List, [], ◌∷◌, arith, All}
 use Rattle.std.proofs.lemmas.List.Elements.{All-weaker, All-head, All-tail, All-cons, All-nil}
 use Rattle.std.proofs.lemmas.List.Kept.{AllPairs-cons}
 use Rattle.mk_value.specs.declared.span.Span.{Span}
-use Rattle.free_space.specs.Extents.{IsAligned, Meets, AreApart, IsBlock, extent_end, extent_len}
-use Rattle.free_space.specs.FreeSpace.{IsFree, IsLeastPlace, CanStandAt, end_of}
+use Rattle.free_space.specs.Extents.{IsAligned, Meets, AreApart, extent_len}
+use Rattle.free_space.specs.FreeSpace.{IsFree, end_of}
 use Rattle.free_space.specs.Sites.{first_place, no_span, IsSite, IsPlaced, ArePlaced}
 use Rattle.free_space.proofs.EndLemmas.{extents-le-end_of, floor-le-end_of}
-use Rattle.free_space.proofs.ExtentLemmas.{apart_from_end, extent_end-aligned, extent_len-aligned}
+use Rattle.free_space.proofs.ExtentLemmas.{apart_from_end, extent_len-aligned}
 use Rattle.free_space.proofs.PlaceLemmas.{least_place_unique}
 
 extent_of_none : extent_len 0 ≡ 0

@@ -1,4 +1,4 @@
-use Rattle.std.proofs.Common.{◌≡◌, ◌<◌, ◌≤◌, length, get_or, arith}
+use Rattle.std.proofs.Common.{◌≡◌, ◌<◌, ◌≤◌, length, get_or}
 use Rattle.free_space.specs.Cursors.{IsCursor}
 use Rattle.free_space.proofs.CursorLemmas.{cursor_longer}
 use Rattle.free_space.proofs.free_map.FreeMap.cursor_place.Goals as goal

@@ -1,6 +1,5 @@
 use Rattle.std.proofs.Common.{◌≡◌, ◌+◌, ◌<◌, ◌≤◌, length, get_or, rules, arith}
-use Rattle.mk_value.specs.declared.span.Span.{Span}
-use Rattle.free_space.specs.FreeSpace.{IsLaidOut, IsLeastPlace}
+use Rattle.free_space.specs.FreeSpace.{IsLeastPlace}
 use Rattle.free_space.proofs.PlaceLemmas.{least_before, least_past_all, least_place-le-end_of, reached_more}
 use Rattle.free_space.proofs.free_map.FreeMap.least_from.Goals as goal
 
