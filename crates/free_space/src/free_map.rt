@@ -3,7 +3,9 @@ ghost use Rattle.std.specs.List.Sorted.{IsPartitionPoint};
 ghost use Rattle.free_space.specs.Extents.{AreApart, IsAligned, IsBlock};
 ghost use Rattle.free_space.specs.Overlaps.{AreFirstToMeet, IsByPlace, OnOverlap};
 ghost use Rattle.free_space.specs.FreeSpace.{IsFree, IsLaidOut, IsLeastPlace, end_of};
+ghost use Rattle.free_space.specs.Cursors.{IsCursor};
 
+use crate::cursor::{Cursor, cursors_at, find, reset};
 use crate::error::FreeError;
 use crate::extent::extent_end;
 use crate::overlap::first_to_meet;
@@ -16,11 +18,13 @@ use std::marker::Model;
 pub struct FreeMap {
     floor: u64,
     used: Vec<Span>,
+    cursors: Vec<Cursor>,
 }
 
 impl Model for FreeMap {
-    ghost use Rattle.std.specs.Prelude.{◌-◌};
+    ghost use Rattle.std.specs.Prelude.{◌-◌, All};
     ghost use Rattle.std.specs.Vec.{vec_capacity, vec_len};
+    ghost use Rattle.free_space.specs.Cursors.{IsCursor};
     ghost use Rattle.free_space.specs.Extents.{IsAligned};
     ghost use Rattle.free_space.specs.FreeSpace.{FreeSpace, IsLaidOut};
 
@@ -32,7 +36,7 @@ impl Model for FreeMap {
       spare = vec_capacity m.used - vec_len m.used;
     } };
 
-    ghost invariant = { λ m. IsAligned m.floor × IsLaidOut m.used.items };
+    ghost invariant = { λ m. IsAligned m.floor × IsLaidOut m.used.items × All (IsCursor m.floor m.used.items) m.cursors.items };
 }
 
 impl FreeMap {
@@ -56,26 +60,57 @@ impl FreeMap {
     {
         let mut used = Vec::from_slice(alloc, spans)?;
         used.sort_by_key(|span| span.place)?;
+        let cursors = cursors_at(alloc, floor)?;
         if let Some((one, other)) = first_to_meet(&used) {
             return Err(FreeError::Overlap(one, other));
         }
-        Ok(FreeMap { floor, used })
+        Ok(FreeMap {
+            floor,
+            used,
+            cursors,
+        })
     }
 
     /// The least place for a block of `len` bytes: the least multiple of 16, at or above the floor, at which its
     /// extent meets no used one. There is always one, at or below `end`, but the end of an extent there may not fit
-    /// in a `u64`. Each used span is looked at once at most.
+    /// in a `u64`.
+    ///
+    /// It looks at no gap below the first that was free for a block of about this length when one was taken last, so
+    /// blocks of few lengths are placed and taken in time that hardly grows with the number of used spans.
     pub fn place(&self, len: u64) -> u64
         requires { 0 < len }
         ensures least { IsLeastPlace self.now.floor self.now.used len result }
         ensures within { result ≤ end_of self.now.floor self.now.used }
     {
-        let mut place = self.floor;
-        for span in &self.used {
-            if fits_before(place, len, span) {
+        let place = self.cursor_place(len);
+        self.least_from(Cursor { len, place })
+    }
+
+    /// A place below which no block of `len` bytes can stand.
+    fn cursor_place(&self, len: u64) -> u64
+        requires { 0 < len }
+        ensures { IsCursor self.now.floor self.now.used (record { len = len; place = result }) }
+    {
+        match find(&self.cursors, len) {
+            Some(at) => self.cursors[at].place,
+            None => self.floor,
+        }
+    }
+
+    /// The least place for a block of the cursor's length. Each used span from the cursor on is looked at once at most.
+    fn least_from(&self, from: Cursor) -> u64
+        requires { IsCursor self.now.floor self.now.used from }
+        ensures least { IsLeastPlace self.now.floor self.now.used from.len result }
+        ensures within { result ≤ end_of self.now.floor self.now.used }
+    {
+        let mut place = from.place;
+        // Of the spans that begin below the cursor only the last may end past it.
+        for at in self.count_below(from.place).saturating_sub(1)..self.used.len() {
+            let span = self.used[at];
+            if fits_before(place, from.len, &span) {
                 return place;
             }
-            place = place.max(extent_end(span));
+            place = place.max(extent_end(&span));
         }
         place
     }
@@ -110,9 +145,20 @@ impl FreeMap {
         if self.used.insert(at, span).is_err() {
             unreachable!();
         }
+        self.advance(span.len);
     }
 
-    /// Frees a used span, which leaves room for one more.
+    /// Moves the cursor of a length to the least place for it.
+    fn advance(&mut self, len: u64)
+        ensures { self.new ≡ self.old }
+    {
+        if let Some(at) = find(&self.cursors, len) {
+            let place = self.least_from(self.cursors[at]);
+            self.cursors[at].place = place;
+        }
+    }
+
+    /// Frees a used span, which leaves room for one more. The next search of each length begins at the floor again.
     pub fn give(&mut self, span: Span)
         requires { Contains self.old.used span }
 
@@ -123,6 +169,7 @@ impl FreeMap {
     {
         let at = self.count_below(span.place);
         let _ = self.used.remove(at);
+        reset(&mut self.cursors, self.floor);
     }
 
     /// How many used spans stand below the place.

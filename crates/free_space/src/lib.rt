@@ -5,13 +5,12 @@
 //! them. It stands on `mk_value` for spans and for want of memory, and neither reads nor writes a file.
 #![tactic(auto)]
 
+mod cursor;
 mod error;
 mod extent;
 mod free_map;
 mod overlap;
-#[cfg(test)]
-mod tests;
 
 pub use error::FreeError;
-pub use extent::{extent_end, extent_len};
+pub use extent::{FIRST_PLACE, extent_end, extent_len, is_site};
 pub use free_map::FreeMap;

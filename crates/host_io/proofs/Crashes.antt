@@ -1,5 +1,5 @@
 -- What a crash leaves, one event after another.
-use Rattle.std.proofs.Common.{◌≡◌, ◌≢◌, ℕ, ◌+◌, ◌-◌, ◌<◌, ◌≤◌, ◌⊎◌, inl, inr, ⊎_elim, List, [], ◌∷◌, ◌++◌, length, take, drop, replicate, refl, sym, ◌∙◌, ap, subst, arith, slice_index, get_or, zero, suc, add-one, take-append-drop}
+use Rattle.std.proofs.Common.{◌≡◌, ◌≢◌, ℕ, ◌+◌, ◌-◌, ◌<◌, ◌≤◌, ⊎_elim, List, [], ◌∷◌, ◌++◌, length, take, drop, replicate, refl, sym, ◌∙◌, ap, subst, arith, slice_index, get_or, zero, suc, add-one, take-append-drop}
 use Rattle.std.proofs.lemmas.Bool.{cases_lt}
 use Rattle.std.proofs.lemmas.Bool.Decides.{nat_tests}
 use Rattle.std.proofs.lemmas.List.{length-replicate, get_or-replicate, append_assoc, append-nil, take_more, drop_more}
@@ -14,7 +14,7 @@ use Rattle.host_io.specs.declared.entry.Piece.{Piece}
 use Rattle.host_io.specs.declared.entry.Event.{Event}
 use Rattle.host_io.specs.declared.entry.Event.TheVariants.{Write, Sync, Say}
 use Rattle.host_io.specs.declared.entry.Entry.{Entry}
-use Rattle.host_io.proofs.Bytes.{length-put_bytes, IsTorn-put_bytes, IsTorn-same, slice_index-put_bytes_inside, slice_index-put_bytes_outside}
+use Rattle.host_io.proofs.Bytes.{within_or_not, length-put_bytes, IsTorn-put_bytes, IsTorn-same, slice_index-put_bytes_inside, slice_index-put_bytes_outside}
 use Rattle.host_io.proofs.Images.{IsSound-torn, IsSound-settled, IsSettled-settled, same_images}
 use Rattle.host_io.proofs.Replays.{replayed-push, disk_at-push, disk-replayed}
 
@@ -30,13 +30,6 @@ IsSound-written left place bytes disk within sound =
     let file = left_by left place bytes disk.seen in
     same_images (widened place (length bytes) disk) (written left place bytes disk) file refl refl refl
     (IsSound-torn place (length bytes) disk file within (IsTorn-left_by left place bytes disk.seen within) sound)
-
--- a place is within a range or it is not
-within_or_not : (at place n : ℕ) → IsWithin at (record { start = place; count = n }) ⊎ (¬ IsWithin at (record { start = place; count = n }))
-within_or_not at place n = ⊎_elim
-    (λ before. inr (λ within. omega (arith, within.0)))
-    (λ behind. ⊎_elim (λ inside. inl (behind, inside)) (λ past. inr (λ within. omega (arith, within.1))) (cases_lt at (place + n)))
-    (cases_lt at place)
 
 -- a range more of `ff`
 module _ (left : Effect) (place : ℕ) (bytes : List ℕ) (disk : DiskState) (image : List ℕ) (ones : IsOnes disk image) (within : place ≤ length image) where

@@ -1,7 +1,7 @@
 -- Counts of faults over a series of calls.
 use Rattle.std.proofs.Common.{ℕ, ◌≤◌, ◌⊎◌, inl, inr, ⊎_elim, refl, ◌∙◌, arith, Result, IsErr}
 use Rattle.host_io.specs.Outside.{Outside}
-use Rattle.host_io.specs.Calls.{Rose, Counts, CountsDisk, CountsTake, CountsSay}
+use Rattle.host_io.specs.Calls.{Rose, Counts, CountsDisk, CountsFaults, CountsTake, CountsSay}
 use Rattle.std.proofs.lemmas.Bool.{cases_lt}
 
 -- a count that rose first and then didn't fall, rose
@@ -43,3 +43,19 @@ CountsSay-begins outside result fine = record { says = Counts-begins outside.say
 
 pub CountsSay-joins : {T₁ E₁ T₂ E₂ T E : Type 0} {first : Result T₁ E₁} {then : Result T₂ E₂} {old mid new : Outside} (result : Result T E) → CountsSay old mid first → CountsSay mid new then → (IsErr result → IsErr first ⊎ IsErr then) → CountsSay old new result
 CountsSay-joins result c d fails = record { says = Counts-joins result c.says d.says fails; disk = d.disk ∙ c.disk; takes = d.takes ∙ c.takes }
+
+-- the counts of one call of the disk, of which the whole call failed only with it
+pub CountsFaults-disk : {T E : Type 0} {result : Result T E} {old new : Outside} (failed : Type 0) → CountsDisk old new result → (failed → IsErr result) → CountsFaults failed old new
+CountsFaults-disk failed c fails = record { later = c.disk.later; cause = λ f. c.disk.cause (fails f); takes = c.takes; says = c.says }
+
+pub CountsFaults-begins : (outside : Outside) (failed : Type 0) → ¬ failed → CountsFaults failed outside outside
+CountsFaults-begins outside failed fine = record { later = omega arith; cause = λ f. absurd (fine f); takes = refl; says = refl }
+
+-- two in a row, of which one failed by a fault if both together did
+pub CountsFaults-joins : {old mid new : Outside} (first then failed : Type 0) → CountsFaults first old mid → CountsFaults then mid new → (failed → first ⊎ then) → CountsFaults failed old new
+CountsFaults-joins {old} {mid} {new} first then failed c d fails = record {
+  later = let a = c.later in let b = d.later in omega (arith, a, b);
+  cause = λ f. ⊎_elim (λ early. Rose-first old.disk_faults mid.disk_faults new.disk_faults c.later (c.cause early) d.later) (λ late. Rose-last old.disk_faults mid.disk_faults new.disk_faults c.later (d.cause late)) (fails f);
+  takes = d.takes ∙ c.takes;
+  says = d.says ∙ c.says;
+}

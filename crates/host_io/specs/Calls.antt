@@ -18,6 +18,13 @@ pub record CountsDisk {T E : Type 0} (old new : Outside) (result : Result T E) :
   pub takes : new.take_faults ≡ old.take_faults
   pub says : new.say_faults ≡ old.say_faults
 
+-- The same of a call that may be refused for other reasons too: the disk's faults rose where it failed by one of them.
+pub record CountsFaults (failed : Type 0) (old new : Outside) : Type 0 where
+  pub later : old.disk_faults ≤ new.disk_faults
+  pub cause : failed → Rose old.disk_faults new.disk_faults
+  pub takes : new.take_faults ≡ old.take_faults
+  pub says : new.say_faults ≡ old.say_faults
+
 pub record CountsTake {T E : Type 0} (old new : Outside) (result : Result T E) : Type 0 where
   pub takes : Counts old.take_faults new.take_faults result
   pub disk : new.disk_faults ≡ old.disk_faults

@@ -1,8 +1,9 @@
 -- A host in memory: what it went through, what room it has left, and what each call does to it.
-use Rattle.std.specs.Prelude.{◌≡◌, ℕ, ◌+◌, ◌-◌, ◌^◌, ◌<◌, ◌≤◌, Bool, ◌&&◌, ◌||◌, not, nat_lt, nat_le, ◌==◌, if◌then◌else◌, List, [], ◌∷◌, ◌++◌, length, slice_index, ◌⊎◌, map, replicate, take, drop, min, max, Option, Some, None, is_some, unwrap_or}
-use Rattle.host_io.specs.Disk.{Range, DiskState, IsWithin, IsUntouched, settled}
+use Rattle.std.specs.Prelude.{◌≡◌, ℕ, ◌+◌, ◌-◌, ◌^◌, ◌<◌, ◌≤◌, Bool, ◌&&◌, ◌||◌, not, nat_lt, nat_le, ◌==◌, if◌then◌else◌, List, [], ◌∷◌, ◌++◌, length, slice_index, map, replicate, take, drop, min, max, Option, Some, None, is_some, unwrap_or}
+use Rattle.host_io.specs.Disk.{DiskState, IsUntouched, settled}
 use Rattle.host_io.specs.Outside.{Moment, Outside}
 use Rattle.host_io.specs.Calls.{put_bytes}
+use Rattle.host_io.specs.Ranges.{IsAmong}
 use Rattle.host_io.specs.declared.fault.Effect.{Effect}
 use Rattle.host_io.specs.declared.fault.Effect.TheVariants.{Nothing, Whole, Ones}
 use Rattle.host_io.specs.declared.fault.Fault.{Fault}
@@ -172,15 +173,10 @@ after_say piece host = record host {
   moment : Moment
   moment = record { disk = (now_of host).disk; said = (now_of host).said ++ front }
 
--- some write since the last sync was at this place
-abbrev pub IsTouched : ℕ → List Range → Type 0
-IsTouched place [] = ⊥
-IsTouched place (range ∷ ranges) = IsWithin place range ⊎ IsTouched place ranges
-
 -- an image of the greatest length, with `ff` in each pending range and past the synced bytes
 pub record IsOnes (disk : DiskState) (image : List ℕ) : Type 0 where
   pub longest : length image ≡ disk.longest
-  pub touched : (place : ℕ) → IsTouched place disk.pending → slice_index image place ≡ 255
+  pub touched : (place : ℕ) → IsAmong place disk.pending → slice_index image place ≡ 255
   pub past : (place : ℕ) → length disk.synced ≤ place → place < length image → slice_index image place ≡ 255
   pub kept : (place : ℕ) → place < length disk.synced → IsUntouched place disk.pending
       → slice_index image place ≡ slice_index disk.synced place

@@ -13,8 +13,6 @@ mod fault;
 mod file;
 mod log;
 mod memory_host;
-#[cfg(test)]
-mod tests;
 mod traits;
 
 pub use fault::{Effect, Fault};

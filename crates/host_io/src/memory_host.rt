@@ -1,6 +1,6 @@
 // A host in memory, which fails where its script says.
 ghost use Rattle.std.specs.Prelude.{◌≡◌, ◌↔◌, ℕ, ◌+◌, ◌^◌, ◌<◌, ◌≤◌, [], length, ◌++◌, take, drop, IfOk, OnOk, IsErr, IsTrue};
-ghost use Rattle.host_io.specs.Calls.{Rose, CountsDisk, CountsTake, CountsSay, Looks, Writes, Syncs, Takes, Says};
+ghost use Rattle.host_io.specs.Calls.{Rose, CountsDisk, CountsTake, CountsSay, Looks, StandsStill, Writes, Syncs, Takes, Says};
 ghost use Rattle.host_io.specs.Memory.{HostState, outside_of, risen, risen_if, is_due, due, is_refused, take_count, said_front, bounded, after_disk_call, after_look, after_write, after_sync, after_take, after_say, IsLeft, moment_after};
 ghost use Rattle.host_io.specs.Disk.{IsImage};
 ghost use Rattle.host_io.specs.Log.{first_trail};
@@ -164,6 +164,7 @@ impl MemHost {
         ensures after { self.new ≡ after_write at from.now self.old }
         ensures counts { CountsDisk (outside_of self.old) (outside_of self.new) result }
         ensures bound { OnOk result (at + length from.now < 2 ^ 63) }
+        ensures refused { 2 ^ 63 ≤ at + length from.now → StandsStill (outside_of self.old) (outside_of self.new) }
     {
         let due = self.begin();
         let fits = self.log.has_room(from.len());
@@ -253,6 +254,7 @@ impl Disk for MemHost {
         ensures counts { CountsDisk (outside_of self.old) (outside_of self.new) result }
         ensures writes { Writes at from.now (outside_of self.old) (outside_of self.new) result }
         ensures bound { OnOk result (at + length from.now < 2 ^ 63) }
+        ensures refused { 2 ^ 63 ≤ at + length from.now → StandsStill (outside_of self.old) (outside_of self.new) }
         ensures fails { IsErr result ↔ IsTrue (is_refused (length from.now) self.old) }
         ensures after { self.new ≡ after_write at from.now self.old }
     {

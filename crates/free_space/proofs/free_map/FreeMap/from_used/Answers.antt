@@ -4,6 +4,7 @@ use Rattle.std.proofs.lemmas.List.Sorted.{All-permutation, IsNonDecreasingBy-fro
 use Rattle.free_space.specs.Extents.{IsBlock}
 use Rattle.free_space.specs.FreeSpace.{IsLaidOut}
 use Rattle.free_space.specs.Overlaps.{AreFirstToMeet, AreNeighborsApart, IsByPlace, place_of}
+use Rattle.free_space.proofs.CursorLemmas.{cursors_at_floor}
 use Rattle.free_space.proofs.OrderLemmas.{apart_from_order, apart_permutation}
 use Rattle.free_space.proofs.UsedLemmas.{laid_out_from_neighbors, not_apart_from_meeting}
 use Rattle.free_space.proofs.free_map.FreeMap.from_used.Goals as goal
@@ -44,7 +45,7 @@ laid_out c =
     laid_out_from_neighbors spans (all_blocks (goal.at.returns-clause-laid_out c).After-deref) (rising (goal.at.returns-clause-laid_out c).After-deref) apart
 
 pub invariant_of-result : goal.invariant_of-result
-invariant_of-result c = (c.requires.floor_aligned, laid_out c)
+invariant_of-result c = (c.requires.floor_aligned, laid_out c, cursors_at_floor _ _ _ c.requires.floor_aligned c.in_ok-cursors.ensures)
 
 pub returns-clause-used : goal.returns-clause-used
 returns-clause-used c = by_place (goal.at.returns-clause-used c).After-deref

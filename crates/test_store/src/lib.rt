@@ -1,0 +1,13 @@
+//! Tests of the store's lower layers: the host in memory, the space of the file, and its marks.
+//!
+//! They stand above the crates that they test, since a crate with tests in it is proved once more with them.
+#![tactic(auto)]
+
+#[cfg(test)]
+mod host;
+#[cfg(test)]
+mod marks;
+#[cfg(test)]
+mod space;
+#[cfg(test)]
+mod worked;

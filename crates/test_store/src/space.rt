@@ -1,0 +1,239 @@
+ghost use Rattle.std.specs.Prelude.{◌≡◌, All, IsTrue};
+ghost use Rattle.free_space.specs.Extents.{IsBlock};
+
+use free_space::{FreeError, FreeMap, extent_end, extent_len, is_site};
+use mk_value::Span;
+use std::alloc::Global;
+use std::process::Abort;
+use std::test::Fail;
+
+/// The far end of the files that the tests speak of, in bytes.
+const FAR: u64 = 1 << 40;
+
+/// Whether the span is a block of a file that ends before `FAR`.
+#[tactic(auto, unfolding(free_space::specs::Extents::extent_len))]
+fn is_near_block(span: &Span) -> bool
+    ensures { IsTrue result → IsBlock span.now }
+{
+    span.place % 16 == 0 && 0 < span.len && span.place < FAR && span.len < FAR
+}
+
+/// Whether each span is a block of a file that ends before `FAR`.
+fn are_near_blocks(spans: &[Span]) -> bool
+    ensures { IsTrue result → All IsBlock spans.now }
+{
+    spans.iter().all(is_near_block)
+}
+
+/// Places a block of each length and takes it, one after another. Returns their places and the end after them.
+fn placed(
+    rt: &impl Abort,
+    alloc: Global,
+    floor: u64,
+    used: &[Span],
+    lens: &[u64],
+) -> Result<(Vec<u64>, u64), Fail> {
+    assert!(rt; floor % 16 == 0 && are_near_blocks(used));
+    let mut map = FreeMap::from_used(alloc, floor, used)?;
+    let mut places = Vec::new(alloc);
+    for len in lens {
+        let len = *len;
+        assert!(rt; 0 < len);
+        assert!(rt; len < FAR);
+        let place = map.place(len);
+        assert!(rt; place < FAR);
+        map.reserve(1)?;
+        map.take(Span { place, len });
+        places.push(place)?;
+    }
+    Ok((places, map.end()))
+}
+
+/// A commit: the floor, the spans of the commit before, and the lengths of its blocks, the directory's last; then
+/// the places that they get, and the end of all.
+#[derive(Drop)]
+struct Commit<'a> {
+    floor: u64,
+    used: &'a [Span],
+    lens: &'a [u64],
+    places: &'a [u64],
+    end: u64,
+}
+
+fn span(place: u64, len: u64) -> Span
+    ensures { (result.place ≡ place) × (result.len ≡ len) }
+{
+    Span { place, len }
+}
+
+// Worked by hand: a column of 64 numbers as its width goes from 0 to 1, 4, 32 and back to 0 bits, then 4,000 more
+// of one bit, or none at all, under a directory of 35 bytes; texts of 512 and 513 bytes; and a file that is only
+// ever extended, with the floor at its old end.
+#[test]
+fn places_blocks_at_the_least_place(rt: HostRuntime) -> Result<(), Fail> {
+    let commits = [
+        Commit {
+            floor: 192,
+            used: &[span(192, 4)],
+            lens: &[35],
+            places: &[208],
+            end: 256,
+        },
+        Commit {
+            floor: 192,
+            used: &[span(208, 35)],
+            lens: &[8, 35],
+            places: &[192, 256],
+            end: 304,
+        },
+        Commit {
+            floor: 192,
+            used: &[span(192, 8), span(256, 35)],
+            lens: &[32, 35],
+            places: &[208, 304],
+            end: 352,
+        },
+        Commit {
+            floor: 192,
+            used: &[span(208, 32), span(304, 35)],
+            lens: &[256, 35],
+            places: &[352, 240],
+            end: 608,
+        },
+        Commit {
+            floor: 192,
+            used: &[span(352, 256), span(240, 35)],
+            lens: &[35],
+            places: &[192],
+            end: 608,
+        },
+        Commit {
+            floor: 192,
+            used: &[span(192, 35)],
+            lens: &[508, 35],
+            places: &[240, 752],
+            end: 800,
+        },
+        Commit {
+            floor: 192,
+            used: &[span(192, 35)],
+            lens: &[35],
+            places: &[240],
+            end: 288,
+        },
+        Commit {
+            floor: 192,
+            used: &[span(192, 4)],
+            lens: &[4, 512, 513, 75],
+            places: &[208, 224, 736, 1264],
+            end: 1344,
+        },
+        Commit {
+            floor: 352,
+            used: &[span(208, 1), span(224, 3), span(240, 1), span(256, 86)],
+            lens: &[1, 86],
+            places: &[352, 368],
+            end: 464,
+        },
+    ];
+    for commit in &commits {
+        let (places, end) = placed(&rt, rt.alloc(), commit.floor, commit.used, commit.lens)?;
+        assert_eq!(rt; places.as_slice(), commit.places);
+        assert_eq!(rt; end, commit.end);
+    }
+    Ok(())
+}
+
+/// Spans, and the two of them that are named as the first to meet.
+#[derive(Drop)]
+struct Overlapping<'a> {
+    spans: &'a [Span],
+    first: Span,
+    second: Span,
+}
+
+// Worked by hand. The first is a column whose place was turned from 240 to 224, where another block stands.
+#[test]
+fn names_the_first_neighbors_that_meet(rt: HostRuntime) -> Result<(), Fail> {
+    let rows = [
+        Overlapping {
+            spans: &[span(208, 1), span(224, 3), span(224, 1), span(256, 86)],
+            first: span(224, 3),
+            second: span(224, 1),
+        },
+        Overlapping {
+            spans: &[span(256, 86), span(224, 1), span(208, 1), span(224, 3)],
+            first: span(224, 1),
+            second: span(224, 3),
+        },
+        Overlapping {
+            spans: &[span(320, 16), span(304, 17), span(208, 1), span(192, 17)],
+            first: span(192, 17),
+            second: span(208, 1),
+        },
+        Overlapping {
+            spans: &[span(192, 100), span(272, 1), span(208, 1)],
+            first: span(192, 100),
+            second: span(208, 1),
+        },
+    ];
+    for row in &rows {
+        assert!(rt; are_near_blocks(row.spans));
+        let refusal = FreeMap::from_used(rt.alloc(), 192, row.spans).err();
+        assert_eq!(rt; refusal, Some(FreeError::Overlap(row.first, row.second)));
+    }
+    Ok(())
+}
+
+#[test]
+fn gives_space_back(rt: HostRuntime) -> Result<(), Fail> {
+    // The spans touch, and do not meet.
+    let used = [span(208, 16), span(192, 16), span(224, 5)];
+    assert!(rt; are_near_blocks(&used));
+    let mut map = FreeMap::from_used(rt.alloc(), 192, &used)?;
+    assert_eq!(rt; map.end(), 240);
+    assert_eq!(rt; map.place(1), 240);
+    map.give(used[0]);
+    assert_eq!(rt; map.place(16), 208);
+    assert_eq!(rt; map.place(17), 240);
+    assert_eq!(rt; map.end(), 240);
+    Ok(())
+}
+
+#[test]
+#[tactic(auto, unfolding(free_space::specs::Extents::extent_len))]
+fn rounds_up_to_16(rt: HostRuntime) -> Result<(), Fail> {
+    for (len, extent) in [(0, 0), (1, 16), (16, 16), (86, 96)] {
+        assert_eq!(rt; extent_len(len), extent);
+    }
+    assert_eq!(rt; extent_end(&span(256, 86)), 352);
+    assert!(rt; is_site(352, &span(256, 86)));
+    for site in [
+        span(256, 97),
+        span(248, 8),
+        span(176, 16),
+        span(256, 0),
+        span(352, 1),
+    ] {
+        assert!(rt; !is_site(352, &site));
+    }
+    // A place is found also for a block that no file can hold.
+    let last = u64::MAX - 15;
+    let map = FreeMap::from_used(rt.alloc(), last, &[])?;
+    assert_eq!(rt; map.place(u64::MAX), last);
+    assert_eq!(rt; map.end(), last);
+    Ok(())
+}
+
+// Behind two holes that are too short for each, 100,000 blocks of 32, 48 and 64 bytes with their rounding. A search of
+// all that is in use for each of them would take ten seconds.
+#[test]
+fn places_many_blocks(rt: HostRuntime) -> Result<(), Fail> {
+    let mut lens = Vec::new(rt.alloc());
+    for number in 0..100_000 {
+        lens.push(17 + number % 3 * 16)?;
+    }
+    let (_places, end) = placed(&rt, rt.alloc(), 192, &[span(208, 16), span(240, 16)], &lens)?;
+    assert_eq!(rt; end, 256 + 33_334 * 32 + 33_333 * (48 + 64));
+    Ok(())
+}
