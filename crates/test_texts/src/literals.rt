@@ -3,20 +3,19 @@ use crate::shown;
 use std::alloc::Global;
 use std::process::Abort;
 use std::test::Fail;
-use tokens::{
-    CutError, PartError, Piece, ReadError, Token, cut, literal_at, path_at, read_literal,
-};
+use tokens::{PartError, Piece, ReadError, Token, cut, literal_at, path_at, read_literal};
 
-/// The tokens of a text with their places, each behind a space, or the place of the first piece that is none.
+/// The tokens of a text with their places, as they are written, and the place of the first piece that is none.
 fn cutting(alloc: Global, text: &str) -> Result<String, Fail> {
-    match cut(alloc, text) {
-        Ok(pieces) => described(alloc, pieces.as_slice()),
-        Err(CutError::NoToken(place)) => Ok(format!(in alloc; "none at {place}")?),
-        Err(CutError::Memory) => Err(Fail::new("out of memory")),
+    let cutting = cut(alloc, text)?;
+    let mut out = described(alloc, cutting.pieces.as_slice())?;
+    if let Some(place) = cutting.flaw {
+        out.push_str(format!(in alloc; "none at {place}")?.as_str())?;
     }
+    Ok(out)
 }
 
-fn described(alloc: Global, pieces: &[Piece]) -> Result<String, Fail> {
+fn described(alloc: Global, pieces: &[Piece<'_>]) -> Result<String, Fail> {
     let mut out = String::new(alloc);
     for piece in pieces {
         let token = described_token(alloc, &piece.token)?;
@@ -26,18 +25,12 @@ fn described(alloc: Global, pieces: &[Piece]) -> Result<String, Fail> {
     Ok(out)
 }
 
-fn described_token(alloc: Global, token: &Token) -> Result<String, Fail> {
+fn described_token(alloc: Global, token: &Token<'_>) -> Result<String, Fail> {
     match token {
-        Token::Word(name) => Ok(String::from_str(alloc, name.as_str())?),
+        Token::Word(name) => Ok(String::from_str(alloc, name)?),
         Token::Number(number) => Ok(format!(in alloc; "{number}")?),
-        Token::Text(text) => {
-            let content = text.as_str();
-            Ok(format!(in alloc; "'{content}'")?)
-        }
-        Token::Bytes(bytes) => {
-            let content = bytes.as_slice();
-            Ok(format!(in alloc; "{content:?}")?)
-        }
+        Token::Text(written) => Ok(format!(in alloc; "'{written}'")?),
+        Token::Bytes(digits) => Ok(format!(in alloc; "x'{digits}'")?),
         Token::Symbol(sign) => Ok(format!(in alloc; "{sign:?}")?),
     }
 }
@@ -53,7 +46,7 @@ fn reading(alloc: Global, text: &str) -> Result<String, Fail> {
 
 /// How many pieces of the text a path takes at its front, or behind how many reading it stops.
 fn path_of(alloc: Global, text: &str) -> Result<(bool, usize), Fail> {
-    let pieces = cut(alloc, text)?;
+    let pieces = cut(alloc, text)?.pieces;
     match path_at(alloc, pieces.as_slice()) {
         Ok((_, len)) => Ok((true, len)),
         Err(PartError::Stuck(count)) => Ok((false, count)),
@@ -63,7 +56,7 @@ fn path_of(alloc: Global, text: &str) -> Result<(bool, usize), Fail> {
 
 /// The same of a literal.
 fn literal_of(alloc: Global, text: &str) -> Result<(bool, usize), Fail> {
-    let pieces = cut(alloc, text)?;
+    let pieces = cut(alloc, text)?.pieces;
     match literal_at(alloc, pieces.as_slice()) {
         Ok((_, len)) => Ok((true, len)),
         Err(PartError::Stuck(count)) => Ok((false, count)),
@@ -88,7 +81,7 @@ const WORDS: [(&str, &str); 6] = [
     ("abcdefghijklmnopqrstuvwxyz_01234", "none at 0"),
     ("x", "0:x "),
     ("5a", "none at 0"),
-    ("a é", "none at 2"),
+    ("a é", "0:a none at 2"),
 ];
 
 #[test]
@@ -126,8 +119,8 @@ fn a_minus_before_a_digit_begins_a_number(rt: HostRuntime) -> Result<(), Fail> {
 }
 
 const BYTE_STRINGS: [(&str, &str); 7] = [
-    ("x\"00ff\"", "0:[0, 255] "),
-    ("x\"\"", "0:[] "),
+    ("x\"00ff\"", "0:x'00ff' "),
+    ("x\"\"", "0:x'' "),
     ("x\"0\"", "none at 0"),
     ("x\"0F\"", "none at 0"),
     ("x\"00", "none at 0"),
@@ -141,7 +134,7 @@ fn byte_strings_are_pairs_of_digits(rt: HostRuntime) -> Result<(), Fail> {
 }
 
 const TEXTS: [(&str, &str); 9] = [
-    ("\"a\\\"b\\\\c\\nd\"", "0:'a\"b\\c\nd' "),
+    ("\"a\\\"b\\\\c\\nd\"", "0:'a\\\"b\\\\c\\nd' "),
     ("\"\"", "0:'' "),
     ("\"é\"", "0:'é' "),
     ("\"\t\"", "0:'\t' "),
@@ -162,9 +155,9 @@ const SPACES: [(&str, &str); 8] = [
     ("   ", ""),
     ("  a  b ", "2:a 5:b "),
     ("\t", "none at 0"),
-    ("a\r", "none at 1"),
+    ("a\r", "0:a none at 1"),
     ("add t 1\"x\"", "0:add 4:t 6:1 7:'x' "),
-    ("foo %", "none at 4"),
+    ("foo %", "0:foo none at 4"),
     (
         "(){},:/=",
         "0:OpenParenthesis 1:CloseParenthesis 2:OpenBrace 3:CloseBrace 4:Comma 5:Colon 6:Slash 7:Equals ",
@@ -184,11 +177,13 @@ fn all_read(rt: &impl Abort, alloc: Global, table: &[(&str, &str)]) -> Result<()
     Ok(())
 }
 
-const LITERALS: [(&str, &str); 9] = [
+const LITERALS: [(&str, &str); 11] = [
     ("2147483647", "2147483647"),
     (" -9223372036854775808 ", "-9223372036854775808"),
-    ("\"a\"", "'a'"),
+    ("\"a\\\"b\\\\c\\nd\"", "'a\"b\\c\nd'"),
+    ("\"é\"", "'é'"),
     ("x\"01\"", "[1]"),
+    ("x\"00ff\"", "[0, 255]"),
     ("{}", "rows 0"),
     ("{(1)}", "rows 1"),
     ("{ (1 , \"a\"), ({}) }", "rows 2"),
