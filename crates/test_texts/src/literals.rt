@@ -1,7 +1,6 @@
 //! Tokens, and the literals and paths that stand at the front of them.
 use crate::shown;
 use std::alloc::Global;
-use std::process::Abort;
 use std::test::Fail;
 use tokens::{PartError, Piece, ReadError, Token, cut, literal_at, path_at, read_literal};
 
@@ -64,14 +63,7 @@ fn literal_of(alloc: Global, text: &str) -> Result<(bool, usize), Fail> {
     }
 }
 
-/// Each text is cut as is said beside it.
-fn all_cut(rt: &impl Abort, alloc: Global, table: &[(&str, &str)]) -> Result<(), Fail> {
-    for (text, want) in table {
-        assert_eq!(rt; cutting(alloc, text)?.as_str(), *want, "{text}");
-    }
-    Ok(())
-}
-
+/// Words are names.
 const WORDS: [(&str, &str); 6] = [
     ("_9Z", "0:_9Z "),
     (
@@ -84,11 +76,7 @@ const WORDS: [(&str, &str); 6] = [
     ("a é", "0:a none at 2"),
 ];
 
-#[test]
-fn words_are_names(rt: HostRuntime) -> Result<(), Fail> {
-    all_cut(&rt, rt.alloc(), &WORDS)
-}
-
+/// Numbers have 64 bits and one spelling.
 const NUMBERS: [(&str, &str); 8] = [
     ("0", "0:0 "),
     ("00", "none at 0"),
@@ -100,11 +88,7 @@ const NUMBERS: [(&str, &str); 8] = [
     ("-5a", "none at 0"),
 ];
 
-#[test]
-fn numbers_have_64_bits_and_one_spelling(rt: HostRuntime) -> Result<(), Fail> {
-    all_cut(&rt, rt.alloc(), &NUMBERS)
-}
-
+/// A minus before a digit begins a number.
 const MINUSES: [(&str, &str); 5] = [
     ("1-2", "0:1 1:-2 "),
     ("- 5", "0:Minus 2:5 "),
@@ -113,11 +97,7 @@ const MINUSES: [(&str, &str); 5] = [
     ("a-1", "0:a 1:-1 "),
 ];
 
-#[test]
-fn a_minus_before_a_digit_begins_a_number(rt: HostRuntime) -> Result<(), Fail> {
-    all_cut(&rt, rt.alloc(), &MINUSES)
-}
-
+/// Byte strings are pairs of digits.
 const BYTE_STRINGS: [(&str, &str); 7] = [
     ("x\"00ff\"", "0:x'00ff' "),
     ("x\"\"", "0:x'' "),
@@ -128,11 +108,7 @@ const BYTE_STRINGS: [(&str, &str); 7] = [
     ("ax\"00\"", "0:ax 2:'00' "),
 ];
 
-#[test]
-fn byte_strings_are_pairs_of_digits(rt: HostRuntime) -> Result<(), Fail> {
-    all_cut(&rt, rt.alloc(), &BYTE_STRINGS)
-}
-
+/// Texts have three escapes.
 const TEXTS: [(&str, &str); 9] = [
     ("\"a\\\"b\\\\c\\nd\"", "0:'a\\\"b\\\\c\\nd' "),
     ("\"\"", "0:'' "),
@@ -145,11 +121,7 @@ const TEXTS: [(&str, &str); 9] = [
     ("\"abc\\\"", "none at 0"),
 ];
 
-#[test]
-fn texts_have_three_escapes(rt: HostRuntime) -> Result<(), Fail> {
-    all_cut(&rt, rt.alloc(), &TEXTS)
-}
-
+/// Only spaces part tokens.
 const SPACES: [(&str, &str); 8] = [
     ("", ""),
     ("   ", ""),
@@ -164,19 +136,7 @@ const SPACES: [(&str, &str); 8] = [
     ),
 ];
 
-#[test]
-fn only_spaces_part_tokens(rt: HostRuntime) -> Result<(), Fail> {
-    all_cut(&rt, rt.alloc(), &SPACES)
-}
-
-/// Each text reads as a literal, or is refused, as is said beside it.
-fn all_read(rt: &impl Abort, alloc: Global, table: &[(&str, &str)]) -> Result<(), Fail> {
-    for (text, want) in table {
-        assert_eq!(rt; reading(alloc, text)?.as_str(), *want, "{text}");
-    }
-    Ok(())
-}
-
+/// Whole literals.
 const LITERALS: [(&str, &str); 11] = [
     ("2147483647", "2147483647"),
     (" -9223372036854775808 ", "-9223372036854775808"),
@@ -193,11 +153,7 @@ const LITERALS: [(&str, &str); 11] = [
     ("{({({({({({({({})})})})})})})}", "rows 1"),
 ];
 
-#[test]
-fn literals_are_read(rt: HostRuntime) -> Result<(), Fail> {
-    all_read(&rt, rt.alloc(), &LITERALS)
-}
-
+/// The first offence of a text.
 const OFFENCES: [(&str, &str); 13] = [
     ("9223372036854775808", "none at 0"),
     ("  ", "none at 2"),
@@ -216,11 +172,7 @@ const OFFENCES: [(&str, &str); 13] = [
     ("foo 1a", "none at 4"),
 ];
 
-#[test]
-fn the_first_offence_is_told(rt: HostRuntime) -> Result<(), Fail> {
-    all_read(&rt, rt.alloc(), &OFFENCES)
-}
-
+/// A path stops where no slash goes on.
 const PATHS: [(&str, (bool, usize)); 10] = [
     ("d", (true, 1)),
     ("d 5", (true, 1)),
@@ -234,14 +186,7 @@ const PATHS: [(&str, (bool, usize)); 10] = [
     ("d/0/a/0/5", (false, 8)),
 ];
 
-#[test]
-fn paths_stop_where_no_slash_goes_on(rt: HostRuntime) -> Result<(), Fail> {
-    for (text, want) in &PATHS {
-        assert_eq!(rt; path_of(rt.alloc(), text)?, *want, "{text}");
-    }
-    Ok(())
-}
-
+/// A literal is read from the front.
 const FRONTS: [(&str, (bool, usize)); 7] = [
     ("1 2", (true, 1)),
     ("{(1)} a", (true, 5)),
@@ -253,7 +198,38 @@ const FRONTS: [(&str, (bool, usize)); 7] = [
 ];
 
 #[test]
-fn a_literal_is_read_from_the_front(rt: HostRuntime) -> Result<(), Fail> {
+fn texts_are_cut(rt: HostRuntime) -> Result<(), Fail> {
+    let tables = [
+        &WORDS[..],
+        &NUMBERS[..],
+        &MINUSES[..],
+        &BYTE_STRINGS[..],
+        &TEXTS[..],
+        &SPACES[..],
+    ];
+    for table in tables {
+        for (text, want) in table {
+            assert_eq!(rt; cutting(rt.alloc(), text)?.as_str(), *want, "{text}");
+        }
+    }
+    Ok(())
+}
+
+#[test]
+fn texts_are_read(rt: HostRuntime) -> Result<(), Fail> {
+    for table in [&LITERALS[..], &OFFENCES[..]] {
+        for (text, want) in table {
+            assert_eq!(rt; reading(rt.alloc(), text)?.as_str(), *want, "{text}");
+        }
+    }
+    Ok(())
+}
+
+#[test]
+fn fronts_are_read(rt: HostRuntime) -> Result<(), Fail> {
+    for (text, want) in &PATHS {
+        assert_eq!(rt; path_of(rt.alloc(), text)?, *want, "{text}");
+    }
     for (text, want) in &FRONTS {
         assert_eq!(rt; literal_of(rt.alloc(), text)?, *want, "{text}");
     }
