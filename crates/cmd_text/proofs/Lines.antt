@@ -1,13 +1,10 @@
 -- How a line reads by its tokens.
-use Rattle.std.proofs.Common.{◌≡◌, ◌⊎◌, inl, inr, ℕ, true, false, List, length, refl, sym, ap, subst, ◌∙◌}
+use Rattle.std.proofs.Common.{◌≡◌, ◌⊎◌, inl, inr, ℕ, true, false, List, length, refl, sym, ap, subst}
 use Rattle.std.specs.Str.{IsUtf8, is_utf8}
 use Rattle.std.specs.Str.Lossy.{utf8_valid_len}
 use Rattle.std.proofs.lemmas.Str.{IsUtf8-from_is_utf8}
-use Rattle.tokens.specs.Cutting.{Cuts, IsFirstFlaw, Piece}
+use Rattle.tokens.specs.Cutting.{Cuts, FlawFrom, Piece}
 use Rattle.tokens.specs.Fronts.{IsFirstOffence, tokens_in}
-use Rattle.tokens.specs.declared.error.CutError.{CutError}
-use Rattle.tokens.specs.declared.error.CutError.TheVariants as cuts
-use Rattle.cmd_text.specs.Cutting.{error_of_cut}
 use Rattle.cmd_text.specs.Forms.{RefusesCommand}
 use Rattle.cmd_text.specs.Grammar.{CommandTokens, SpellsCommand}
 use Rattle.cmd_text.specs.Lines.{IsRefusedAs, Reads, gives_structure}
@@ -28,9 +25,8 @@ refused_pieces line pieces all error same cut (inr (place, (told, wrong))) =
 pub reads_pieces : (line : List ℕ) (pieces all : List Piece) (command : Command) → all ≡ pieces → Cuts line pieces → SpellsCommand (tokens_in all) command → ReadsPieces line command
 reads_pieces line pieces all command same cut spells = (all, (subst (Cuts line) (sym same) cut, spells))
 
-pub refused_cut : (line : List ℕ) (cut : CutError) (error : CmdError) → error ≡ error_of_cut cut → (cut ≡ cuts.Memory) ⊎ ((place : ℕ) × (cut ≡ cuts.NoToken place) × IsFirstFlaw line place) → RefusedAt line error
-refused_cut line cut error is (inl memory) = inl (is ∙ ap error_of_cut memory)
-refused_cut line cut error is (inr flaw) = inr (flaw.0, (inl flaw.2, is ∙ ap error_of_cut flaw.1))
+pub refused_flaw : (line : List ℕ) (pieces : List Piece) (place : ℕ) → FlawFrom 0 line pieces place → RefusedAt line (Syntax place)
+refused_flaw line pieces place flaw = inr (place, (inl (pieces, flaw), refl))
 
 pub reads_tokens : (line : List ℕ) (command : Command) → IsUtf8 line → gives_structure line ≡ false → ReadsPieces line command → Reads line command
 reads_tokens line command utf8 other (pieces, (cut, spells)) =

@@ -1,7 +1,6 @@
 -- A line has one first offence at most, and none if it reads as a command.
-use Rattle.std.proofs.Common.{◌≡◌, ◌⊎◌, inl, inr, ℕ, true, false, List, [], ◌∷◌, ◌++◌, length, refl, sym, ap, subst, ◌∙◌, append_assoc, append-nil, true≢false}
+use Rattle.std.proofs.Common.{◌≡◌, ◌⊎◌, inl, inr, ℕ, false, List, [], ◌∷◌, ◌++◌, length, sym, ap, subst, ◌∙◌, append_assoc, append-nil, true≢false}
 use Rattle.std.specs.Str.{IsUtf8, is_utf8}
-use Rattle.std.specs.Str.Lossy.{utf8_valid_len}
 use Rattle.std.proofs.lemmas.Str.{is_utf8-from_IsUtf8}
 use Rattle.mk_value.specs.Heading.{Attribute}
 use Rattle.mk_value.specs.Tokens.{Token}
@@ -11,12 +10,12 @@ use Rattle.struct_text.specs.Spelling.{Spells}
 use Rattle.struct_text.specs.declared.error.StructError.{StructError}
 use Rattle.tokens.specs.Cutting.{Cuts, IsFirstFlaw, Piece}
 use Rattle.tokens.specs.Fronts.{Language, IsFirstOffence, IsFirstWrong, IsFront, EndsEarly, tokens_in}
-use Rattle.cmd_text.specs.Grammar.{CommandTokens, SpellsCommand}
-use Rattle.cmd_text.specs.Lines.{IsRefusedAs, Reads, ReadsStructure, ReadsTokens, RefusesStructure, RefusesTokens, StandsAlone, error_of, gives_structure, structure_place, structure_text}
+use Rattle.cmd_text.specs.Grammar.{CommandTokens}
+use Rattle.cmd_text.specs.Lines.{IsRefusedAs, Reads, ReadsStructure, ReadsTokens, RefusesStructure, RefusesTokens, error_of, structure_place, structure_text}
 use Rattle.cmd_text.specs.declared.command.Command.{Command}
 use Rattle.cmd_text.specs.declared.error.CmdError.{CmdError}
 use Rattle.cmd_text.specs.declared.error.CmdError.TheVariants.{Syntax}
-use Rattle.cmd_text.proofs.Cuts.{CutsBehind, two_cuts}
+use Rattle.cmd_text.proofs.Cuts.{two_cuts}
 use Rattle.cmd_text.proofs.Refusals.{tokens_in-append}
 
 -- a front of a front is a front

@@ -10,7 +10,7 @@ use Rattle.tokens.specs.Fronts.{IsFront}
 use Rattle.tokens.specs.Paths.{step_tokens, path_tokens, slash}
 use Rattle.cmd_text.specs.Grammar.{count, literals_tokens}
 use Rattle.cmd_text.specs.Forms.{Part, name, number, path, literal, Form, nothing, values, next, IsPart, IsOfForm}
-use Rattle.cmd_text.proofs.Cuts.{CutsBehind, two_cuts}
+use Rattle.cmd_text.proofs.Cuts.{two_cuts}
 use Rattle.cmd_text.proofs.Decoding.{literal_begins, begins_otherwise, literal_begins_with, behind_literal, behind_steps}
 
 -- the first of the tokens is one of those

@@ -1,5 +1,5 @@
 -- A literal that a line may hold is proper.
-use Rattle.std.proofs.Common.{◌≡◌, ◌≤◌, ◌-◌, ◌<◌, ℕ, List, [], ◌∷◌, length, length-drop, inl, inr, refl, sym, ap, subst, ◌∙◌, All, arith}
+use Rattle.std.proofs.Common.{◌≡◌, ◌≤◌, ◌-◌, ℕ, List, length, length-drop, inl, inr, sym, ap, subst, ◌∙◌, All, arith}
 use Rattle.std.proofs.lemmas.List.Elements.{All-weaker}
 use Rattle.mk_value.specs.Conversions.{IsProper, IsProperRow, AreProper}
 use Rattle.mk_value.specs.Data.{Datum, integer, long, text, bytes, relation, Tuple, no_values, value, Relation, no_tuples, tuple}
@@ -9,7 +9,7 @@ use Rattle.mk_value.specs.Tokens.{Token}
 use Rattle.tokens.specs.Literals.{IsLiteral, IsLiteralRow, AreLiteralRows, AreLiterals, max_braces}
 use Rattle.cmd_text.specs.Grammar.{SpellsCommand}
 use Rattle.cmd_text.specs.Laws.{HasProperLiterals}
-use Rattle.cmd_text.specs.Lines.{Reads, ReadsStructure, ReadsTokens, behind_run, first_run, structure_text, without_leading, without_trailing}
+use Rattle.cmd_text.specs.Lines.{Reads, ReadsStructure, ReadsTokens, behind_run, first_run, structure_text, without_leading}
 use Rattle.cmd_text.specs.declared.command.Command.{Command}
 use Rattle.cmd_text.specs.declared.command.Command.TheVariants as commands
 use Rattle.cmd_text.proofs.Spaces.{without_leading-no_longer, without_trailing-no_longer}

@@ -1,6 +1,6 @@
 -- What a reader reads, by the pieces of the program.
-use Rattle.std.proofs.Common.{◌≡◌, ◌⊎◌, ◌+◌, inl, inr, ◌<◌, ◌≤◌, ◌-◌, zero, suc, length, length-drop, get_or, arith, ℕ, List, [], ◌∷◌, ◌++◌, take, drop, refl, sym, ap, subst, ◌∙◌, take-append-drop}
-use Rattle.std.specs.List.{take-map, drop-map}
+use Rattle.std.proofs.Common.{◌≡◌, ◌⊎◌, ◌+◌, inl, inr, ◌<◌, ◌≤◌, ◌-◌, zero, suc, length, length-drop, get_or, arith, ℕ, List, [], ◌∷◌, ◌++◌, take, drop, refl, sym, ap, subst, ◌∙◌, take-append-drop, Some, None}
+use Rattle.std.specs.List.{slice_get, take-map, drop-map}
 use Rattle.std.proofs.lemmas.List.{take_all, length-map, length-append}
 use Rattle.mk_value.specs.Data.{Datum}
 use Rattle.mk_value.specs.Literals.{tokens_of}
@@ -135,3 +135,15 @@ takes_less part front old new end rest takes =
     let long : length (tokens_in (pieces_of old)) ≡ length front + length (tokens_in (pieces_of new)) = ap length takes.split ∙ length-append front (tokens_in (pieces_of new)) in
     let some : length front ≡ suc (length begins.rest) = ap length begins.is in
     omega (arith, length-map (pieces_of old) (λ p. p.token), length-map (pieces_of new) (λ p. p.token), length-map old piece_of, length-map new piece_of)
+
+-- the first of a list, as it is read
+pub none_first : {X : Type 0} (xs : List X) → None ≡ slice_get xs 0 → xs ≡ []
+none_first [] e = refl
+none_first (x ∷ xs) e = cc
+
+pub some_first : {X : Type 0} (xs : List X) (x : X) → Some x ≡ slice_get xs 0 → xs ≡ x ∷ drop 1 xs
+some_first [] x e = cc
+some_first (y ∷ xs) x e = ap (λ z. z ∷ xs) (let f : Some x ≡ Some y = e in let g : y ≡ x = cc in g)
+
+pub same_single : (t u : Token) → t ∷ [] ≡ u ∷ [] → t ≡ u
+same_single t u e = cc

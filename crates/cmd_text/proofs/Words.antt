@@ -1,16 +1,15 @@
 -- Lines of one word at most: what their pieces are.
-use Rattle.std.proofs.Common.{◌≡◌, ◌⊎◌, inl, inr, ℕ, ◌≤◌, true, false, List, [], ◌∷◌, length, refl, sym, ap, subst, ◌∙◌, All, true≢false, arith}
-use Rattle.std.proofs.lemmas.List.Elements.{All-nil, All-cons}
+use Rattle.std.proofs.Common.{◌≡◌, ◌⊎◌, inl, inr, ℕ, ◌≤◌, true, List, [], ◌∷◌, length, refl, sym, ap, subst, ◌∙◌, true≢false, arith}
 use Rattle.mk_value.specs.Tokens.{Token, word}
-use Rattle.tokens.specs.Cutting.{Cuts, IsInPlace, inline_pieces}
+use Rattle.tokens.specs.Cutting.{Cuts, FlawFrom, inline_pieces}
 use Rattle.tokens.specs.Cutting as cutting
 use Rattle.tokens.specs.Fronts.{tokens_in}
 use Rattle.tokens.specs.Meanings.{pieces_of, token_of}
 use Rattle.tokens.specs.declared.token.Piece.{Piece}
-use Rattle.tokens.proofs.Chains.{cut_once}
+use Rattle.tokens.proofs.Chains.{cut_once, cut_or_flawed}
 use Rattle.cmd_text.specs.Forms.{form_of, nothing, word_of}
 use Rattle.cmd_text.specs.Grammar.{SpellsCommand, keyword}
-use Rattle.cmd_text.specs.Lines.{Reads, ReadsStructure, ReadsTokens, gives_structure}
+use Rattle.cmd_text.specs.Lines.{Reads, ReadsStructure, gives_structure}
 use Rattle.cmd_text.specs.OneWord.{IsOneWord, ReadsPieces}
 use Rattle.cmd_text.specs.declared.command.Command.{Command}
 use Rattle.cmd_text.specs.declared.command.Command.TheVariants as commands
@@ -75,19 +74,20 @@ is_alone all first rest command e one spells =
     let found = word_first first rest command one (subst (λ ps. SpellsCommand (tokens_in (pieces_of ps)) command) e spells) in
     rest_of_it (token_of first.token) (keyword (word_of found.verb)) (tokens_in (pieces_of rest)) [] found.is
 
--- such a line is cut in place
-few_pieces : (pieces : List cutting.Piece) → (tokens_in pieces ≡ []) ⊎ IsWord (tokens_in pieces) → (length pieces ≤ inline_pieces) × All (λ p. IsInPlace p.token) pieces
-few_pieces [] h = (omega arith, All-nil (λ p. IsInPlace p.token))
-few_pieces (p ∷ []) (inl none) = absurd (no_first p.token [] none)
-few_pieces (p ∷ []) (inr some) =
-    (omega arith, All-cons (λ q. IsInPlace q.token) p [] (subst IsInPlace (sym (first_of p.token (keyword (word_of some.verb)) [] [] some.is)) tt) (All-nil (λ q. IsInPlace q.token)))
+-- such a line has few pieces
+few_pieces : (pieces : List cutting.Piece) → (tokens_in pieces ≡ []) ⊎ IsWord (tokens_in pieces) → length pieces ≤ inline_pieces
+few_pieces [] h = omega arith
+few_pieces (p ∷ []) h = omega arith
 few_pieces (p ∷ q ∷ pieces) (inl none) = absurd (no_first p.token (tokens_in (q ∷ pieces)) none)
 few_pieces (p ∷ q ∷ pieces) (inr some) =
     absurd (no_first q.token (tokens_in pieces) (rest_of_it p.token (keyword (word_of some.verb)) (tokens_in (q ∷ pieces)) [] some.is))
 
 pub cut_in_place : (line : List ℕ) (command : Command) → IsOneWord command → ReadsPieces line command
-    → (pieces : List cutting.Piece) × (Cuts line pieces × ((length pieces ≤ inline_pieces) × All (λ p. IsInPlace p.token) pieces))
+    → (pieces : List cutting.Piece) × (Cuts line pieces × (length pieces ≤ inline_pieces))
 cut_in_place line command one (pieces, (cuts, spells)) = (pieces, (cuts, few_pieces pieces (one_word command (tokens_in pieces) one spells)))
+
+pub never_flawed : (line : List ℕ) (command : Command) (pieces : List cutting.Piece) (flaw : ℕ) → FlawFrom 0 line pieces flaw → ReadsPieces line command → ⊥
+never_flawed line command pieces flaw flawed (read, (cuts, spells)) = cut_or_flawed 0 line read pieces flaw cuts flawed
 
 pub spells_cut : (line : List ℕ) (command : Command) (pieces all : List cutting.Piece) → all ≡ pieces → Cuts line pieces → ReadsPieces line command → SpellsCommand (tokens_in all) command
 spells_cut line command pieces all same cuts (read, (others, spells)) =

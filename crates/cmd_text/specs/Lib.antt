@@ -1,4 +1,3 @@
-pub mod Cutting
 pub mod Forms
 pub mod Grammar
 pub mod Laws

@@ -1,10 +1,8 @@
 ghost use Rattle.std.specs.Prelude.{◌≡◌};
-ghost use Rattle.cmd_text.specs.Cutting.{error_of_cut};
 ghost use Rattle.cmd_text.specs.declared.error.CmdError.TheVariants.{Memory as want_of_memory};
 
 use mk_value::Memory;
 use thiserror::Error;
-use tokens::CutError;
 
 /// Why a line was not read as a command. Each place is a byte offset from the line's start.
 #[derive(Clone, Copy, Debug, PartialEq, Eq, Error)]
@@ -32,16 +30,5 @@ impl From<Memory> for CmdError {
 
     fn from(_error: Memory) -> CmdError {
         CmdError::Memory
-    }
-}
-
-impl From<CutError> for CmdError {
-    ghost from_gives = { λ cut error. error ≡ error_of_cut cut };
-
-    fn from(error: CutError) -> CmdError {
-        match error {
-            CutError::NoToken(place) => CmdError::Syntax(place),
-            CutError::Memory => CmdError::Memory,
-        }
     }
 }

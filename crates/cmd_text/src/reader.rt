@@ -1,26 +1,25 @@
 //! Reading the parts of a command from the pieces of its line.
-ghost use Rattle.std.specs.Prelude.{◌≡◌, ◌↔◌, ◌<◌, ◌^◌, ◌∷◌, [], ℕ, drop, IfOk, IfErr, IsOk, OnOk, IfSome, IsNone};
+ghost use Rattle.std.specs.Prelude.{◌≡◌, ◌↔◌, ◌∷◌, [], IfOk, IfErr, IsOk, OnOk};
 ghost use Rattle.mk_value.specs.LiteralValues.{literal_of};
 ghost use Rattle.mk_value.specs.Literals.{tokens_of};
 ghost use Rattle.mk_value.specs.Names.{IsName};
 ghost use Rattle.mk_value.specs.Tokens.{word};
 ghost use Rattle.tokens.specs.Fronts.{tokens_in};
-ghost use Rattle.tokens.specs.Meanings.{token_of};
 ghost use Rattle.tokens.specs.Literals.{IsLiteral, max_braces};
 ghost use Rattle.tokens.specs.Paths.{IsPath, path_tokens};
-ghost use Rattle.cmd_text.specs.Forms.{Form, NameTokens, NumberTokens, Takes, Refuses, nothing, values, next, name as a_name, number as a_number, path as a_path, literal as a_literal};
+ghost use Rattle.cmd_text.specs.Forms.{Form, Takes, Refuses, nothing, values, next, name as a_name, number as a_number, path as a_path, literal as a_literal};
 ghost use Rattle.cmd_text.specs.Grammar.{IsCount, AreLiterals, count as count_token, literals_tokens};
 
 use crate::CmdError;
 use mk_value::{Literal, Literals, Name, Path};
 use std::alloc::Global;
-use tokens::{PartError, Piece, Token, literal_at, path_at};
+use tokens::{PartError, Piece, count_of, literal_at, name_of, path_at};
 
 /// The pieces of a line that are left to read, and the line's length.
 #[derive(Drop)]
 pub(crate) struct Reader<'a> {
     pub(crate) alloc: Global,
-    pub(crate) rest: &'a [Piece],
+    pub(crate) rest: &'a [Piece<'a>],
     pub(crate) end: usize,
 }
 
@@ -33,13 +32,13 @@ impl<'a> Reader<'a> {
         ensures takes { IfOk result (λ name. Takes a_name (word name ∷ []) (rest_of self.old) (rest_of self.new)) }
         ensures refused { IfErr result (λ error. (form : Form) → Refuses (next a_name form) (rest_of self.old) error) }
     {
-        let Some((first, rest)) = self.rest.split_first() else {
+        let Some(first) = self.rest.first() else {
             return Err(CmdError::Syntax(self.end));
         };
         let Some(name) = name_of(&first.token) else {
             return Err(CmdError::Syntax(first.place));
         };
-        self.rest = rest;
+        self.rest = &self.rest[1..];
         Ok(name)
     }
 
@@ -49,13 +48,13 @@ impl<'a> Reader<'a> {
         ensures takes { IfOk result (λ n. Takes a_number (count_token n ∷ []) (rest_of self.old) (rest_of self.new)) }
         ensures refused { IfErr result (λ error. (form : Form) → Refuses (next a_number form) (rest_of self.old) error) }
     {
-        let Some((first, rest)) = self.rest.split_first() else {
+        let Some(first) = self.rest.first() else {
             return Err(CmdError::Syntax(self.end));
         };
-        let Some(number) = number_of(&first.token) else {
+        let Some(number) = count_of(&first.token) else {
             return Err(CmdError::Syntax(first.place));
         };
-        self.rest = rest;
+        self.rest = &self.rest[1..];
         Ok(number)
     }
 
@@ -127,26 +126,4 @@ impl<'a> Reader<'a> {
             self.end
         }
     }
-}
-
-/// The name that a token is.
-fn name_of(token: &Token) -> Option<Name>
-    ensures some { IfSome result (λ name. (token_of token.now ≡ word name) × IsName name) }
-    ensures none { IsNone result → NameTokens (token_of token.now ∷ []) → ⊥ }
-{
-    let Token::Word(name) = token else {
-        return None;
-    };
-    Name::from_bytes(name.as_bytes())
-}
-
-/// The number without a sign that a token is.
-fn number_of(token: &Token) -> Option<u64>
-    ensures some { IfSome result (λ n. (token_of token.now ≡ count_token n) × IsCount n) }
-    ensures none { IsNone result → NumberTokens (token_of token.now ∷ []) → ⊥ }
-{
-    let Token::Number(number) = token else {
-        return None;
-    };
-    u64::try_from(*number).ok()
 }

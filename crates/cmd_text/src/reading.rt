@@ -143,12 +143,15 @@ fn read_tokens(alloc: Global, line: &str) -> Result<Command, CmdError>
     ensures refused { IfErr result (λ error. (error ≡ want_of_memory) ⊎ ((place : ℕ) × (IsFirstOffence CommandTokens line.now place × (error ≡ Syntax place)))) }
     ensures in_place { (command : TheCommand) → IsOneWord command → ReadsPieces line.now command → IsOk result }
 {
-    let pieces = cut(alloc, line)?;
-    read_pieces(alloc, pieces.as_slice(), line.len())
+    let cutting = cut(alloc, line)?;
+    if let Some(place) = cutting.flaw {
+        return Err(CmdError::Syntax(place));
+    }
+    read_pieces(alloc, cutting.pieces.as_slice(), line.len())
 }
 
 /// Reads the pieces of a line of so many bytes.
-fn read_pieces(alloc: Global, pieces: &[Piece], end: usize) -> Result<Command, CmdError>
+fn read_pieces(alloc: Global, pieces: &[Piece<'_>], end: usize) -> Result<Command, CmdError>
     ensures reads { IfOk result (SpellsCommand (tokens_in (pieces_of pieces.now))) }
     ensures refused { IfErr result (RefusesCommand (record { pieces = pieces_of pieces.now; end = end })) }
     ensures in_place { (command : TheCommand) → IsOneWord command → SpellsCommand (tokens_in (pieces_of pieces.now)) command → IsOk result }
@@ -162,7 +165,7 @@ fn read_pieces(alloc: Global, pieces: &[Piece], end: usize) -> Result<Command, C
 }
 
 /// The command whose first word a piece is.
-fn first_verb(first: &Piece) -> Result<Verb, CmdError>
+fn first_verb(first: &Piece<'_>) -> Result<Verb, CmdError>
     ensures known { IfOk result (λ verb. token_of first.now.token ≡ keyword (word_of verb)) }
     ensures unknown { IfErr result (λ error. (error ≡ Syntax first.now.place) × ((verb : TheVerb) → token_of first.now.token ≡ keyword (word_of verb) → ⊥)) }
 {
@@ -173,12 +176,12 @@ fn first_verb(first: &Piece) -> Result<Verb, CmdError>
 }
 
 /// The command whose first word a token is.
-fn verb_of(token: &Token) -> Option<Verb>
+fn verb_of(token: &Token<'_>) -> Option<Verb>
     ensures some { IfSome result (λ verb. token_of token.now ≡ keyword (word_of verb)) }
     ensures none { IsNone result → (verb : TheVerb) → token_of token.now ≡ keyword (word_of verb) → ⊥ }
 {
-    let Token::Word(name) = token else {
+    let Token::Word(word) = token else {
         return None;
     };
-    Verb::of(name.as_str())
+    Verb::of(word)
 }

@@ -84,7 +84,7 @@ pub fn name(text: &str) -> Result<Name, Fail> {
 
 /// The path that a text spells, such as `book/0/phones`.
 pub fn path(alloc: Global, text: &str) -> Result<Path, Fail> {
-    let pieces = cut(alloc, text)?;
+    let pieces = cut(alloc, text)?.pieces;
     let (path, taken) = path_at(alloc, pieces.as_slice())?;
     if taken < pieces.as_slice().len() {
         return Err(Fail::new("no path"));

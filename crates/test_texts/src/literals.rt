@@ -1,22 +1,20 @@
 //! Tokens, and the literals and paths that stand at the front of them.
 use crate::shown;
 use std::alloc::Global;
-use std::process::Abort;
 use std::test::Fail;
-use tokens::{
-    CutError, PartError, Piece, ReadError, Token, cut, literal_at, path_at, read_literal,
-};
+use tokens::{PartError, Piece, ReadError, Token, cut, literal_at, path_at, read_literal};
 
-/// The tokens of a text with their places, each behind a space, or the place of the first piece that is none.
+/// The tokens of a text with their places, as they are written, and the place of the first piece that is none.
 fn cutting(alloc: Global, text: &str) -> Result<String, Fail> {
-    match cut(alloc, text) {
-        Ok(pieces) => described(alloc, pieces.as_slice()),
-        Err(CutError::NoToken(place)) => Ok(format!(in alloc; "none at {place}")?),
-        Err(CutError::Memory) => Err(Fail::new("out of memory")),
+    let cutting = cut(alloc, text)?;
+    let mut out = described(alloc, cutting.pieces.as_slice())?;
+    if let Some(place) = cutting.flaw {
+        out.push_str(format!(in alloc; "none at {place}")?.as_str())?;
     }
+    Ok(out)
 }
 
-fn described(alloc: Global, pieces: &[Piece]) -> Result<String, Fail> {
+fn described(alloc: Global, pieces: &[Piece<'_>]) -> Result<String, Fail> {
     let mut out = String::new(alloc);
     for piece in pieces {
         let token = described_token(alloc, &piece.token)?;
@@ -26,18 +24,12 @@ fn described(alloc: Global, pieces: &[Piece]) -> Result<String, Fail> {
     Ok(out)
 }
 
-fn described_token(alloc: Global, token: &Token) -> Result<String, Fail> {
+fn described_token(alloc: Global, token: &Token<'_>) -> Result<String, Fail> {
     match token {
-        Token::Word(name) => Ok(String::from_str(alloc, name.as_str())?),
+        Token::Word(name) => Ok(String::from_str(alloc, name)?),
         Token::Number(number) => Ok(format!(in alloc; "{number}")?),
-        Token::Text(text) => {
-            let content = text.as_str();
-            Ok(format!(in alloc; "'{content}'")?)
-        }
-        Token::Bytes(bytes) => {
-            let content = bytes.as_slice();
-            Ok(format!(in alloc; "{content:?}")?)
-        }
+        Token::Text(written) => Ok(format!(in alloc; "'{written}'")?),
+        Token::Bytes(digits) => Ok(format!(in alloc; "x'{digits}'")?),
         Token::Symbol(sign) => Ok(format!(in alloc; "{sign:?}")?),
     }
 }
@@ -53,7 +45,7 @@ fn reading(alloc: Global, text: &str) -> Result<String, Fail> {
 
 /// How many pieces of the text a path takes at its front, or behind how many reading it stops.
 fn path_of(alloc: Global, text: &str) -> Result<(bool, usize), Fail> {
-    let pieces = cut(alloc, text)?;
+    let pieces = cut(alloc, text)?.pieces;
     match path_at(alloc, pieces.as_slice()) {
         Ok((_, len)) => Ok((true, len)),
         Err(PartError::Stuck(count)) => Ok((false, count)),
@@ -63,7 +55,7 @@ fn path_of(alloc: Global, text: &str) -> Result<(bool, usize), Fail> {
 
 /// The same of a literal.
 fn literal_of(alloc: Global, text: &str) -> Result<(bool, usize), Fail> {
-    let pieces = cut(alloc, text)?;
+    let pieces = cut(alloc, text)?.pieces;
     match literal_at(alloc, pieces.as_slice()) {
         Ok((_, len)) => Ok((true, len)),
         Err(PartError::Stuck(count)) => Ok((false, count)),
@@ -71,14 +63,7 @@ fn literal_of(alloc: Global, text: &str) -> Result<(bool, usize), Fail> {
     }
 }
 
-/// Each text is cut as is said beside it.
-fn all_cut(rt: &impl Abort, alloc: Global, table: &[(&str, &str)]) -> Result<(), Fail> {
-    for (text, want) in table {
-        assert_eq!(rt; cutting(alloc, text)?.as_str(), *want, "{text}");
-    }
-    Ok(())
-}
-
+/// Words are names.
 const WORDS: [(&str, &str); 6] = [
     ("_9Z", "0:_9Z "),
     (
@@ -88,14 +73,10 @@ const WORDS: [(&str, &str); 6] = [
     ("abcdefghijklmnopqrstuvwxyz_01234", "none at 0"),
     ("x", "0:x "),
     ("5a", "none at 0"),
-    ("a é", "none at 2"),
+    ("a é", "0:a none at 2"),
 ];
 
-#[test]
-fn words_are_names(rt: HostRuntime) -> Result<(), Fail> {
-    all_cut(&rt, rt.alloc(), &WORDS)
-}
-
+/// Numbers have 64 bits and one spelling.
 const NUMBERS: [(&str, &str); 8] = [
     ("0", "0:0 "),
     ("00", "none at 0"),
@@ -107,11 +88,7 @@ const NUMBERS: [(&str, &str); 8] = [
     ("-5a", "none at 0"),
 ];
 
-#[test]
-fn numbers_have_64_bits_and_one_spelling(rt: HostRuntime) -> Result<(), Fail> {
-    all_cut(&rt, rt.alloc(), &NUMBERS)
-}
-
+/// A minus before a digit begins a number.
 const MINUSES: [(&str, &str); 5] = [
     ("1-2", "0:1 1:-2 "),
     ("- 5", "0:Minus 2:5 "),
@@ -120,14 +97,10 @@ const MINUSES: [(&str, &str); 5] = [
     ("a-1", "0:a 1:-1 "),
 ];
 
-#[test]
-fn a_minus_before_a_digit_begins_a_number(rt: HostRuntime) -> Result<(), Fail> {
-    all_cut(&rt, rt.alloc(), &MINUSES)
-}
-
+/// Byte strings are pairs of digits.
 const BYTE_STRINGS: [(&str, &str); 7] = [
-    ("x\"00ff\"", "0:[0, 255] "),
-    ("x\"\"", "0:[] "),
+    ("x\"00ff\"", "0:x'00ff' "),
+    ("x\"\"", "0:x'' "),
     ("x\"0\"", "none at 0"),
     ("x\"0F\"", "none at 0"),
     ("x\"00", "none at 0"),
@@ -135,13 +108,9 @@ const BYTE_STRINGS: [(&str, &str); 7] = [
     ("ax\"00\"", "0:ax 2:'00' "),
 ];
 
-#[test]
-fn byte_strings_are_pairs_of_digits(rt: HostRuntime) -> Result<(), Fail> {
-    all_cut(&rt, rt.alloc(), &BYTE_STRINGS)
-}
-
+/// Texts have three escapes.
 const TEXTS: [(&str, &str); 9] = [
-    ("\"a\\\"b\\\\c\\nd\"", "0:'a\"b\\c\nd' "),
+    ("\"a\\\"b\\\\c\\nd\"", "0:'a\\\"b\\\\c\\nd' "),
     ("\"\"", "0:'' "),
     ("\"é\"", "0:'é' "),
     ("\"\t\"", "0:'\t' "),
@@ -152,43 +121,29 @@ const TEXTS: [(&str, &str); 9] = [
     ("\"abc\\\"", "none at 0"),
 ];
 
-#[test]
-fn texts_have_three_escapes(rt: HostRuntime) -> Result<(), Fail> {
-    all_cut(&rt, rt.alloc(), &TEXTS)
-}
-
+/// Only spaces part tokens.
 const SPACES: [(&str, &str); 8] = [
     ("", ""),
     ("   ", ""),
     ("  a  b ", "2:a 5:b "),
     ("\t", "none at 0"),
-    ("a\r", "none at 1"),
+    ("a\r", "0:a none at 1"),
     ("add t 1\"x\"", "0:add 4:t 6:1 7:'x' "),
-    ("foo %", "none at 4"),
+    ("foo %", "0:foo none at 4"),
     (
         "(){},:/=",
         "0:OpenParenthesis 1:CloseParenthesis 2:OpenBrace 3:CloseBrace 4:Comma 5:Colon 6:Slash 7:Equals ",
     ),
 ];
 
-#[test]
-fn only_spaces_part_tokens(rt: HostRuntime) -> Result<(), Fail> {
-    all_cut(&rt, rt.alloc(), &SPACES)
-}
-
-/// Each text reads as a literal, or is refused, as is said beside it.
-fn all_read(rt: &impl Abort, alloc: Global, table: &[(&str, &str)]) -> Result<(), Fail> {
-    for (text, want) in table {
-        assert_eq!(rt; reading(alloc, text)?.as_str(), *want, "{text}");
-    }
-    Ok(())
-}
-
-const LITERALS: [(&str, &str); 9] = [
+/// Whole literals.
+const LITERALS: [(&str, &str); 11] = [
     ("2147483647", "2147483647"),
     (" -9223372036854775808 ", "-9223372036854775808"),
-    ("\"a\"", "'a'"),
+    ("\"a\\\"b\\\\c\\nd\"", "'a\"b\\c\nd'"),
+    ("\"é\"", "'é'"),
     ("x\"01\"", "[1]"),
+    ("x\"00ff\"", "[0, 255]"),
     ("{}", "rows 0"),
     ("{(1)}", "rows 1"),
     ("{ (1 , \"a\"), ({}) }", "rows 2"),
@@ -198,11 +153,7 @@ const LITERALS: [(&str, &str); 9] = [
     ("{({({({({({({({})})})})})})})}", "rows 1"),
 ];
 
-#[test]
-fn literals_are_read(rt: HostRuntime) -> Result<(), Fail> {
-    all_read(&rt, rt.alloc(), &LITERALS)
-}
-
+/// The first offence of a text.
 const OFFENCES: [(&str, &str); 13] = [
     ("9223372036854775808", "none at 0"),
     ("  ", "none at 2"),
@@ -221,11 +172,7 @@ const OFFENCES: [(&str, &str); 13] = [
     ("foo 1a", "none at 4"),
 ];
 
-#[test]
-fn the_first_offence_is_told(rt: HostRuntime) -> Result<(), Fail> {
-    all_read(&rt, rt.alloc(), &OFFENCES)
-}
-
+/// A path stops where no slash goes on.
 const PATHS: [(&str, (bool, usize)); 10] = [
     ("d", (true, 1)),
     ("d 5", (true, 1)),
@@ -239,14 +186,7 @@ const PATHS: [(&str, (bool, usize)); 10] = [
     ("d/0/a/0/5", (false, 8)),
 ];
 
-#[test]
-fn paths_stop_where_no_slash_goes_on(rt: HostRuntime) -> Result<(), Fail> {
-    for (text, want) in &PATHS {
-        assert_eq!(rt; path_of(rt.alloc(), text)?, *want, "{text}");
-    }
-    Ok(())
-}
-
+/// A literal is read from the front.
 const FRONTS: [(&str, (bool, usize)); 7] = [
     ("1 2", (true, 1)),
     ("{(1)} a", (true, 5)),
@@ -258,7 +198,38 @@ const FRONTS: [(&str, (bool, usize)); 7] = [
 ];
 
 #[test]
-fn a_literal_is_read_from_the_front(rt: HostRuntime) -> Result<(), Fail> {
+fn texts_are_cut(rt: HostRuntime) -> Result<(), Fail> {
+    let tables = [
+        &WORDS[..],
+        &NUMBERS[..],
+        &MINUSES[..],
+        &BYTE_STRINGS[..],
+        &TEXTS[..],
+        &SPACES[..],
+    ];
+    for table in tables {
+        for (text, want) in table {
+            assert_eq!(rt; cutting(rt.alloc(), text)?.as_str(), *want, "{text}");
+        }
+    }
+    Ok(())
+}
+
+#[test]
+fn texts_are_read(rt: HostRuntime) -> Result<(), Fail> {
+    for table in [&LITERALS[..], &OFFENCES[..]] {
+        for (text, want) in table {
+            assert_eq!(rt; reading(rt.alloc(), text)?.as_str(), *want, "{text}");
+        }
+    }
+    Ok(())
+}
+
+#[test]
+fn fronts_are_read(rt: HostRuntime) -> Result<(), Fail> {
+    for (text, want) in &PATHS {
+        assert_eq!(rt; path_of(rt.alloc(), text)?, *want, "{text}");
+    }
     for (text, want) in &FRONTS {
         assert_eq!(rt; literal_of(rt.alloc(), text)?, *want, "{text}");
     }

@@ -1,19 +1,19 @@
 -- What may begin bytes: its form is told by the first two of them, and nothing else begins there.
-use Rattle.std.proofs.Common.{◌≡◌, ◌≢◌, ◌⊎◌, ℕ, suc, ◌+◌, ◌-◌, ◌<◌, ◌≤◌, ◌^◌, Bool, true, false, not, ◌&&◌, ◌||◌, ◌==◌, nat_eq, ℤ, pos, negsuc, List, [], ◌∷◌, ◌++◌, length, take, drop, refl, ap, sym, subst, ◌∙◌, append_assoc, arith, inl, inr, FitsSigned, Contains, if◌then◌else◌}
-use Rattle.std.proofs.lemmas.Bool.{true≢false, false≢true, cases_eq, cases_Bool, eq-eqb, ne_eqb, eqb-true, and_parts, and_cases, and_left, and_right, not-true}
+use Rattle.std.proofs.Common.{◌≡◌, ◌≢◌, ℕ, suc, ◌<◌, ◌^◌, Bool, true, false, not, ◌&&◌, ◌==◌, pos, negsuc, List, [], ◌∷◌, ◌++◌, length, drop, refl, ap, sym, subst, ◌∙◌, append_assoc, arith, inl, inr, Contains, if◌then◌else◌}
+use Rattle.std.proofs.lemmas.Bool.{true≢false, cases_Bool, eqb-true, and_parts, and_left, and_right, not-true}
 use Rattle.std.proofs.lemmas.Bool.Decides.{nat_tests}
 use Rattle.std.proofs.lemmas.Fmt.{decimal_is_IsNumeral, signed_decimal_injective}
 use Rattle.std.proofs.lemmas.List.Elements.{All-nil, All-cons, All-head, All-tail, All-weaker, All-contains}
 use Rattle.std.proofs.lemmas.List.Sums.{AllPass-from_list_all}
 use Rattle.std.proofs.lemmas.Str.Parse.{digit_from_value}
 use Rattle.std.specs.Char.{is_ascii_digit}
-use Rattle.std.specs.Fmt.{decimal, signed_decimal}
-use Rattle.std.specs.Int.{IsInRange, w64}
-use Rattle.std.specs.List.{All, AllPass, flat_map, prefix_len}
-use Rattle.std.specs.Str.Parse.{AllDigits, IsNumeral}
+use Rattle.std.specs.Fmt.{decimal}
+use Rattle.std.specs.Int.{IsInRange}
+use Rattle.std.specs.List.{AllPass, flat_map}
+use Rattle.std.specs.Str.Parse.{AllDigits}
 use Rattle.mk_value.specs.Names.{IsName, is_name_byte, same_bytes}
 use Rattle.mk_value.specs.Tokens.{Token, word, number, text, bytes, sign, spelling, escaped, hex_pair}
-use Rattle.tokens.specs.Cutting.{Begins, IsToken, EndsBefore, begins_with, signs}
+use Rattle.tokens.specs.Cutting.{Begins, EndsBefore, begins_with, signs}
 use Rattle.tokens.specs.Finding.{form_at, is_quote}
 use Rattle.tokens.specs.declared.form.Form.{Form}
 use Rattle.tokens.specs.declared.form.Form.TheVariants.{Text, Bytes, Negative, Run, Single}

@@ -1,5 +1,5 @@
 -- Literals, rows and their values: where reading each stops, and what was read.
-use Rattle.std.proofs.Common.{◌≡◌, ◌⊎◌, ℕ, suc, ◌+◌, ◌-◌, ◌<◌, ◌≤◌, ◌^◌, ◌==◌, false, ℤ, pos, List, [], ◌∷◌, ◌++◌, length, take, drop, refl, ap, sym, subst, ◌∙◌, append_assoc, append-nil, arith, length-append, inl, inr, ⊎_elim, FitsSigned, add-one}
+use Rattle.std.proofs.Common.{◌≡◌, ◌⊎◌, ℕ, ◌+◌, ◌-◌, ◌<◌, ◌≤◌, ℤ, pos, List, [], ◌∷◌, ◌++◌, length, take, drop, refl, ap, sym, subst, ◌∙◌, append_assoc, append-nil, arith, inl, inr, ⊎_elim, FitsSigned, add-one, Option, Some, None}
 use Rattle.std.proofs.lemmas.List.{take-append-drop}
 use Rattle.std.proofs.lemmas.List.Elements.{All-head, All-tail}
 use Rattle.std.specs.Int.{w64}
@@ -8,16 +8,17 @@ use Rattle.mk_value.specs.Data.{Datum, integer, long, text, bytes, relation, Tup
 use Rattle.mk_value.specs.Literals.{tokens_of, rows_tokens, more_rows, row_tokens, more_values}
 use Rattle.mk_value.specs.Tokens as plain
 use Rattle.mk_value.specs.Tokens.{Token, sign}
+use Rattle.mk_value.specs.declared.literal.Literal.{Literal}
 use Rattle.tokens.specs.Fronts.{Language, IsFront, Stops}
 use Rattle.tokens.specs.Literals.{AreLiteralRows, AreLiterals, IsLiteral, IsLiteralRow}
-use Rattle.tokens.specs.Parts.{LiteralIn, RowIn, RowsIn, SomeRowsIn, ValuesIn}
-use Rattle.mk_value.specs.Buffer.{Buffer}
+use Rattle.tokens.specs.Parts.{FindsPlain, IsTextLiteral, LiteralIn, RowIn, RowsIn, SomeRowsIn, ValuesIn}
 use Rattle.tokens.specs.Meanings.{byte_of, token_of}
+use Rattle.tokens.specs.Standing.{Stands}
 use Rattle.tokens.specs.declared.token.Token as program
 use Rattle.tokens.specs.declared.token.Token.TheVariants.{Word, Number, Text, Bytes, Symbol}
 use Rattle.tokens.proofs.Listing.{comma_stops, item_stops, nil_cons, same_head, separator_stops, with_comma}
 use Rattle.tokens.proofs.Stopping.{After, PrefixFree, Then, stops_after, stops_same}
-use Rattle.tokens.proofs.Unambiguous.{brace_first, row_begins, row_opens, same_literal, same_row}
+use Rattle.tokens.proofs.Unambiguous.{brace_first, row_begins, row_opens, same_literal, same_row, text_first}
 
 -- no literal and no row is a proper front of another
 pub literal_free : (deep : ℕ) → PrefixFree (LiteralIn deep)
@@ -267,18 +268,29 @@ rows_spelled (t ∷ rows) row z =
     ∙ sym (append_assoc (row_spelling t ++ more_rows (relation_of (rows ++ row ∷ []))) (sign 125 ∷ []) z))
 
 -- a token that is no number, text or byte string is no literal alone
-pub no_plain : (token : program.Token) → ((z : ℤ) → token ≡ Number z → ⊥) → ((content : Buffer) → token ≡ Text content → ⊥) → ((content : Buffer) → token ≡ Bytes content → ⊥)
+pub no_plain : (token : program.Token) → ((z : ℤ) → token ≡ Number z → ⊥) → ((content : _) → token ≡ Text content → ⊥) → ((content : _) → token ≡ Bytes content → ⊥)
     → (d : Datum) (rest tail : List Token) → IsLiteral 0 d → token_of token ∷ tail ≡ tokens_of d ++ rest → ⊥
 no_plain (Number z) n t b d rest tail p e = n z refl
 no_plain (Text content) n t b d rest tail p e = t content refl
 no_plain (Bytes content) n t b d rest tail p e = b content refl
 no_plain (Word name) n t b (integer z) rest tail p e = p
-no_plain (Word name) n t b (long z) rest tail p e = let f : plain.word name ≡ plain.number z = cc in cc
-no_plain (Word name) n t b (text content) rest tail p e = let f : plain.word name ≡ plain.text content = cc in cc
-no_plain (Word name) n t b (bytes content) rest tail p e = let f : plain.word name ≡ plain.bytes content = cc in cc
+no_plain (Word name) n t b (long z) rest tail p e = let f : plain.word name.now ≡ plain.number z = cc in cc
+no_plain (Word name) n t b (text content) rest tail p e = let f : plain.word name.now ≡ plain.text content = cc in cc
+no_plain (Word name) n t b (bytes content) rest tail p e = let f : plain.word name.now ≡ plain.bytes content = cc in cc
 no_plain (Word name) n t b (relation r) rest tail p e = omega (arith, p.0)
 no_plain (Symbol s) n t b (integer z) rest tail p e = p
 no_plain (Symbol s) n t b (long z) rest tail p e = let f : sign (byte_of s) ≡ plain.number z = same_head (sign (byte_of s)) (plain.number z) tail rest e in cc
 no_plain (Symbol s) n t b (text content) rest tail p e = let f : sign (byte_of s) ≡ plain.text content = same_head (sign (byte_of s)) (plain.text content) tail rest e in cc
 no_plain (Symbol s) n t b (bytes content) rest tail p e = let f : sign (byte_of s) ≡ plain.bytes content = same_head (sign (byte_of s)) (plain.bytes content) tail rest e in cc
 no_plain (Symbol s) n t b (relation r) rest tail p e = omega (arith, p.0)
+
+-- a text at a place is a literal where its content is a text
+pub text_plain : (tokens : List Token) (at : ℕ) (content : List ℕ) → at < length tokens → Stands tokens at (plain.text content) → (found : Option Literal) → IsTextLiteral content found → FindsPlain tokens at found
+text_plain tokens at content within stands None none = λ d rest p e.
+    let is = text_first d 0 content (drop (at + 1) tokens) rest p (sym stands ∙ e) in
+    none (subst (IsLiteral 0) is.0 p)
+text_plain tokens at content within stands (Some literal) some = record {
+  within = omega arith;
+  whole = subst (IsLiteral 0) (sym some.1) some.0;
+  is = stands ∙ ap (λ d. tokens_of d ++ drop (at + 1) tokens) (sym some.1);
+}

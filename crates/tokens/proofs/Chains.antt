@@ -1,17 +1,15 @@
 -- Pieces one behind another: what stands behind them, and that bytes are cut in one way alone.
-use Rattle.std.proofs.Common.{◌≡◌, ◌≢◌, ◌⊎◌, ℕ, ◌+◌, ◌-◌, ◌<◌, ◌≤◌, Bool, true, false, ◌==◌, List, [], ◌∷◌, ◌++◌, length, take, drop, refl, ap, sym, subst, ◌∙◌, append_assoc, arith, length-append, append-nil, Contains, inl, inr}
-use Rattle.std.proofs.lemmas.Bool.{true≢false, eqb-true, eq-eqb, ne_eqb, cases_eq}
+use Rattle.std.proofs.Common.{◌≡◌, ◌≢◌, ℕ, ◌+◌, ◌<◌, ◌≤◌, true, false, List, [], ◌∷◌, ◌++◌, length, drop, refl, ap, sym, subst, ◌∙◌, arith, length-append, append-nil, Option, Some, None}
+use Rattle.std.proofs.lemmas.Bool.{true≢false, eqb-true, eq-eqb, ne_eqb}
 use Rattle.std.proofs.lemmas.List.{take-append-drop, drop-drop, length-drop, take_all}
-use Rattle.std.proofs.lemmas.List.Elements.{All-nil, All-cons, All-head, All-tail, All-weaker, All-contains, Contains-append_right}
+use Rattle.std.proofs.lemmas.List.Elements.{All-weaker}
 use Rattle.std.proofs.lemmas.List.Folds.{length-prefix_len}
 use Rattle.std.specs.List.{All, AllPass, prefix_len}
 use Rattle.mk_value.specs.Tokens.{Token, spelling}
-use Rattle.tokens.specs.Cutting.{Begins, Cuts, CutsFrom, FlawFrom, IsFirstFlaw, IsInPlace, IsNoToken, Leads, Piece, begins_with, end_of, space}
-use Rattle.tokens.specs.Finding.{FailsAt, is_space}
-use Rattle.tokens.specs.declared.error.CutError.{CutError}
-use Rattle.tokens.specs.declared.error.CutError.TheVariants.{Memory, NoToken}
+use Rattle.tokens.specs.Cutting.{Begins, Cuts, CutsFrom, CutsUpTo, FlawFrom, IsNoToken, Leads, Piece, begins_with, end_of, space}
+use Rattle.tokens.specs.Finding.{is_space}
 use Rattle.tokens.proofs.Beginnings.{begins_same, begins_no_space, empty_begins_nothing, spelling_some}
-use Rattle.tokens.proofs.Runs.{run, behind, run_is, behind_is, run_length, run_passes, behind_ends}
+use Rattle.tokens.proofs.Runs.{run, behind, behind_is, run_length, run_passes, behind_ends}
 
 abbrev pub AreSpaces : List ℕ → Type 0
 AreSpaces content = All (λ b. b ≡ space) content
@@ -76,6 +74,9 @@ abbrev pub Walks : ℕ → List ℕ → List Piece → ℕ → List ℕ → Type
 Walks place content [] end rest = (end ≡ place) × (rest ≡ content)
 Walks place content (p ∷ pieces) end rest = (further : List ℕ) × Leads place content p further × Walks (end_of p) further pieces end rest
 
+pub walks_none : (place : ℕ) (content : List ℕ) → Walks place content [] place content
+walks_none place content = (refl, refl)
+
 pub walks_push : (place : ℕ) (content : List ℕ) (pieces : List Piece) (end : ℕ) (rest : List ℕ) (p : Piece) (further : List ℕ) → Walks place content pieces end rest → Leads end rest p further
     → Walks place content (pieces ++ p ∷ []) (end_of p) further
 walks_push place content [] end rest p further w l =
@@ -102,18 +103,16 @@ walks_front place content (p ∷ pieces) end rest (q ∷ all) w c =
     let further = walks_front (end_of p) w.0 pieces end rest all w.2 tail in
     (further.0, ap (λ x. x ∷ all) same.0 ∙ ap (λ x. p ∷ x) further.1, further.2)
 
--- where what comes next takes memory, the whole cutting has a token that does
-pub takes_memory : (content : List ℕ) (pieces all : List Piece) (end : ℕ) (rest : List ℕ) → Walks 0 content pieces end rest → Cuts content all → All (λ p. IsInPlace p.token) all
-    → (AreSpaces rest → ⊥) → ((p : Piece) → (further : List ℕ) → Leads end rest p further → IsInPlace p.token → ⊥) → ⊥
-takes_memory content pieces all end rest w c held some none =
-    let front = walks_front 0 content pieces end rest all w c in
-    next pieces all end rest front.0 held front.1 front.2 some none
-  where
-    next : (pieces all : List Piece) (end : ℕ) (rest : List ℕ) (more : List Piece) → All (λ p. IsInPlace p.token) all → all ≡ pieces ++ more → CutsFrom end rest more
-        → (AreSpaces rest → ⊥) → ((p : Piece) → (further : List ℕ) → Leads end rest p further → IsInPlace p.token → ⊥) → ⊥
-    next pieces all end rest [] held e c some none = some c
-    next pieces all end rest (p ∷ more) held e c some none =
-        none p c.0 c.1 (All-contains (λ q. IsInPlace q.token) all p held (subst (λ x. Contains x p) (sym e) (Contains-append_right pieces (p ∷ more) p (0, omega arith, refl))))
+walks_front_flaw : (place : ℕ) (content : List ℕ) (pieces : List Piece) (end : ℕ) (rest : List ℕ) (all : List Piece) (flaw : ℕ) → Walks place content pieces end rest → FlawFrom place content all flaw
+    → (more : List Piece) × (all ≡ pieces ++ more) × FlawFrom end rest more flaw
+walks_front_flaw place content [] end rest all flaw w c =
+    (all, refl, subst (λ n. FlawFrom n rest all flaw) (sym w.0) (subst (λ x. FlawFrom place x all flaw) (sym w.1) c))
+walks_front_flaw place content (p ∷ pieces) end rest [] flaw w c = absurd (leads_no_flaw place content p w.0 flaw w.1 c)
+walks_front_flaw place content (p ∷ pieces) end rest (q ∷ all) flaw w c =
+    let same = leads_same place content q p c.0 w.0 c.1 w.1 in
+    let tail = subst (λ x. FlawFrom (end_of p) x all flaw) same.1 (subst (λ x. FlawFrom (end_of x) c.0 all flaw) same.0 c.2) in
+    let further = walks_front_flaw (end_of p) w.0 pieces end rest all flaw w.2 tail in
+    (further.0, ap (λ x. x ∷ all) same.0 ∙ ap (λ x. p ∷ x) further.1, further.2)
 
 -- a piece that comes next is one more of the whole cutting
 pub one_more : (content : List ℕ) (pieces all : List Piece) (end : ℕ) (rest : List ℕ) (p : Piece) (further : List ℕ) → Walks 0 content pieces end rest → Cuts content all → Leads end rest p further
@@ -125,6 +124,21 @@ one_more content pieces all end rest p further w c l =
     next : (pieces all : List Piece) (end : ℕ) (rest : List ℕ) (more : List Piece) (p : Piece) (further : List ℕ) → all ≡ pieces ++ more → CutsFrom end rest more → Leads end rest p further → length pieces < length all
     next pieces all end rest [] p further e c l = absurd (leads_not_blank end rest p further l c)
     next pieces all end rest (q ∷ more) p further e c l = let long = ap length e in omega (arith, long, length-append pieces (q ∷ more))
+
+one_more_flaw : (content : List ℕ) (pieces all : List Piece) (end : ℕ) (rest : List ℕ) (p : Piece) (further : List ℕ) (flaw : ℕ) → Walks 0 content pieces end rest → FlawFrom 0 content all flaw → Leads end rest p further
+    → length pieces < length all
+one_more_flaw content pieces all end rest p further flaw w c l =
+    let front = walks_front_flaw 0 content pieces end rest all flaw w c in
+    next pieces all end rest front.0 p further flaw front.1 front.2 l
+  where
+    next : (pieces all : List Piece) (end : ℕ) (rest : List ℕ) (more : List Piece) (p : Piece) (further : List ℕ) (flaw : ℕ) → all ≡ pieces ++ more → FlawFrom end rest more flaw → Leads end rest p further → length pieces < length all
+    next pieces all end rest [] p further flaw e c l = absurd (leads_no_flaw end rest p further flaw l c)
+    next pieces all end rest (q ∷ more) p further flaw e c l = let long = ap length e in omega (arith, long, length-append pieces (q ∷ more))
+
+pub one_more_of : (content : List ℕ) (pieces all : List Piece) (end : ℕ) (rest : List ℕ) (p : Piece) (further : List ℕ) (flaw : Option ℕ) → Walks 0 content pieces end rest → CutsUpTo content all flaw → Leads end rest p further
+    → length pieces < length all
+one_more_of content pieces all end rest p further None w c l = one_more content pieces all end rest p further w c l
+one_more_of content pieces all end rest p further (Some flaw) w c l = one_more_flaw content pieces all end rest p further flaw w c l
 
 -- bytes are cut in one way, or have one first flaw, and never both
 pub cut_once : (place : ℕ) (content : List ℕ) (pieces all : List Piece) → CutsFrom place content pieces → CutsFrom place content all → pieces ≡ all
@@ -153,6 +167,22 @@ cut_or_flawed place content (p ∷ pieces) (q ∷ all) flaw c d =
     let same = leads_same place content p q c.0 d.0 c.1 d.1 in
     let tail = subst (λ x. CutsFrom (end_of q) x pieces) same.1 (subst (λ x. CutsFrom (end_of x) c.0 pieces) same.0 c.2) in
     cut_or_flawed (end_of q) d.0 pieces all flaw tail d.2
+
+-- so there is one list of pieces and one flaw, or none, up to which a text is cut
+flawed_same : (place : ℕ) (content : List ℕ) (pieces all : List Piece) (one two : ℕ) → FlawFrom place content pieces one → FlawFrom place content all two → pieces ≡ all
+flawed_same place content [] [] one two c d = refl
+flawed_same place content [] (q ∷ all) one two c d = absurd (leads_no_flaw place content q d.0 one d.1 c)
+flawed_same place content (p ∷ pieces) [] one two c d = absurd (leads_no_flaw place content p c.0 two c.1 d)
+flawed_same place content (p ∷ pieces) (q ∷ all) one two c d =
+    let same = leads_same place content p q c.0 d.0 c.1 d.1 in
+    let tail = subst (λ x. FlawFrom (end_of q) x pieces one) same.1 (subst (λ x. FlawFrom (end_of x) c.0 pieces one) same.0 c.2) in
+    ap (λ x. x ∷ pieces) same.0 ∙ ap (λ x. q ∷ x) (flawed_same (end_of q) d.0 pieces all one two tail d.2)
+
+pub cut_up_to_once : (content : List ℕ) (pieces all : List Piece) (one two : Option ℕ) → CutsUpTo content pieces one → CutsUpTo content all two → (pieces ≡ all) × (one ≡ two)
+cut_up_to_once content pieces all None None c d = (cut_once 0 content pieces all c d, refl)
+cut_up_to_once content pieces all None (Some two) c d = absurd (cut_or_flawed 0 content pieces all two c d)
+cut_up_to_once content pieces all (Some one) None c d = absurd (cut_or_flawed 0 content all pieces one d c)
+cut_up_to_once content pieces all (Some one) (Some two) c d = (flawed_same 0 content pieces all one two c d, ap Some (flawed_once 0 content pieces all one two c d))
 
 -- what is found behind spaces
 module _ (content : List ℕ) (from k : ℕ) (within : from ≤ length content) (is : k ≡ prefix_len is_space (drop from content)) where
@@ -212,28 +242,6 @@ module _ (content : List ℕ) (from k : ℕ) (within : from ≤ length content) 
       nonempty : (tail : List ℕ) → (tail ≡ [] → ⊥) → begins_with is_space tail ≡ false → (b : ℕ) × (rest : List ℕ) × (tail ≡ b ∷ rest) × (b ≢ space)
       nonempty [] some e = absurd (some refl)
       nonempty (b ∷ rest) some e = (b, rest, refl, λ s. true≢false (sym (eq-eqb b 32 s) ∙ e))
-
-  pub piece_takes_memory : (from + k ≡ length content → ⊥) → ((token : Token) → (rest : List ℕ) → Begins (drop (from + k) content) token rest → IsInPlace token → ⊥)
-      → (AreSpaces (drop from content) → ⊥) × ((p : Piece) → (rest : List ℕ) → Leads from (drop from content) p rest → IsInPlace p.token → ⊥)
-  piece_takes_memory more none = (
-    λ h. more (let e = sym tail_is ∙ blank_behind (drop from content) h in
-        let long = ap length e in
-        let left = length-drop (from + k) content in
-        let some : k ≤ length (drop from content) = omega (arith, ap length split, length-append (run is_space (drop from content)) (behind is_space (drop from content)), gap_length) in
-        omega (arith, long, left, some, length-drop from content, within)),
-    λ p rest l. none p.token rest (subst (λ c. Begins c p.token rest) tail_is (leads_begins from (drop from content) p rest l)),
-  )
-
--- what a failed search for the next piece says of the whole
-pub search_failed : (content : List ℕ) (pieces : List Piece) (end : ℕ) (error : CutError) → Walks 0 content pieces end (drop end content) → FailsAt end (drop end content) error
-    → (error ≡ Memory) ⊎ ((place : ℕ) × (error ≡ NoToken place) × IsFirstFlaw content place)
-search_failed content pieces end (NoToken place) w f = inr (place, refl, (pieces, walks_flaw 0 content pieces end (drop end content) place w f))
-search_failed content pieces end Memory w f = inl refl
-
-pub search_in_place : (content : List ℕ) (pieces all : List Piece) (end : ℕ) (error : CutError) → Walks 0 content pieces end (drop end content) → FailsAt end (drop end content) error
-    → Cuts content all → All (λ p. IsInPlace p.token) all → ⊥
-search_in_place content pieces all end (NoToken place) w f c held = cut_or_flawed 0 content all pieces place c (walks_flaw 0 content pieces end (drop end content) place w f)
-search_in_place content pieces all end Memory w f c held = takes_memory content pieces all end (drop end content) w c held f.0 f.1
 
 -- a piece that was found ends behind where the search began
 pub found_further : (place : ℕ) (content : List ℕ) (p : Piece) (rest : List ℕ) → Leads place content p rest → place < end_of p

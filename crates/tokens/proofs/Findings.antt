@@ -1,23 +1,22 @@
 -- What the readers of one token find, by the form.
-use Rattle.std.proofs.Common.{◌≡◌, ◌≢◌, ◌⊎◌, ℕ, suc, ◌+◌, ◌-◌, ◌<◌, ◌≤◌, ◌^◌, Bool, true, false, ◌&&◌, ◌==◌, nat_eq, ℤ, pos, negsuc, List, [], ◌∷◌, ◌++◌, length, take, drop, refl, ap, sym, subst, ◌∙◌, append_assoc, arith, inl, inr, FitsSigned, Contains, one-add, length-append, Result, Ok, Err, OnErr, Some, None}
-use Rattle.std.proofs.lemmas.Bool.{true≢false, false≢true, cases_Bool, eqb-true, and_parts, and_from, eq-eqb}
-use Rattle.std.proofs.lemmas.List.{take-append-drop, drop-drop, length-drop, nil_from_length}
+use Rattle.std.proofs.Common.{◌≡◌, ℕ, ◌+◌, ◌≤◌, true, false, ◌&&◌, ◌==◌, nat_eq, ℤ, pos, negsuc, List, [], ◌∷◌, ◌++◌, length, take, drop, refl, ap, sym, subst, ◌∙◌, append_assoc, arith, inl, inr, FitsSigned, Contains, one-add, Some, None}
+use Rattle.std.proofs.lemmas.Bool.{false≢true, cases_Bool, eqb-true, and_parts, and_from, eq-eqb}
+use Rattle.std.proofs.lemmas.List.{take-append-drop, drop-drop}
 use Rattle.std.specs.Char.{is_ascii_digit}
-use Rattle.std.specs.Fmt.{decimal, signed_decimal}
+use Rattle.std.specs.Fmt.{signed_decimal}
 use Rattle.std.specs.Int.{w64}
 use Rattle.std.specs.Cmp.Lexicographic.{pointwise}
 use Rattle.std.specs.List.{All, flat_map, prefix_len, slice_get}
 use Rattle.std.specs.Str.{IsUtf8}
 use Rattle.mk_value.specs.Names.{IsName, is_name_byte, same_bytes}
-use Rattle.mk_value.specs.Tokens.{Token, word, number, text, bytes, sign, spelling, escaped, hex_pair}
-use Rattle.tokens.specs.Cutting.{Begins, begins_with, signs, IsInPlace}
+use Rattle.mk_value.specs.Tokens.{Token, word, number, text, bytes, sign, escaped, hex_pair}
+use Rattle.tokens.specs.Cutting.{Begins, begins_with, signs}
 use Rattle.tokens.specs.Finding.{form_at, is_quote, IsByte, IsTextByte}
 use Rattle.tokens.specs.Meanings.{byte_of}
-use Rattle.tokens.specs.declared.form.Form.{Form}
 use Rattle.tokens.specs.declared.form.Form.TheVariants.{Text, Bytes, Negative, Run, Single}
 use Rattle.tokens.specs.declared.token.Sign.{Sign}
 use Rattle.tokens.specs.declared.token.Sign.TheVariants.{OpenParenthesis, CloseParenthesis, OpenBrace, CloseBrace, Comma, Slash, Colon, Equals, Minus}
-use Rattle.tokens.proofs.Quotes.{same_escaped, same_paired, escaped_opens, pair_opens, spelled_same}
+use Rattle.tokens.proofs.Quotes.{same_escaped, escaped_opens, spelled_same}
 use Rattle.tokens.proofs.Runs.{run, behind, behind_ends}
 use Rattle.tokens.proofs.Beginnings.{form_of_token, form_is, run_tells, text_tells, bytes_tells, negative_tells, single_tells, word_run, number_run, negative_run, text_tail, bytes_tail}
 
@@ -130,11 +129,6 @@ module _ (content : List ℕ) (form : form_at content ≡ Text) where
   text_not_utf8 held further may e bad (number (pos k)) rest b = let f : Text ≡ form_of_token (number (pos k)) = sym form ∙ form_is content (number (pos k)) rest b in cc
   text_not_utf8 held further may e bad token rest b = let f : Text ≡ form_of_token token = sym form ∙ form_is content token rest b in cc
 
-  pub text_in_place : (token : Token) → (rest : List ℕ) → Begins content token rest → IsInPlace token → ⊥
-  text_in_place (text held) rest b h = h
-  text_in_place (number (pos k)) rest b h = let e : Text ≡ form_of_token (number (pos k)) = sym form ∙ form_is content (number (pos k)) rest b in cc
-  text_in_place token rest b h = let e : Text ≡ form_of_token token = sym form ∙ form_is content token rest b in cc
-
 module _ (content : List ℕ) (form : form_at content ≡ Bytes) where
   pub bytes_found : (held : List ℕ) (n : ℕ) → n ≤ length (drop 2 content) → All IsByte held → drop 2 content ≡ flat_map hex_pair held ++ (34 ∷ drop n (drop 2 content))
       → (n + 2 ≤ length content) × Begins content (bytes held) (drop (n + 2) content)
@@ -154,11 +148,6 @@ module _ (content : List ℕ) (form : form_at content ≡ Bytes) where
   bytes_nothing none (number (pos k)) rest b = let e : Bytes ≡ form_of_token (number (pos k)) = sym form ∙ form_is content (number (pos k)) rest b in cc
   bytes_nothing none token rest b = let e : Bytes ≡ form_of_token token = sym form ∙ form_is content token rest b in cc
 
-  pub bytes_in_place : (token : Token) → (rest : List ℕ) → Begins content token rest → IsInPlace token → ⊥
-  bytes_in_place (bytes held) rest b h = h
-  bytes_in_place (number (pos k)) rest b h = let e : Bytes ≡ form_of_token (number (pos k)) = sym form ∙ form_is content (number (pos k)) rest b in cc
-  bytes_in_place token rest b h = let e : Bytes ≡ form_of_token token = sym form ∙ form_is content token rest b in cc
-
 -- signs
 pub single_nothing_empty : (content : List ℕ) → form_at content ≡ Single → length content ≤ 0 → Nothing content
 single_nothing_empty content form short (sign s) rest b = omega (arith, short, ap length b.stands)
@@ -177,11 +166,6 @@ module _ (s : ℕ) (tail : List ℕ) (form : form_at (s ∷ tail) ≡ Single) wh
   sign_nothing none (sign t) rest b = none (subst (Contains signs) (let e : s ∷ tail ≡ t ∷ rest = b.stands in let f : t ≡ s = cc in f) b.whole)
   sign_nothing none (number (pos k)) rest b = let e : Single ≡ form_of_token (number (pos k)) = sym form ∙ form_is (s ∷ tail) (number (pos k)) rest b in cc
   sign_nothing none token rest b = let e : Single ≡ form_of_token token = sym form ∙ form_is (s ∷ tail) token rest b in cc
-
--- a clause on an error that holds anyway
-pub on_err : {T E : Type 0} (r : Result T E) (P : Type 0) → P → OnErr r P
-on_err (Ok x) P p = tt
-on_err (Err e) P p = p
 
 -- the first of the bytes
 none_some : {X : Type 0} (x : X) → None ≡ Some x → ⊥

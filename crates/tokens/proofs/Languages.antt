@@ -5,7 +5,6 @@ use Rattle.mk_value.specs.Literals.{rows_tokens, tokens_of}
 use Rattle.mk_value.specs.Names.{IsName}
 use Rattle.mk_value.specs.Tokens as plain
 use Rattle.mk_value.specs.Tokens.{Token, number, sign, word}
-use Rattle.tokens.specs.Fronts.{IsFront}
 use Rattle.tokens.specs.Literals.{IsLiteral, LiteralTokens, max_braces}
 use Rattle.tokens.specs.Paths.{PathTokens, slash}
 use Rattle.tokens.proofs.Braces.{literal_some}

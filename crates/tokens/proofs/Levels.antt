@@ -1,17 +1,16 @@
 -- What is read at a place of the tokens, level by level.
-use Rattle.std.proofs.Common.{◌≡◌, ◌⊎◌, ℕ, ◌+◌, ◌-◌, ◌<◌, ◌≤◌, List, [], ◌∷◌, ◌++◌, length, take, drop, refl, ap, sym, subst, ◌∙◌, arith, inl, inr}
-use Rattle.std.specs.List.{All, flat_map}
-use Rattle.mk_value.specs.Data.{Datum, relation, tuple_of, relation_of}
+use Rattle.std.proofs.Common.{◌≡◌, ◌⊎◌, ℕ, ◌+◌, ◌-◌, ◌<◌, List, [], ◌∷◌, ◌++◌, drop, refl, ap, sym, subst, ◌∙◌, arith, inl, inr}
+use Rattle.mk_value.specs.Data.{Datum, tuple_of}
 use Rattle.mk_value.specs.Literals.{tokens_of, row_tokens}
 use Rattle.mk_value.specs.Tokens.{Token, sign}
-use Rattle.tokens.specs.Fronts.{Language, Stops}
-use Rattle.tokens.specs.Literals.{IsLiteral, IsLiteralRow, LiteralTokens, SpellsLiteral, max_braces}
+use Rattle.tokens.specs.Fronts.{Stops}
+use Rattle.tokens.specs.Literals.{IsLiteral, IsLiteralRow, LiteralTokens, max_braces}
 use Rattle.tokens.specs.Parts.{LiteralIn, ReadsLiteral, ReadsRow, ReadsRows, ReadsValues, RowIn, RowsIn, SomeRowsIn, StopsAt, ValuesIn}
 use Rattle.tokens.specs.Standing.{Stands}
 use Rattle.tokens.specs.declared.error.PartError.{PartError}
 use Rattle.tokens.specs.declared.error.PartError.TheVariants.{Memory, Stuck}
 use Rattle.tokens.proofs.Braces.{literal_free, literal_inside, literal_too_deep, row_inside, row_unopened, row_whole, rows_comma, rows_inside, rows_item_stops, rows_separator, rows_spelled, rows_whole, value_comma, value_separator, value_stops, values_spelled}
-use Rattle.tokens.proofs.Listing.{ReadsItem, SoFar, item_end, so_far_close, so_far_item, so_far_next, so_far_separator, so_far_start, stands_within}
+use Rattle.tokens.proofs.Listing.{ReadsItem, SoFar, item_end, so_far_close, so_far_item, so_far_next, so_far_separator}
 use Rattle.tokens.proofs.Routes.{stands_next}
 use Rattle.tokens.proofs.Stopping.{PrefixFree, stops_same}
 

@@ -1,6 +1,7 @@
 pub mod Beginnings
 pub mod Braces
 pub mod Chains
+pub mod Decoded
 pub mod Findings
 pub mod Languages
 pub mod Levels

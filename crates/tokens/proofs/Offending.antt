@@ -1,8 +1,8 @@
 -- A text has one first offence against a language, and none where the language has it.
-use Rattle.std.proofs.Common.{◌≡◌, ◌⊎◌, ℕ, List, [], ◌∷◌, ◌++◌, length, map, refl, ap, sym, subst, ◌∙◌, append_assoc, append-nil, inl, inr, ⊎_elim}
+use Rattle.std.proofs.Common.{◌≡◌, ◌⊎◌, ℕ, List, [], ◌∷◌, ◌++◌, length, refl, ap, sym, subst, ◌∙◌, append_assoc, append-nil, inl, inr, ⊎_elim}
 use Rattle.mk_value.specs.Data.{Datum}
 use Rattle.mk_value.specs.Tokens.{Token}
-use Rattle.tokens.specs.Cutting.{Cuts, IsFirstFlaw, Piece}
+use Rattle.tokens.specs.Cutting.{Cuts, Piece}
 use Rattle.tokens.specs.Fronts.{Language, IsFront, IsFirstWrong, EndsEarly, IsFirstOffence, tokens_in}
 use Rattle.tokens.specs.Literals.{Reads, max_braces}
 use Rattle.tokens.proofs.Chains.{cut_once, cut_or_flawed, flawed_once}

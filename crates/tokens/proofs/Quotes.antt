@@ -1,13 +1,15 @@
 -- What stands in quotes: each byte of it is spelled so that its spelling tells the byte and where it ends.
-use Rattle.std.proofs.Common.{◌≡◌, ◌≢◌, ℕ, ◌+◌, ◌-◌, ◌*◌, ◌/◌, ◌%◌, ◌<◌, ◌≤◌, ◌==◌, nat_lt, if◌then◌else◌, true, false, List, [], ◌∷◌, ◌++◌, length, drop, Option, Some, None, refl, ap, sym, ◌∙◌, append_assoc, arith, inl, inr}
+use Rattle.std.proofs.Common.{◌≡◌, ◌≢◌, ℕ, ◌+◌, ◌-◌, ◌*◌, ◌/◌, ◌%◌, ◌<◌, ◌≤◌, ◌==◌, nat_lt, if◌then◌else◌, true, false, List, [], ◌∷◌, ◌++◌, length, take, drop, append-nil, Option, Some, None, refl, ap, sym, ◌∙◌, append_assoc, arith, inl, inr}
 use Rattle.std.proofs.lemmas.Bool.{cases_eq, eqb-true, ne_eqb, true≢false, false≢true}
 use Rattle.std.proofs.lemmas.Bool.Decides.{nat_tests}
-use Rattle.std.proofs.lemmas.List.{drop-drop, length-drop}
-use Rattle.std.proofs.lemmas.List.Elements.{All-head, All-tail}
+use Rattle.std.proofs.lemmas.List.{append_cancel_right, drop-drop, length-drop, length-take-le, take-append-drop}
+use Rattle.std.proofs.lemmas.Grind.{flat_map-append}
+use Rattle.std.proofs.lemmas.List.Elements.{All-head, All-nil, All-push, All-tail}
+use Rattle.std.proofs.Math.Seq.{take-append-add}
 use Rattle.std.specs.List.{All, flat_map}
 use Rattle.mk_value.specs.Tokens.{escaped, hex_digit, hex_pair}
 use Rattle.tokens.specs.Cutting.{begins_with}
-use Rattle.tokens.specs.Finding.{IsByte, IsTextByte, is_quote}
+use Rattle.tokens.specs.Finding.{FindsByte, FindsQuoted, IsByte, IsTextByte, is_quote}
 
 -- the byte that a front spells, and what stands behind it
 abbrev behind_backslash : List ℕ → Option (ℕ × List ℕ)
@@ -130,26 +132,56 @@ module _ (spelled : ℕ → List ℕ) (May : ℕ → Type 0)
       let others_are = spelled_same held others rest behind (All-tail May b held p) (All-tail May c others q) first.1 in
       (cc, others_are.1)
 
+-- the bytes up to a place spell bytes, each of which may stand there
+pub record SpelledTo (spelled : ℕ → List ℕ) (May : ℕ → Type 0) (content : List ℕ) (at : ℕ) : Type 0 where
+  pub within : at ≤ length content
+  pub held : List ℕ
+  pub may : All May held
+  pub front : take at content ≡ flat_map spelled held
+
 module _ (spelled : ℕ → List ℕ) (May : ℕ → Type 0) where
+  read_so_far : (content : List ℕ) (at : ℕ) → (s : SpelledTo spelled May content at) → content ≡ flat_map spelled s.held ++ drop at content
+  read_so_far content at s = sym (take-append-drop at content) ∙ ap (λ x. x ++ drop at content) s.front
+
+  pub spelled_none : (content : List ℕ) → SpelledTo spelled May content 0
+  spelled_none content = record { within = omega arith; held = []; may = All-nil May; front = refl }
+
+  pub spelled_more : (content : List ℕ) (at : ℕ) → (s : SpelledTo spelled May content at) → (b len : ℕ) → FindsByte spelled May (drop at content) (Some (b, len)) → SpelledTo spelled May content (at + len)
+  spelled_more content at s b len found =
+      let left = length-drop at content in
+      let small : len ≤ length content - at = omega (arith, found.1, left) in
+      let next : take len (drop at content) ≡ spelled b =
+      append_cancel_right (take len (drop at content)) (spelled b) (drop len (drop at content)) (take-append-drop len (drop at content) ∙ found.3) in
+      let parts : take (at + len) content ≡ take at content ++ take len (drop at content) =
+      ap (take (at + len)) (sym (take-append-drop at content)) ∙ ap (λ n. take (n + len) (take at content ++ drop at content)) (sym (length-take-le at content s.within))
+      ∙ take-append-add (take at content) (drop at content) len in
+      record {
+        within = omega (arith, small, s.within);
+        held = s.held ++ b ∷ [];
+        may = All-push May s.held b s.may found.2;
+        front = parts ∙ ap (λ x. x ++ take len (drop at content)) s.front ∙ ap (λ x. flat_map spelled s.held ++ x) (next ∙ sym (append-nil (spelled b)))
+            ∙ sym (flat_map-append spelled s.held (b ∷ []));
+      }
+
   -- a quote behind what was spelled ends it
-  pub quoted_found : (content held : List ℕ) (at : ℕ) → at ≤ length content → All May held → content ≡ flat_map spelled held ++ drop at content → begins_with is_quote (drop at content) ≡ true
-      → (at + 1 ≤ length content) × All May held × (content ≡ flat_map spelled held ++ (34 ∷ drop (at + 1) content))
-  quoted_found content held at within may e q =
+  pub quoted_found : (content : List ℕ) (at : ℕ) → SpelledTo spelled May content at → begins_with is_quote (drop at content) ≡ true → FindsQuoted spelled May content (Some (at + 1))
+  quoted_found content at s q =
       let opens : drop at content ≡ 34 ∷ drop 1 (drop at content) = quote_first (drop at content) q in
       let further : drop 1 (drop at content) ≡ drop (at + 1) content = drop-drop 1 at content in
       let long = ap length opens in
       let left = length-drop at content in
-      (omega (arith, long, left), may, e ∙ ap (λ x. flat_map spelled held ++ x) (opens ∙ ap (λ x. 34 ∷ x) further))
+      let same : at + 1 - 1 ≡ at = omega arith in
+      (s.held, omega (arith, long, left), s.may, read_so_far content at s ∙ ap (λ x. flat_map spelled s.held ++ x) (opens ∙ ap (λ x. 34 ∷ x) further), omega arith, ap (λ n. take n content) same ∙ s.front)
 
 module _ (spelled : ℕ → List ℕ) (May : ℕ → Type 0)
     (same : (b c : ℕ) (x y : List ℕ) → May b → May c → spelled b ++ x ≡ spelled c ++ y → (b ≡ c) × (x ≡ y))
     (opens : (b : ℕ) (x y : List ℕ) → May b → spelled b ++ x ≡ 34 ∷ y → ⊥) where
   -- where neither a quote nor another byte's spelling stands behind what was spelled, no quote ends it
-  pub quoted_nothing : (content held : List ℕ) (at : ℕ) → All May held → content ≡ flat_map spelled held ++ drop at content
+  pub quoted_nothing : (content : List ℕ) (at : ℕ) → SpelledTo spelled May content at
       → ((b : ℕ) → (rest : List ℕ) → May b → drop at content ≡ spelled b ++ rest → ⊥) → begins_with is_quote (drop at content) ≡ false
       → (others behind : List ℕ) → All May others → content ≡ flat_map spelled others ++ (34 ∷ behind) → ⊥
-  quoted_nothing content held at may e stuck q others behind may_others f =
-      let front = spelled_front spelled May same opens held others (drop at content) behind may may_others (sym e ∙ f) in
+  quoted_nothing content at s stuck q others behind may_others f =
+      let front = spelled_front spelled May same opens s.held others (drop at content) behind s.may may_others (sym (read_so_far spelled May content at s) ∙ f) in
       ends_not (drop at content) behind front.0 front.1 front.3 stuck q
     where
       ends_not : (tail behind more : List ℕ) → All May more → tail ≡ flat_map spelled more ++ (34 ∷ behind)

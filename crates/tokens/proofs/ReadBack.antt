@@ -1,20 +1,16 @@
 -- What is printed reads back: the tokens of a value part by themselves, and its literal becomes the value again.
-use Rattle.std.proofs.Common.{◌≡◌, ℕ, ◌+◌, ◌-◌, ◌<◌, ◌≤◌, ◌^◌, ◌&&◌, ◌==◌, max, false, List, [], ◌∷◌, ◌++◌, length, refl, ap, sym, subst, ◌∙◌, append_assoc, append-nil, arith, FitsSigned, Contains}
+use Rattle.std.proofs.Common.{◌≡◌, ℕ, ◌+◌, ◌-◌, ◌<◌, ◌≤◌, ◌&&◌, ◌==◌, false, List, [], ◌∷◌, ◌++◌, length, refl, ap, sym, subst, ◌∙◌, append_assoc, append-nil, arith, Contains}
 use Rattle.std.specs.Char.{is_ascii_digit}
-use Rattle.std.specs.Int.{w64}
-use Rattle.std.specs.List.{All}
 use Rattle.std.proofs.lemmas.List.Elements.{All-nil}
 use Rattle.mk_value.specs.Conversions.{becomes, row_becomes, rows_become}
 use Rattle.mk_value.specs.Data.{Datum, integer, long, text, bytes, relation, Tuple, no_values, value, Relation, no_tuples, tuple, tuple_of, IsOf, IsTupleOf, AreTuplesOf}
 use Rattle.mk_value.specs.Heading.{Domain, Heading, no_attributes, attribute, attributes_of, domain_depth, heading_depth, IsDomain, AreAttributes}
-use Rattle.mk_value.specs.Limits.{max_depth}
 use Rattle.mk_value.specs.Literals.{more_rows, more_values, row_text, row_tokens, rows_tokens, spelled, tokens_of, value_text}
 use Rattle.mk_value.specs.Names.{is_name_byte}
-use Rattle.mk_value.specs.Tokens as plain
 use Rattle.mk_value.specs.Tokens.{Token, sign, spelling}
 use Rattle.mk_value.proofs.Headings.{heading_of-attributes_of}
 use Rattle.mk_value.proofs.Printed.{spelled-append}
-use Rattle.tokens.specs.Cutting.{Begins, Cuts, CutsFrom, EndsBefore, IsToken, Leads, Piece, begins_with, signs, space}
+use Rattle.tokens.specs.Cutting.{CutsFrom, EndsBefore, IsToken, Piece, begins_with, signs, space}
 use Rattle.tokens.specs.Fronts.{tokens_in}
 use Rattle.tokens.specs.Literals.{AreLiteralRows, AreLiterals, HoldsBytes, IsLiteral, IsLiteralRow, Reads, ReadsRowText, RowHoldsBytes, RowsHoldBytes, as_literal, max_braces, row_as_literals, rows_as_literals}
 

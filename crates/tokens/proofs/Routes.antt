@@ -8,8 +8,8 @@ use Rattle.mk_value.specs.Names.{IsName, is_name_byte}
 use Rattle.mk_value.specs.Paths.{Route}
 use Rattle.mk_value.specs.Tokens.{Token, word, number, sign}
 use Rattle.mk_value.specs.declared.path.Step.{Step}
-use Rattle.tokens.specs.Fronts.{Language, IsFront, Stops}
-use Rattle.tokens.specs.Paths.{IsPath, IsStep, PathTokens, SpellsPath, StandsStep, StepTokens, path_tokens, slash, step_tokens}
+use Rattle.tokens.specs.Fronts.{IsFront, Stops}
+use Rattle.tokens.specs.Paths.{IsPath, IsStep, PathTokens, StandsStep, StepTokens, path_tokens, slash, step_tokens}
 use Rattle.tokens.specs.Standing.{Stands}
 use Rattle.tokens.proofs.Stopping.{After, stops_after, stops_same, take_behind}
 
@@ -90,7 +90,7 @@ stops_slash row tail small none = record {
         let g : t ≡ sign slash = cc in
         none tail (ap (λ x. x ∷ tail) g))
 
-pub stops_prop : (row : ℕ) (tail : List Token) → row < 2 ^ 63 → ((prop : List ℕ) → (rest : List Token) → tail ≡ word prop ∷ rest → ⊥) → Stops StepTokens (sign slash ∷ number (pos row) ∷ sign slash ∷ tail) 3
+pub stops_prop : (row : ℕ) (tail : List Token) → row < 2 ^ 63 → ((prop : List ℕ) → IsName prop → (rest : List Token) → tail ≡ word prop ∷ rest → ⊥) → Stops StepTokens (sign slash ∷ number (pos row) ∷ sign slash ∷ tail) 3
 stops_prop row tail small none = record {
   within = omega arith;
   goes_on = (word a_name ∷ [], one_step row a_name small is_a_name);
@@ -99,14 +99,14 @@ stops_prop row tail small none = record {
   wrong = wrong tail none;
 }
   where
-    wrong : (tail : List Token) → ((prop : List ℕ) → (rest : List Token) → tail ≡ word prop ∷ rest → ⊥)
+    wrong : (tail : List Token) → ((prop : List ℕ) → IsName prop → (rest : List Token) → tail ≡ word prop ∷ rest → ⊥)
         → (3 ≡ length (sign slash ∷ number (pos row) ∷ sign slash ∷ tail)) ⊎ (IsFront StepTokens (take 4 (sign slash ∷ number (pos row) ∷ sign slash ∷ tail)) → ⊥)
     wrong [] none = inl refl
     wrong (t ∷ tail) none = inr (λ goes.
         let f = first_step (sign slash) (number (pos row) ∷ sign slash ∷ t ∷ goes.0) goes.1 in
         let e : sign slash ∷ number (pos row) ∷ sign slash ∷ t ∷ goes.0 ≡ sign slash ∷ number (pos f.0.row) ∷ sign slash ∷ word f.0.prop ∷ f.1 = f.3 in
         let g : t ≡ word f.0.prop = cc in
-        none f.0.prop tail (ap (λ x. x ∷ tail) g))
+        none f.0.prop f.2.1 tail (ap (λ x. x ∷ tail) g))
 
 -- the same, of tokens at a place
 module _ (tokens : List Token) (at : ℕ) (opens : Stands tokens at (sign slash)) where
@@ -126,9 +126,9 @@ module _ (tokens : List Token) (at : ℕ) (opens : Stands tokens at (sign slash)
       three : drop at tokens ≡ sign slash ∷ number (pos row) ∷ sign slash ∷ drop (at + 3) tokens
       three = two ∙ ap (λ x. sign slash ∷ number (pos row) ∷ x) (slashed ∙ ap (λ n. sign slash ∷ drop n tokens) (let e : at + 2 + 1 ≡ at + 3 = omega arith in e))
 
-      pub stuck_prop : ((prop : List ℕ) → Stands tokens (at + 3) (word prop) → ⊥) → Stops StepTokens (drop at tokens) 3
+      pub stuck_prop : ((prop : List ℕ) → IsName prop → Stands tokens (at + 3) (word prop) → ⊥) → Stops StepTokens (drop at tokens) 3
       stuck_prop none =
-          subst (λ x. Stops StepTokens x 3) (sym three) (stops_prop row (drop (at + 3) tokens) small (λ prop rest e. none prop (stands_next tokens (at + 3) (word prop) rest e)))
+          subst (λ x. Stops StepTokens x 3) (sym three) (stops_prop row (drop (at + 3) tokens) small (λ prop named rest e. none prop named (stands_next tokens (at + 3) (word prop) rest e)))
 
       pub step_stands : (step : Step) → step.row ≡ row → IsName step.prop → Stands tokens (at + 3) (word step.prop) → StandsStep tokens at step
       step_stands step same named proped =
@@ -167,7 +167,7 @@ path_stuck tokens at k route whole within e s =
     let long : length (path_tokens route) + k ≡ at + k = ap (λ n. n + k) (ap length (sym e) ∙ length-take-le at tokens within) in
     subst (λ n. Stops PathTokens tokens n) long (subst (λ x. Stops PathTokens x (length (path_tokens route) + k)) all lifted)
 
-pub no_path : (tokens : List Token) → ((name : List ℕ) → Stands tokens 0 (word name) → ⊥) → Stops PathTokens tokens 0
+pub no_path : (tokens : List Token) → ((name : List ℕ) → IsName name → Stands tokens 0 (word name) → ⊥) → Stops PathTokens tokens 0
 no_path tokens none = record {
   within = omega arith;
   goes_on = (word a_name ∷ [], (record { name = a_name; steps = [] }, record { whole = record { name = is_a_name; steps = All-nil IsStep }; is = refl }));
@@ -175,12 +175,12 @@ no_path tokens none = record {
   wrong = wrong tokens none;
 }
   where
-    wrong : (tokens : List Token) → ((name : List ℕ) → Stands tokens 0 (word name) → ⊥) → (0 ≡ length tokens) ⊎ (IsFront PathTokens (take 1 tokens) → ⊥)
+    wrong : (tokens : List Token) → ((name : List ℕ) → IsName name → Stands tokens 0 (word name) → ⊥) → (0 ≡ length tokens) ⊎ (IsFront PathTokens (take 1 tokens) → ⊥)
     wrong [] none = inl refl
     wrong (t ∷ tokens) none = inr (λ goes.
         let e : t ∷ goes.0 ≡ word goes.1.0.name ∷ flat_map step_tokens goes.1.0.steps = goes.1.1.is in
         let g : t ≡ word goes.1.0.name = cc in
-        none goes.1.0.name (ap (λ x. x ∷ tokens) g))
+        none goes.1.0.name goes.1.1.whole.name (ap (λ x. x ∷ tokens) g))
 
 pub path_begins : (tokens : List Token) (route : Route) (name : List ℕ) → Stands tokens 0 (word name) → route.name ≡ name → route.steps ≡ [] → take 1 tokens ≡ path_tokens route
 path_begins tokens route name stands named steps =

@@ -1,5 +1,5 @@
 -- Where reading stops: behind a front that was read, and in the first of two parts.
-use Rattle.std.proofs.Common.{◌≡◌, ◌⊎◌, ℕ, ◌+◌, ◌-◌, ◌<◌, ◌≤◌, suc, List, [], ◌∷◌, ◌++◌, length, take, drop, refl, ap, sym, subst, ◌∙◌, append_assoc, append-nil, arith, length-append, inl, inr, ⊎_elim}
+use Rattle.std.proofs.Common.{◌≡◌, ◌⊎◌, ℕ, ◌+◌, ◌-◌, ◌≤◌, suc, List, [], ◌∷◌, ◌++◌, length, take, refl, ap, sym, subst, ◌∙◌, append_assoc, append-nil, arith, length-append, inl, inr, ⊎_elim}
 use Rattle.std.proofs.lemmas.List.{length-take, take-take}
 use Rattle.mk_value.specs.Tokens.{Token}
 use Rattle.tokens.specs.Fronts.{Language, IsFront, Stops}

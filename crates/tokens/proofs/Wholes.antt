@@ -1,5 +1,5 @@
 -- What the places of pieces say of where reading stopped.
-use Rattle.std.proofs.Common.{◌≡◌, ◌⊎◌, ℕ, suc, ◌+◌, ◌<◌, ◌≤◌, List, [], ◌∷◌, ◌++◌, length, map, take, drop, get_or, refl, ap, sym, subst, ◌∙◌, append_assoc, append-nil, arith, inl, inr, ⊎_elim}
+use Rattle.std.proofs.Common.{◌≡◌, ℕ, ◌+◌, ◌<◌, ◌≤◌, List, [], ◌∷◌, ◌++◌, length, map, take, drop, get_or, refl, ap, sym, subst, ◌∙◌, append_assoc, append-nil, arith, ⊎_elim}
 use Rattle.std.proofs.lemmas.List.{take-append-drop, take_all, take-map, length-map, take_more}
 use Rattle.mk_value.specs.Tokens.{Token}
 use Rattle.mk_value.proofs.Walks.{drop_read, map_read, same_default}

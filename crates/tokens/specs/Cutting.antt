@@ -1,5 +1,5 @@
 -- How a text is cut into tokens: at each place the longest token that begins there, with any number of spaces between.
-use Rattle.std.specs.Prelude.{◌≡◌, ◌≢◌, ℕ, zero, suc, ◌+◌, ◌<◌, ℤ, pos, Bool, false, ◌&&◌, ◌==◌, List, [], ◌∷◌, ◌++◌, length, All, Contains, FitsSigned, refl}
+use Rattle.std.specs.Prelude.{◌≡◌, ◌≢◌, ℕ, zero, suc, ◌+◌, ◌<◌, ℤ, pos, Bool, false, ◌&&◌, ◌==◌, List, [], ◌∷◌, ◌++◌, length, All, Contains, FitsSigned, Option, Some, None, refl}
 use Rattle.std.specs.Int.{w64}
 use Rattle.std.specs.Char.{is_ascii_digit}
 use Rattle.std.specs.Coded.{Coded, code_by, coded_ℕ, coded_ℤ, coded_list, coded×}
@@ -120,14 +120,11 @@ FlawFrom place content (p ∷ pieces) flaw = (rest : List ℕ) × Leads place co
 abbrev pub IsFirstFlaw : List ℕ → ℕ → Type 0
 IsFirstFlaw content flaw = (pieces : List Piece) × FlawFrom 0 content pieces flaw
 
+-- The text is cut into these pieces, up to its first piece that is no token where it has one.
+abbrev pub CutsUpTo : List ℕ → List Piece → Option ℕ → Type 0
+CutsUpTo content pieces None = Cuts content pieces
+CutsUpTo content pieces (Some flaw) = FlawFrom 0 content pieces flaw
+
 -- how many pieces stand in a list of them itself
 abbrev pub inline_pieces : ℕ
 inline_pieces = 8
-
--- a token that is held where it stands: any but a text and a byte string
-abbrev pub IsInPlace : Token → Type 0
-IsInPlace (word name) = Unit {0}
-IsInPlace (number z) = Unit {0}
-IsInPlace (text content) = ⊥
-IsInPlace (bytes content) = ⊥
-IsInPlace (sign s) = Unit {0}

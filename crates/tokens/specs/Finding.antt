@@ -1,13 +1,11 @@
 -- What the readers of one token find at the front of bytes.
-use Rattle.std.specs.Prelude.{◌≡◌, ◌≢◌, ℕ, ◌+◌, ◌<◌, ◌≤◌, Bool, ◌&&◌, ◌==◌, if◌then◌else◌, List, [], ◌∷◌, ◌++◌, length, drop, All, Option, None, Some}
+use Rattle.std.specs.Prelude.{◌≡◌, ◌≢◌, ℕ, ◌<◌, ◌≤◌, ◌-◌, Bool, ◌&&◌, ◌==◌, if◌then◌else◌, List, [], ◌∷◌, ◌++◌, length, drop, take, All, Option, None, Some}
 use Rattle.std.specs.Char.{is_ascii_digit}
 use Rattle.std.specs.List.{flat_map}
 use Rattle.mk_value.specs.Names.{is_name_byte}
 use Rattle.mk_value.specs.Tokens as plain
-use Rattle.tokens.specs.Cutting.{Begins, IsInPlace, IsNoToken, Leads, Piece as plain_piece, begins_with, end_of, space}
+use Rattle.tokens.specs.Cutting.{Begins, Leads, begins_with, end_of, space}
 use Rattle.tokens.specs.Meanings.{piece_of, token_of}
-use Rattle.tokens.specs.declared.error.CutError.{CutError}
-use Rattle.tokens.specs.declared.error.CutError.TheVariants.{Memory, NoToken}
 use Rattle.tokens.specs.declared.form.Form.{Form}
 use Rattle.tokens.specs.declared.form.Form.TheVariants.{Text, Bytes, Negative, Run, Single}
 use Rattle.tokens.specs.declared.token.Piece.{Piece}
@@ -37,11 +35,12 @@ FindsByte spelled May content None = (b : ℕ) → (rest : List ℕ) → May b �
 FindsByte spelled May content (Some found) =
     (0 < found.1) × (found.1 ≤ length content) × May found.0 × (content ≡ spelled found.0 ++ drop found.1 content)
 
--- the bytes that are spelled up to a quote, with the length up to and with that, or nothing where there is no such front
-abbrev pub FindsQuoted : (ℕ → List ℕ) → (ℕ → Type 0) → List ℕ → Option (List ℕ × ℕ) → Type 0
+-- bytes are spelled from the front up to a quote, which ends after so many bytes, or there is no such front
+abbrev pub FindsQuoted : (ℕ → List ℕ) → (ℕ → Type 0) → List ℕ → Option ℕ → Type 0
 FindsQuoted spelled May content None = (held rest : List ℕ) → All May held → content ≡ flat_map spelled held ++ (34 ∷ rest) → ⊥
-FindsQuoted spelled May content (Some found) =
-    (found.1 ≤ length content) × All May found.0 × (content ≡ flat_map spelled found.0 ++ (34 ∷ drop found.1 content))
+FindsQuoted spelled May content (Some end) =
+    (held : List ℕ) × (end ≤ length content) × All May held × (content ≡ flat_map spelled held ++ (34 ∷ drop end content))
+    × (0 < end) × (take (end - 1) content ≡ flat_map spelled held)
 
 -- what may stand in a text, and in a byte string
 abbrev pub IsTextByte : ℕ → Type 0
@@ -58,9 +57,3 @@ abbrev pub FindsPiece : ℕ → List ℕ → Option (Piece × ℕ) → Type 0
 FindsPiece from content None = All (λ b. b ≡ space) (drop from content)
 FindsPiece from content (Some found) =
     (found.1 ≤ length content) × (found.1 ≡ end_of (piece_of found.0)) × Leads from (drop from content) (piece_of found.0) (drop found.1 content)
-
--- No piece comes first in the bytes, the first of which stands at a place; or memory ran out, which only a piece that takes some makes happen.
-abbrev pub FailsAt : ℕ → List ℕ → CutError → Type 0
-FailsAt from content (NoToken place) = IsNoToken from content place
-FailsAt from content Memory =
-    (All (λ b. b ≡ space) content → ⊥) × ((p : plain_piece) → (rest : List ℕ) → Leads from content p rest → IsInPlace p.token → ⊥)

@@ -1,6 +1,6 @@
 -- The parts of a literal: which tokens each is, and what reading one from a place finds.
-use Rattle.std.specs.Prelude.{◌≡◌, ◌⊎◌, ℕ, ◌+◌, ◌<◌, ◌≤◌, List, [], ◌∷◌, ◌++◌, length, drop, Option, None, Some}
-use Rattle.mk_value.specs.Data.{Datum, relation, Tuple, Relation, tuple, tuple_of, relation_of}
+use Rattle.std.specs.Prelude.{◌≡◌, ℕ, ◌+◌, ◌≤◌, List, ◌∷◌, ◌++◌, length, drop, Option, None, Some}
+use Rattle.mk_value.specs.Data.{Datum, IsText, relation, Tuple, Relation, tuple, tuple_of, relation_of}
 use Rattle.mk_value.specs.LiteralValues.{literal_of}
 use Rattle.mk_value.specs.Literals.{tokens_of, row_tokens}
 use Rattle.mk_value.specs.Tokens.{Token, sign}
@@ -54,6 +54,11 @@ pub record ReadsRows (tokens : List Token) (at deep : ℕ) (rows : List (List Da
 abbrev pub FindsPlain : List Token → ℕ → Option Literal → Type 0
 FindsPlain tokens at None = (d : Datum) → (rest : List Token) → IsLiteral 0 d → drop at tokens ≡ tokens_of d ++ rest → ⊥
 FindsPlain tokens at (Some literal) = ReadsLiteral tokens at 0 (literal_of literal) (at + 1)
+
+-- the literal of a text of this content, or nothing where it is none
+abbrev pub IsTextLiteral : List ℕ → Option Literal → Type 0
+IsTextLiteral content None = IsText content → ⊥
+IsTextLiteral content (Some literal) = IsText content × (literal_of literal ≡ Datum.text content)
 
 -- reading a part from a place failed: it stopped at another, or memory ran out
 abbrev pub StopsAt : Language → List Token → ℕ → PartError → Type 0

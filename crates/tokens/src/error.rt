@@ -3,17 +3,6 @@ ghost use Rattle.std.specs.Prelude.{◌≡◌};
 use mk_value::Memory;
 use thiserror::Error;
 
-/// Why a text was not cut into tokens.
-#[derive(Clone, Copy, Debug, PartialEq, Eq, Error)]
-pub enum CutError {
-    /// The first piece that is no token begins at this byte.
-    #[error("no token begins at byte {0}")]
-    NoToken(usize),
-    /// An allocation was refused.
-    #[error("out of memory")]
-    Memory,
-}
-
 /// Why no part was read from the front of pieces.
 #[derive(Clone, Copy, Debug, PartialEq, Eq, Error)]
 pub enum PartError {
@@ -34,16 +23,6 @@ pub enum ReadError {
     /// An allocation was refused.
     #[error("out of memory")]
     Memory,
-}
-
-impl From<Memory> for CutError {
-    ghost use Rattle.tokens.specs.declared.error.CutError.TheVariants as reason;
-
-    ghost from_gives = { λ _ error. error ≡ reason.Memory };
-
-    fn from(_error: Memory) -> CutError {
-        CutError::Memory
-    }
 }
 
 impl From<Memory> for PartError {

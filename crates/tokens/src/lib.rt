@@ -8,6 +8,7 @@
 #![tactic(auto)]
 
 mod cutting;
+mod decoding;
 mod error;
 mod form;
 mod laws;
@@ -19,10 +20,10 @@ mod run;
 mod standing;
 mod token;
 
-pub use cutting::cut;
-pub use error::{CutError, PartError, ReadError};
+pub use cutting::{Cutting, cut, some_cutting};
+pub use error::{PartError, ReadError};
 pub use laws::{one_cutting, one_reading, printed_reads_back};
 pub use literal::{literal_at, read_literal};
 pub use path::path_at;
 pub use pieces::Pieces;
-pub use token::{Piece, Sign, Token};
+pub use token::{Piece, Sign, Token, count_of, name_of};

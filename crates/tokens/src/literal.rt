@@ -3,16 +3,16 @@
 ghost use Rattle.std.specs.Prelude.{◌≡◌, ◌≤◌, ◌<◌, ◌⊎◌, ℕ, length, take, All, IfOk, IfErr};
 ghost use Rattle.mk_value.specs.LiteralValues.{literal_of};
 ghost use Rattle.mk_value.specs.Tokens.{sign as plain_sign};
-ghost use Rattle.tokens.specs.Finding.{IsByte};
 ghost use Rattle.tokens.specs.Fronts.{EndsEarly, IsFirstOffence, IsFirstWrong, Stops};
 ghost use Rattle.tokens.specs.Literals.{LiteralTokens, Reads, SpellsLiteral, max_braces};
-ghost use Rattle.tokens.specs.Meanings.{pieces_of, tokens_of_pieces};
-ghost use Rattle.tokens.specs.Parts.{FindsPlain, LiteralIn, ReadsLiteral, ReadsRow, ReadsRows, ReadsValues, RowIn, RowsIn, SomeRowsIn, StopsAt, ValuesIn};
+ghost use Rattle.tokens.specs.Meanings.{characters_of, pieces_of, tokens_of_pieces};
+ghost use Rattle.tokens.specs.Parts.{FindsPlain, IsTextLiteral, LiteralIn, ReadsLiteral, ReadsRow, ReadsRows, ReadsValues, RowIn, RowsIn, SomeRowsIn, StopsAt, ValuesIn};
 ghost use Rattle.tokens.specs.Standing.{Stands};
 
+use crate::decoding::{bytes_of, characters};
 use crate::standing::{is_sign_at, token_of};
-use crate::{CutError, PartError, Piece, ReadError, Sign, Token, cut};
-use mk_value::{Bytes as ByteString, Literal, LiteralRows, Literals, Memory, is_text};
+use crate::{PartError, Piece, ReadError, Sign, Token, cut};
+use mk_value::{Literal, LiteralRows, Literals, Memory, Text as Characters, is_text};
 use std::alloc::Global;
 
 /// How deep braces may stand in a literal.
@@ -23,7 +23,7 @@ const MAX_BRACES: usize = 8;
 /// # Errors
 ///
 /// `Stuck` with the number of pieces that are a front of a literal, where none is whole: the next one, if there is one, cannot go on. `Memory`.
-pub fn literal_at(alloc: Global, pieces: &[Piece]) -> Result<(Literal, usize), PartError>
+pub fn literal_at(alloc: Global, pieces: &[Piece<'_>]) -> Result<(Literal, usize), PartError>
     ensures within { IfOk result (λ read. read.1 ≤ length pieces.now) }
     ensures spells { IfOk result (λ read. SpellsLiteral (take read.1 (tokens_of_pieces pieces.now)) (literal_of read.0)) }
     ensures stuck { IfErr result (λ error. (error ≡ PartError.Memory) ⊎ ((count : ℕ) × (error ≡ PartError.Stuck count) × Stops LiteralTokens (tokens_of_pieces pieces.now) count)) }
@@ -40,15 +40,15 @@ pub fn read_literal(alloc: Global, text: &str) -> Result<Literal, ReadError>
     ensures reads { IfOk result (λ literal. Reads text.now (literal_of literal)) }
     ensures offence { IfErr result (λ error. (error ≡ ReadError.Memory) ⊎ ((place : ℕ) × (error ≡ ReadError.NotAValue place) × IsFirstOffence LiteralTokens text.now place)) }
 {
-    match cut(alloc, text) {
-        Ok(pieces) => whole_literal(alloc, pieces.as_slice(), text.len()),
-        Err(CutError::NoToken(place)) => Err(ReadError::NotAValue(place)),
-        Err(CutError::Memory) => Err(ReadError::Memory),
+    let cutting = cut(alloc, text)?;
+    if let Some(place) = cutting.flaw {
+        return Err(ReadError::NotAValue(place));
     }
+    whole_literal(alloc, cutting.pieces.as_slice(), text.len())
 }
 
 /// Reads the literal that the pieces of a text of `size` bytes are.
-fn whole_literal(alloc: Global, pieces: &[Piece], size: usize) -> Result<Literal, ReadError>
+fn whole_literal(alloc: Global, pieces: &[Piece<'_>], size: usize) -> Result<Literal, ReadError>
     ensures reads { IfOk result (λ literal. SpellsLiteral (tokens_of_pieces pieces.now) (literal_of literal)) }
     ensures wrong { IfErr result (λ error. (error ≡ ReadError.Memory) ⊎ ((place : ℕ) × (error ≡ ReadError.NotAValue place)
         × (IsFirstWrong LiteralTokens (pieces_of pieces.now) place ⊎ EndsEarly LiteralTokens (pieces_of pieces.now) size place))) }
@@ -74,7 +74,7 @@ fn whole_literal(alloc: Global, pieces: &[Piece], size: usize) -> Result<Literal
 #[cycle(literal)]
 fn literal_from(
     alloc: Global,
-    pieces: &[Piece],
+    pieces: &[Piece<'_>],
     at: usize,
     deep: usize,
 ) -> Result<(Literal, usize), PartError>
@@ -93,7 +93,7 @@ fn literal_from(
 }
 
 /// Reads the literal at a place that is no view, and tells where it ends.
-fn plain_from(alloc: Global, pieces: &[Piece], at: usize) -> Result<(Literal, usize), PartError>
+fn plain_from(alloc: Global, pieces: &[Piece<'_>], at: usize) -> Result<(Literal, usize), PartError>
     requires within { at ≤ length pieces.now }
     requires no_brace { Stands (tokens_of_pieces pieces.now) at (plain_sign 123) → ⊥ }
     ensures reads { (deep : ℕ) → IfOk result (λ read. ReadsLiteral (tokens_of_pieces pieces.now) at deep (literal_of read.0) read.1) }
@@ -106,7 +106,7 @@ fn plain_from(alloc: Global, pieces: &[Piece], at: usize) -> Result<(Literal, us
 }
 
 /// The literal that is the token at a place.
-fn plain_literal(alloc: Global, pieces: &[Piece], at: usize) -> Result<Option<Literal>, Memory>
+fn plain_literal(alloc: Global, pieces: &[Piece<'_>], at: usize) -> Result<Option<Literal>, Memory>
     ensures { IfOk result (FindsPlain (tokens_of_pieces pieces.now) at) }
 {
     let Some(token) = token_of(pieces, at) else {
@@ -114,30 +114,31 @@ fn plain_literal(alloc: Global, pieces: &[Piece], at: usize) -> Result<Option<Li
     };
     match token {
         Token::Number(number) => Ok(Some(Literal::Number(*number))),
-        Token::Text(text) => {
-            if !is_text(text.as_str()) {
-                return Ok(None);
-            }
-            Ok(Some(Literal::Text(text.copy()?)))
-        }
-        Token::Bytes(bytes) => Ok(Some(Literal::Bytes(copy_bytes(alloc, bytes)?))),
+        Token::Text(written) => text_literal(alloc, written),
+        Token::Bytes(written) => Ok(Some(Literal::Bytes(bytes_of(alloc, written.as_bytes())?))),
         _ => Ok(None),
     }
 }
 
-/// A byte string of the same bytes.
-fn copy_bytes(alloc: Global, bytes: &ByteString) -> Result<ByteString, Memory>
-    ensures { IfOk result (λ copy. (copy.bytes ≡ bytes.now.bytes) × All IsByte copy.bytes) }
+/// The literal of a text that is written so in quotes, unless it holds what no text may.
+fn text_literal(alloc: Global, written: &str) -> Result<Option<Literal>, Memory>
+    ensures { IfOk result (IsTextLiteral (characters_of written.now)) }
 {
-    let held = bytes.as_slice();
-    ByteString::from_slice(alloc, held)
+    let content = characters(alloc, written.as_bytes())?;
+    let Ok(text) = String::from_utf8(content.into_vec()) else {
+        return Ok(None);
+    };
+    if !is_text(text.as_str()) {
+        return Ok(None);
+    }
+    Ok(Some(Literal::Text(Characters::from(text))))
 }
 
 /// Reads rows up to the brace that closes them.
 #[cycle(literal)]
 fn rows_from(
     alloc: Global,
-    pieces: &[Piece],
+    pieces: &[Piece<'_>],
     at: usize,
     deep: usize,
 ) -> Result<(LiteralRows, usize), PartError>
@@ -155,7 +156,7 @@ fn rows_from(
 #[cycle(literal)]
 fn some_rows_from(
     alloc: Global,
-    pieces: &[Piece],
+    pieces: &[Piece<'_>],
     start: usize,
     deep: usize,
 ) -> Result<(LiteralRows, usize), PartError>
@@ -182,7 +183,7 @@ fn some_rows_from(
 #[cycle(literal)]
 fn row_from(
     alloc: Global,
-    pieces: &[Piece],
+    pieces: &[Piece<'_>],
     at: usize,
     deep: usize,
 ) -> Result<(Literals, usize), PartError>
@@ -200,7 +201,7 @@ fn row_from(
 #[cycle(literal)]
 fn values_from(
     alloc: Global,
-    pieces: &[Piece],
+    pieces: &[Piece<'_>],
     start: usize,
     deep: usize,
 ) -> Result<(Literals, usize), PartError>

@@ -17,7 +17,7 @@ use std::alloc::Global;
 /// # Errors
 ///
 /// `Stuck` with the number of pieces that are a front of a path, where none is whole: the next one, if there is one, cannot go on. `Memory`.
-pub fn path_at(alloc: Global, pieces: &[Piece]) -> Result<(Path, usize), PartError>
+pub fn path_at(alloc: Global, pieces: &[Piece<'_>]) -> Result<(Path, usize), PartError>
     ensures within { IfOk result (λ read. read.1 ≤ length pieces.now) }
     ensures spells { IfOk result (λ read. SpellsPath (take read.1 (tokens_of_pieces pieces.now)) read.0) }
     ensures ends { IfOk result (λ read. GoesOnWithSlash (drop read.1 (tokens_of_pieces pieces.now)) → ⊥) }
@@ -26,7 +26,7 @@ pub fn path_at(alloc: Global, pieces: &[Piece]) -> Result<(Path, usize), PartErr
     let Some(name) = word_at(pieces, 0) else {
         return Err(PartError::Stuck(0));
     };
-    let mut path = Path::new(alloc, name.copy()?);
+    let mut path = Path::new(alloc, name);
     let mut at = 1;
     while is_sign_at(pieces, at, Sign::Slash) {
         let step = step_at(pieces, at)?;
@@ -37,7 +37,7 @@ pub fn path_at(alloc: Global, pieces: &[Piece]) -> Result<(Path, usize), PartErr
 }
 
 /// The step whose slash stands at a place.
-fn step_at(pieces: &[Piece], at: usize) -> Result<Step, PartError>
+fn step_at(pieces: &[Piece<'_>], at: usize) -> Result<Step, PartError>
     requires opens { Stands (tokens_of_pieces pieces.now) at (plain_sign slash) }
     requires within { at < length pieces.now }
     ensures step { IfOk result (StandsStep (tokens_of_pieces pieces.now) at) }
@@ -52,8 +52,5 @@ fn step_at(pieces: &[Piece], at: usize) -> Result<Step, PartError>
     let Some(prop) = word_at(pieces, at + 3) else {
         return Err(PartError::Stuck(at + 3));
     };
-    Ok(Step {
-        row,
-        prop: prop.copy()?,
-    })
+    Ok(Step { row, prop })
 }

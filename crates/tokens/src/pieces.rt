@@ -13,8 +13,8 @@ use std::marker::Model;
 /// How many pieces stand in the list itself. A text of more takes memory.
 const INLINE_PIECES: usize = 8;
 
-impl MadeWith<Global> for Piece {
-    fn made_with(_alloc: Global) -> Piece {
+impl<'a> MadeWith<Global> for Piece<'a> {
+    fn made_with(_alloc: Global) -> Piece<'a> {
         Piece {
             place: 0,
             token: Token::Symbol(Sign::Comma),
@@ -24,11 +24,11 @@ impl MadeWith<Global> for Piece {
 
 /// The pieces of a text, in order.
 #[derive(Drop)]
-pub struct Pieces {
-    items: SmallVec<Piece, INLINE_PIECES>,
+pub struct Pieces<'a> {
+    items: SmallVec<Piece<'a>, INLINE_PIECES>,
 }
 
-impl Model for Pieces {
+impl<'a> Model for Pieces<'a> {
     ghost use Rattle.std.specs.Prelude.{List, map, ◌≤◌};
     ghost use Rattle.tokens.specs.Cutting.{inline_pieces};
     ghost use Rattle.tokens.specs.Cutting.{Piece, pieces_code};
@@ -44,9 +44,9 @@ impl Model for Pieces {
     ghost invariant = { λ p. inline_pieces ≤ p.items.capacity };
 }
 
-impl Pieces {
+impl<'a> Pieces<'a> {
     /// No pieces.
-    pub(crate) fn new(alloc: Global) -> Pieces
+    pub(crate) fn new(alloc: Global) -> Pieces<'a>
         ensures { result ≡ [] }
     {
         Pieces {
@@ -55,8 +55,8 @@ impl Pieces {
     }
 
     /// Appends a piece.
-    pub(crate) fn push(&mut self, piece: Piece) -> Result<(), Memory>
-        ensures ok { OnOk result (self.new ≡ self.old ++ piece_of piece ∷ []) }
+    pub(crate) fn push(&mut self, piece: Piece<'a>) -> Result<(), Memory>
+        ensures ok { OnOk result (self.new ≡ self.old ++ piece_of piece.entry ∷ []) }
         ensures err { OnErr result (self.new ≡ self.old) }
         ensures in_place { length self.old < inline_pieces → IsOk result }
     {
@@ -64,7 +64,7 @@ impl Pieces {
         Ok(())
     }
 
-    pub fn as_slice(&self) -> &[Piece]
+    pub fn as_slice(&self) -> &[Piece<'a>]
         ensures { map piece_of result.now ≡ self.now }
     {
         self.items.as_slice()

@@ -7,48 +7,43 @@ ghost use Rattle.tokens.specs.declared.form.Form.TheVariants.{Bytes as bytes_for
 
 use crate::Token;
 use crate::form::begins_with_quote;
-use mk_value::{Bytes as ByteString, Memory, Text as Characters};
-use std::alloc::Global;
 
 /// The text at the front of the bytes, and the length of what spells it.
-pub(crate) fn text_token(alloc: Global, bytes: &[u8]) -> Result<Option<(Token, usize)>, Memory>
+pub(crate) fn text_token(bytes: &[u8]) -> Option<(Token<'_>, usize)>
     requires { form_at bytes.now ≡ text_form }
-    ensures { IfOk result (Finds bytes.now) }
+    ensures { Finds bytes.now result }
 {
-    let Some((content, len)) = characters(alloc, &bytes[1..])? else {
-        return Ok(None);
-    };
-    match String::from_utf8(content.into_vec()) {
-        Ok(string) => Ok(Some((Token::Text(Characters::from(string)), len + 1))),
-        Err(_) => Ok(None),
+    let end = characters_end(&bytes[1..])?;
+    match str::from_utf8(&bytes[1..end]) {
+        Ok(written) => Some((Token::Text(written), end + 1)),
+        Err(_) => None,
     }
 }
 
 /// The byte string at the front of the bytes, and the length of what spells it.
-pub(crate) fn bytes_token(alloc: Global, bytes: &[u8]) -> Result<Option<(Token, usize)>, Memory>
+pub(crate) fn bytes_token(bytes: &[u8]) -> Option<(Token<'_>, usize)>
     requires { form_at bytes.now ≡ bytes_form }
-    ensures { IfOk result (Finds bytes.now) }
+    ensures { Finds bytes.now result }
 {
-    let Some((content, len)) = pairs(alloc, &bytes[2..])? else {
-        return Ok(None);
-    };
-    Ok(Some((Token::Bytes(content), len + 2)))
+    let end = pairs_end(&bytes[2..])?;
+    match str::from_utf8(&bytes[2..end + 1]) {
+        Ok(written) => Some((Token::Bytes(written), end + 2)),
+        Err(_) => None,
+    }
 }
 
-/// Reads characters up to a quote, their escapes read.
-fn characters(alloc: Global, bytes: &[u8]) -> Result<Option<(ByteString, usize)>, Memory>
-    ensures { IfOk result (λ found. FindsQuoted escaped IsTextByte bytes.now (option_map (λ f. (f.0.bytes, f.1)) found)) }
+/// Where the quote behind characters ends.
+fn characters_end(bytes: &[u8]) -> Option<usize>
+    ensures { FindsQuoted escaped IsTextByte bytes.now result }
 {
-    let mut content = ByteString::new(alloc);
     let mut at = 0;
-    while let Some((byte, len)) = character_at(&bytes[at..]) {
-        content.push(byte)?;
+    while let Some((_, len)) = character_at(&bytes[at..]) {
         at += len;
     }
     if begins_with_quote(&bytes[at..]) {
-        Ok(Some((content, at + 1)))
+        Some(at + 1)
     } else {
-        Ok(None)
+        None
     }
 }
 
@@ -77,20 +72,18 @@ fn escape_at(bytes: &[u8]) -> Option<u8>
     }
 }
 
-/// Reads pairs of digits of base 16 up to a quote.
-fn pairs(alloc: Global, bytes: &[u8]) -> Result<Option<(ByteString, usize)>, Memory>
-    ensures { IfOk result (λ found. FindsQuoted hex_pair IsByte bytes.now (option_map (λ f. (f.0.bytes, f.1)) found)) }
+/// Where the quote behind pairs of digits of base 16 ends.
+fn pairs_end(bytes: &[u8]) -> Option<usize>
+    ensures { FindsQuoted hex_pair IsByte bytes.now result }
 {
-    let mut content = ByteString::new(alloc);
     let mut at = 0;
-    while let Some((byte, len)) = pair_at(&bytes[at..]) {
-        content.push(byte)?;
+    while let Some((_, len)) = pair_at(&bytes[at..]) {
         at += len;
     }
     if begins_with_quote(&bytes[at..]) {
-        Ok(Some((content, at + 1)))
+        Some(at + 1)
     } else {
-        Ok(None)
+        None
     }
 }
 

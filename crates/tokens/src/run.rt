@@ -13,26 +13,31 @@ use crate::form::is_name_byte;
 use mk_value::Name;
 
 /// The word or the number that is the whole run at the front of the bytes, and its length.
-pub(crate) fn run_token(bytes: &[u8]) -> Option<(Token, usize)>
+pub(crate) fn run_token(bytes: &[u8]) -> Option<(Token<'_>, usize)>
     requires { form_at bytes.now ≡ run_form }
     ensures { Finds bytes.now result }
 {
     let len = run_len(bytes);
-    let run = &bytes[..len];
-    if let Some(name) = Name::from_bytes(run) {
-        return Some((Token::Word(name), len));
+    let Ok(run) = str::from_utf8(&bytes[..len]) else {
+        return None;
+    };
+    if Name::is_name(run) {
+        return Some((Token::Word(run), len));
     }
     let number = number_of(run)?;
     Some((Token::Number(number), len))
 }
 
 /// The number that is `-` and the whole run behind it at the front of the bytes, and its length.
-pub(crate) fn negative_token(bytes: &[u8]) -> Option<(Token, usize)>
+pub(crate) fn negative_token(bytes: &[u8]) -> Option<(Token<'_>, usize)>
     requires { form_at bytes.now ≡ negative_form }
     ensures { Finds bytes.now result }
 {
     let len = 1 + run_len(&bytes[1..]);
-    let number = number_of(&bytes[..len])?;
+    let Ok(run) = str::from_utf8(&bytes[..len]) else {
+        return None;
+    };
+    let number = number_of(run)?;
     Some((Token::Number(number), len))
 }
 
@@ -48,14 +53,11 @@ fn run_len(bytes: &[u8]) -> usize
     len
 }
 
-/// The number that the bytes spell. Each number has one spelling: what is read is written again and compared.
-fn number_of(bytes: &[u8]) -> Option<i64>
-    ensures some { IfSome result (λ number. FitsSigned w64 number × (bytes.now ≡ signed_decimal number)) }
-    ensures none { IfNone result ((number : ℤ) → FitsSigned w64 number → bytes.now ≡ signed_decimal number → ⊥) }
+/// The number that a text spells. Each number has one spelling: what is read is written again and compared.
+fn number_of(text: &str) -> Option<i64>
+    ensures some { IfSome result (λ number. FitsSigned w64 number × (text.now ≡ signed_decimal number)) }
+    ensures none { IfNone result ((number : ℤ) → FitsSigned w64 number → text.now ≡ signed_decimal number → ⊥) }
 {
-    let Ok(text) = str::from_utf8(bytes) else {
-        return None;
-    };
     let Ok(number) = text.parse::<i64>() else {
         return None;
     };

@@ -6,11 +6,11 @@ ghost use Rattle.mk_value.specs.Tokens.{Token as plain_token, number as plain_nu
 ghost use Rattle.tokens.specs.Meanings.{byte_of, token_of, tokens_of_pieces};
 ghost use Rattle.tokens.specs.Standing.{Stands};
 
-use crate::{Piece, Sign, Token};
+use crate::{Piece, Sign, Token, count_of, name_of};
 use mk_value::Name;
 
 /// The token at a place.
-pub(crate) fn token_of(pieces: &[Piece], at: usize) -> Option<&Token>
+pub(crate) fn token_of<'p, 'a>(pieces: &'p [Piece<'a>], at: usize) -> Option<&'p Token<'a>>
     ensures some { IfSome result (λ token. Stands (tokens_of_pieces pieces.now) at (token_of token.now)) }
     ensures within { IfSome result (λ token. at < length pieces.now) }
     ensures none { IfNone result (length pieces.now ≤ at) }
@@ -23,7 +23,7 @@ pub(crate) fn token_of(pieces: &[Piece], at: usize) -> Option<&Token>
 }
 
 /// Whether the sign stands at a place.
-pub(crate) fn is_sign_at(pieces: &[Piece], at: usize, sign: Sign) -> bool
+pub(crate) fn is_sign_at(pieces: &[Piece<'_>], at: usize, sign: Sign) -> bool
     ensures stands { IsTrue result ↔ Stands (tokens_of_pieces pieces.now) at (plain_sign (byte_of sign)) }
     ensures within { IsTrue result → at < length pieces.now }
 {
@@ -33,32 +33,22 @@ pub(crate) fn is_sign_at(pieces: &[Piece], at: usize, sign: Sign) -> bool
     }
 }
 
-/// The word at a place, if one stands there.
-pub(crate) fn word_at(pieces: &[Piece], at: usize) -> Option<&Name>
-    ensures some { IfSome result (λ name. Stands (tokens_of_pieces pieces.now) at (plain_word name.now)) }
-    ensures name { IfSome result (λ name. IsName name.now) }
+/// The name at a place, if one stands there.
+pub(crate) fn word_at(pieces: &[Piece<'_>], at: usize) -> Option<Name>
+    ensures some { IfSome result (λ name. Stands (tokens_of_pieces pieces.now) at (plain_word name)) }
+    ensures name { IfSome result IsName }
     ensures within { IfSome result (λ name. at < length pieces.now) }
-    ensures none { IfNone result ((name : List ℕ) → Stands (tokens_of_pieces pieces.now) at (plain_word name) → ⊥) }
+    ensures none { IfNone result ((name : List ℕ) → IsName name → Stands (tokens_of_pieces pieces.now) at (plain_word name) → ⊥) }
 {
-    match token_of(pieces, at)? {
-        Token::Word(name) => {
-            // A name is whole, as its bytes say.
-            let _bytes = name.as_bytes();
-            Some(name)
-        }
-        _ => None,
-    }
+    name_of(token_of(pieces, at)?)
 }
 
 /// The number without a sign at a place, if one stands there.
-pub(crate) fn row_at(pieces: &[Piece], at: usize) -> Option<u64>
+pub(crate) fn row_at(pieces: &[Piece<'_>], at: usize) -> Option<u64>
     ensures some { IfSome result (λ row. Stands (tokens_of_pieces pieces.now) at (plain_number (pos row))) }
     ensures small { IfSome result (λ row. row < 2 ^ 63) }
     ensures within { IfSome result (λ row. at < length pieces.now) }
     ensures none { IfNone result ((row : ℕ) → Stands (tokens_of_pieces pieces.now) at (plain_number (pos row)) → ⊥) }
 {
-    match token_of(pieces, at)? {
-        Token::Number(number) if *number >= 0 => Some(*number as u64),
-        _ => None,
-    }
+    count_of(token_of(pieces, at)?)
 }

@@ -2,11 +2,11 @@ use Rattle.std.proofs.Common.{◌≤◌, ◌-◌, length, drop}
 use Rattle.tokens.proofs.Chains.{Walks}
 use Rattle.tokens.proofs.cutting.cut.Given as goal
 
-abbrev pub invariant-loop-pieces : goal.invariant-loop-pieces
-invariant-loop-pieces l = record {
+abbrev pub invariant-pieces : goal.invariant-pieces
+invariant-pieces l = record {
   within : l.end ≤ length l.bytes;
   walked : Walks 0 l.bytes l.pieces l.end (drop l.end l.bytes);
 }
 
-abbrev pub decreases-loop-pieces : goal.decreases-loop-pieces
-decreases-loop-pieces l = length l.bytes - l.end
+abbrev pub decreases-pieces : goal.decreases-pieces
+decreases-pieces l = length l.bytes - l.end

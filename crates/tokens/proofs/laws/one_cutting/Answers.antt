@@ -1,4 +1,4 @@
-use Rattle.tokens.proofs.Chains.{cut_once, flawed_once, cut_or_flawed}
+use Rattle.tokens.proofs.Chains.{cut_once, cut_or_flawed, cut_up_to_once, flawed_once}
 use Rattle.tokens.proofs.laws.one_cutting.Goals as goal
 
 pub returns-clause-one_cutting : goal.returns-clause-one_cutting
@@ -9,3 +9,6 @@ returns-clause-one_flaw c = λ content one two h k. flawed_once 0 content h.0 k.
 
 pub returns-clause-not_both : goal.returns-clause-not_both
 returns-clause-not_both c = λ content pieces flaw h k. cut_or_flawed 0 content pieces k.0 flaw h k.1
+
+pub returns-clause-one_front : goal.returns-clause-one_front
+returns-clause-one_front c = cut_up_to_once

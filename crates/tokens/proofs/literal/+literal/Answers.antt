@@ -1,10 +1,9 @@
 -- Each level reads its part, or stops where that does.
-use Rattle.std.proofs.Common.{◌≡◌, ◌+◌, ◌≤◌, ◌<◌, length, ap, sym, ◌∙◌, arith}
+use Rattle.std.proofs.Common.{◌+◌, sym, ◌∙◌, arith}
 use Rattle.std.proofs.lemmas.Bool.{true≢false}
-use Rattle.std.proofs.lemmas.List.{length-map}
 use Rattle.std.proofs.lemmas.Result.{IfErr-weaker, err_from_is_err_and}
 use Rattle.mk_value.specs.LiteralValues.{literal_of}
-use Rattle.tokens.specs.Meanings.{token_of, tokens_of_pieces}
+use Rattle.tokens.specs.Meanings.{tokens_of_pieces}
 use Rattle.tokens.specs.Parts.{RowIn, RowsIn, SomeRowsIn, StopsAt, ValuesIn}
 use Rattle.tokens.proofs.Levels.{brace_inside, brace_too_deep, row_inside_at, row_unopened_at, rows_close, rows_further, rows_inside_at, rows_item, rows_next, rows_stuck, value_close, value_further, value_item, value_next, value_stuck}
 use Rattle.tokens.proofs.literal.+literal.Goals as goal

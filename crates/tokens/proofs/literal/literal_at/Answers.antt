@@ -4,7 +4,6 @@ use Rattle.tokens.specs.Fronts.{Stops}
 use Rattle.tokens.specs.Literals.{LiteralTokens, max_braces}
 use Rattle.tokens.specs.Meanings.{tokens_of_pieces}
 use Rattle.tokens.specs.Parts.{LiteralIn, StopsAt}
-use Rattle.tokens.specs.declared.error.PartError.{PartError}
 use Rattle.tokens.specs.declared.error.PartError.TheVariants.{Memory, Stuck}
 use Rattle.tokens.proofs.Levels.{literal_stops}
 use Rattle.tokens.proofs.literal.literal_at.Goals as goal

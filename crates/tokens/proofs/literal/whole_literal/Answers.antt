@@ -1,13 +1,10 @@
 -- Behind a whole literal nothing may stand, and where reading stopped nothing can go on.
-use Rattle.std.proofs.Common.{◌≡◌, ◌⊎◌, ◌<◌, ◌≤◌, ℕ, length, take, map, get_or, ap, sym, subst, ◌∙◌, arith, inl, inr, refl}
-use Rattle.std.proofs.lemmas.List.{length-map, get_or-map}
+use Rattle.std.proofs.Common.{inl, inr, refl}
 use Rattle.mk_value.specs.LiteralValues.{literal_of}
-use Rattle.tokens.specs.Fronts.{Stops, tokens_in}
 use Rattle.tokens.specs.Literals.{LiteralTokens}
-use Rattle.tokens.specs.Meanings.{piece_of, pieces_of, tokens_of_pieces}
-use Rattle.tokens.specs.declared.token.Piece as program
+use Rattle.tokens.specs.Meanings.{tokens_of_pieces}
 use Rattle.tokens.proofs.Levels.{literal_tokens_free, stopped_at}
-use Rattle.tokens.proofs.Wholes.{tokens_in_pieces, piece_stuck_wrong, piece_more_wrong, pieces_stuck_early}
+use Rattle.tokens.proofs.Wholes.{piece_stuck_wrong, piece_more_wrong, pieces_stuck_early}
 use Rattle.tokens.proofs.literal.whole_literal.Goals as goal
 
 pub returns-then-len-pieces-clause-wrong : goal.returns-then-len-pieces-clause-wrong

@@ -1,5 +1,5 @@
 -- What was read so far is a path, and reading stops where its next step does.
-use Rattle.std.proofs.Common.{◌≡◌, ◌≤◌, ◌+◌, length, inl, inr, refl, sym, ◌∙◌, arith, ⊎_elim}
+use Rattle.std.proofs.Common.{◌≤◌, ◌+◌, length, inl, inr, refl, sym, ◌∙◌, arith, ⊎_elim}
 use Rattle.std.proofs.lemmas.Bool.{true≢false}
 use Rattle.std.proofs.lemmas.List.{length-map}
 use Rattle.std.proofs.lemmas.Result.{err_from_is_err_and}
@@ -14,7 +14,7 @@ returns-in_default-clause-stuck c = inr (0, refl, no_path (tokens_of_pieces c.ar
 
 pub returns-in_err-step-clause-stuck : goal.returns-in_err-step-clause-stuck
 returns-in_err-step-clause-stuck c =
-    let p = err_from_is_err_and c.from_residual-in_err-step.result c.from_residual-in_err-step.ensures.1 in
+    let p = err_from_is_err_and c.from_residual.result c.from_residual.ensures.1 in
     let long = length-map c.args.pieces.now (λ p. token_of p.token) in
     let within : c.loop-path.at ≤ length (tokens_of_pieces c.args.pieces.now) = omega (arith, long, c.loop-path.invariant.within) in
     rw (p.1, p.2) (⊎_elim (λ m. inl m)

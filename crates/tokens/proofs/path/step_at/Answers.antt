@@ -1,5 +1,5 @@
 -- Each place at which a step may stop.
-use Rattle.std.proofs.Common.{◌≡◌, inl, inr, refl, sym, ◌∙◌}
+use Rattle.std.proofs.Common.{inr, refl, sym, ◌∙◌}
 use Rattle.std.proofs.lemmas.Bool.{true≢false}
 use Rattle.tokens.specs.Meanings.{tokens_of_pieces}
 use Rattle.tokens.proofs.Routes.{stuck_row, stuck_slash, stuck_prop}

@@ -1,29 +1,31 @@
--- What stands behind the quote is a text up to another, or none.
-use Rattle.std.proofs.Common.{◌≡◌, ◌-◌, ◌∷◌, List, ℕ, length, take, drop, ap, subst, sym, ◌∙◌}
-use Rattle.std.proofs.lemmas.Bool.{false≢true}
+-- What stands behind the quote spells a text up to another, or nothing does.
+use Rattle.std.proofs.Common.{◌≡◌, ◌+◌, ◌≤◌, length, drop, ap, subst, sym, ◌∙◌, Some}
 use Rattle.std.proofs.lemmas.List.{take_rest}
-use Rattle.std.proofs.lemmas.Str.{IsUtf8-string_bytes}
 use Rattle.std.specs.Str.{IsUtf8}
+use Rattle.mk_value.specs.Tokens.{escaped, text}
+use Rattle.tokens.specs.Cutting.{Begins}
+use Rattle.tokens.specs.Finding.{FindsQuoted, IsTextByte}
+use Rattle.tokens.specs.Meanings.{characters_of}
+use Rattle.tokens.proofs.Decoded.{IsUtf8-escaped, IsUtf8-from_escaped, characters-escaped}
 use Rattle.tokens.proofs.Findings.{text_found, text_nothing, text_not_utf8}
 use Rattle.tokens.proofs.quoted.text_token.Goals as goal
 
-pub returns-in_default : goal.returns-in_default
-returns-in_default c =
-    let whole = take_rest c.args.bytes.now 1 in
-    let none = rw (c.in_default.is, whole) at c.in_ok-content.ensures in
-    text_nothing c.args.bytes.now c.requires none
+pub returns-in_err-end : goal.returns-in_err-end
+returns-in_err-end c =
+    let none = rw take_rest at c.in_err-end.ensures in
+    rw c.from_residual.ensures (text_nothing c.args.bytes.now c.requires none)
 
 pub returns-in-Ok : goal.returns-in-Ok
 returns-in-Ok c =
-    let whole = take_rest c.args.bytes.now 1 in
-    let some = rw (c.in-Some.is, whole) at c.in_ok-content.ensures in
-    let held : c.from.result.bytes ≡ c.in-Some.content.bytes = c.from.ensures ∙ ap (λ v. v.items) c.in-Ok.ensures.ok ∙ c.into_vec.ensures in
-    let utf8 = subst IsUtf8 (sym c.from.ensures ∙ held) (IsUtf8-string_bytes c.in-Ok.string) in
-    rw held (text_found c.args.bytes.now c.requires c.in-Some.content.bytes c.in-Some.len some.0 utf8 some.1 some.2)
+    let found = subst (λ x. FindsQuoted escaped IsTextByte x (Some c.in_ok-end.end)) (take_rest c.args.bytes.now 1) c.in_ok-end.ensures in
+    let written = c.in-Ok.ensures.cases in
+    let same : characters_of c.in-Ok.written.now ≡ found.0 = ap characters_of (written.0 ∙ found.5) ∙ characters-escaped found.0 in
+    let utf8 = IsUtf8-from_escaped found.0 (subst IsUtf8 found.5 written.1) in
+    subst (λ content. (c.in_ok-end.end + 1 ≤ length c.args.bytes.now) × Begins c.args.bytes.now (text content) (drop (c.in_ok-end.end + 1) c.args.bytes.now)) (sym same)
+    (text_found c.args.bytes.now c.requires found.0 c.in_ok-end.end found.1 utf8 found.2 found.3)
 
-pub returns : goal.returns
-returns c =
-    let whole = take_rest c.args.bytes.now 1 in
-    let some = rw (c.in-Some.is, whole) at c.in_ok-content.ensures in
-    text_not_utf8 c.args.bytes.now c.requires c.in-Some.content.bytes (drop c.in-Some.len (drop 1 c.args.bytes.now)) some.1 some.2
-    (λ utf8. false≢true (c.in-Err.ensures.succeeds (subst IsUtf8 (sym c.into_vec.ensures) utf8)))
+pub returns-in-Err : goal.returns-in-Err
+returns-in-Err c =
+    let found = subst (λ x. FindsQuoted escaped IsTextByte x (Some c.in_ok-end.end)) (take_rest c.args.bytes.now 1) c.in_ok-end.ensures in
+    text_not_utf8 c.args.bytes.now c.requires found.0 (drop c.in_ok-end.end (drop 1 c.args.bytes.now)) found.2 found.3
+    (λ utf8. c.in-Err.ensures.cases.0 (subst IsUtf8 (sym found.5) (IsUtf8-escaped found.0 utf8)))

@@ -1,13 +1,16 @@
-use Rattle.std.proofs.Common.{refl}
-use Rattle.cmd_text.specs.Forms.{name}
-use Rattle.cmd_text.proofs.Taking.{takes_name, refuses_name, refuses_end}
+use Rattle.std.proofs.Common.{[], ◌∷◌, length, refl, sym, ap, subst}
+use Rattle.std.proofs.lemmas.List.{take_rest}
+use Rattle.mk_value.specs.Tokens.{word}
+use Rattle.cmd_text.specs.Forms.{Takes, name}
+use Rattle.cmd_text.proofs.Taking.{takes_name, refuses_name, none_first, refuses_end, rest_at, same_single, some_first}
 use Rattle.cmd_text.proofs.reader.Reader.name.Goals as goal
 
 pub returns-in_default-clause-refused : goal.returns-in_default-clause-refused
-returns-in_default-clause-refused c = refuses_end name _ _ c.in_default.ensures.cases
+returns-in_default-clause-refused c = refuses_end name _ _ (ap length (none_first _ c.in_default.ensures.value))
 
 pub returns-in_default-name_of-clause-refused : goal.returns-in_default-name_of-clause-refused
-returns-in_default-name_of-clause-refused c = refuses_name _ _ _ _ c.in-Some.ensures.cases.0 (c.in_default-name_of.ensures.none refl)
+returns-in_default-name_of-clause-refused c = refuses_name _ _ _ _ (some_first _ _ c.in-Some.ensures.value) (λ h. c.in_default-name_of.ensures.none refl h.0 h.1.0 (same_single _ _ h.1.1))
 
 pub returns-clause-takes : goal.returns-clause-takes
-returns-clause-takes c = takes_name _ _ _ _ _ c.in-Some.ensures.cases.0 c.in-Some-name_of.ensures.some.0 c.in-Some-name_of.ensures.some.1
+returns-clause-takes c = subst (λ ps. Takes name (word c.in-Some-name_of.name ∷ []) (rest_at c.args.self.now.end c.args.self.now.rest.now) (rest_at c.args.self.now.end ps)) (sym (take_rest c.args.self.now.rest.now 1))
+    (takes_name _ _ _ _ _ (some_first _ _ c.in-Some.ensures.value) c.in-Some-name_of.ensures.some.0 c.in-Some-name_of.ensures.some.1)

@@ -1,0 +1,11 @@
+use Rattle.std.proofs.Common.{length, ◌-◌}
+use Rattle.mk_value.specs.Tokens.{escaped}
+use Rattle.tokens.specs.Finding.{IsTextByte}
+use Rattle.tokens.proofs.Quotes.{SpelledTo}
+use Rattle.tokens.proofs.quoted.characters_end.Given as goal
+
+abbrev pub invariant-loop-len : goal.invariant-loop-len
+invariant-loop-len l = SpelledTo escaped IsTextByte l.bytes l.at
+
+abbrev pub decreases-loop-len : goal.decreases-loop-len
+decreases-loop-len l = length l.bytes - l.at
