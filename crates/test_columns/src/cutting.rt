@@ -3,7 +3,7 @@
 //! What is expected is counted by hand.
 ghost use Rattle.std.specs.Prelude.{◌+◌, ◌≤◌, length};
 
-use segments::{Splice, Segments, Replaced, replace_parts};
+use segments::{Replaced, Segments, Splice, replace_parts};
 use std::process::Abort;
 use std::test::Fail;
 

@@ -1,7 +1,7 @@
 //! Packed integers: worked rows, each expected value computed by hand.
 use bit_pack::{
-    Bytes, PackError, Values, Width, check, get, is_least, least_width, pack, pack_into, put, unpack,
-    unpack_into, width_for,
+    Bytes, PackError, Values, Width, check, get, is_least, least_width, pack, pack_into, put,
+    unpack, unpack_into, width_for,
 };
 use std::process::Abort;
 

@@ -32,7 +32,10 @@ fn a_line_too_long_is_answered_once(rt: HostRuntime) -> Result<(), Fail> {
         let line = line_of(rt.alloc(), count, after)?;
         let (end, said) = run(rt.alloc(), line.as_slice(), None, 0, MAX_BUDGET)?;
         assert_eq!(rt; end, End::Done, "before {after:?}");
-        assert!(rt; said.as_slice() == want.unwrap_or(line.as_slice()), "before {after:?}");
+        assert!(rt;
+            said.as_slice() == want.unwrap_or(line.as_slice()),
+            "before {after:?}"
+        );
     }
     Ok(())
 }

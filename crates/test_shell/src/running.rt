@@ -25,7 +25,9 @@ type Case = (
 );
 
 const RIGHT: &[&str] = &["mkshell", "f"];
+
 const QUIT: &[u8] = b"quit\n";
+
 const USAGE: &[u8] =
     b"usage mkshell [--cap N] [--extend] [--read] [--check] [--sample X --count N] FILE\n";
 
@@ -33,6 +35,7 @@ const USAGE: &[u8] =
 const NEVER: u64 = u64::MAX;
 
 const CUT: &[u8] = b"getas a[x:I]\n\n  getas  b[s[t:S]] \nadd a 1\n\xff\nquit";
+
 const SAID: &[u8] = b"ok mkshell 0\nok a[x:I]\nok b[s[t:S]]\nok 0\nerr 2 syntax 0\nok quit\n";
 
 const CASES: [Case; 15] = [
@@ -97,8 +100,16 @@ fn each_status_has_its_words(rt: HostRuntime) -> Result<(), Fail> {
     for case in &CASES {
         let (_, _, input, fails, most, status, said) = *case;
         let (ended, spoke) = run_over(rt.alloc(), case)?;
-        assert_eq!(rt; ended, status, "on {input:?}, call {fails}, pieces of {most}");
-        assert_eq!(rt; spoke.as_slice(), said, "on {input:?}, call {fails}, pieces of {most}");
+        assert_eq!(rt;
+            ended,
+            status,
+            "on {input:?}, call {fails}, pieces of {most}"
+        );
+        assert_eq!(rt;
+            spoke.as_slice(),
+            said,
+            "on {input:?}, call {fails}, pieces of {most}"
+        );
     }
     Ok(())
 }

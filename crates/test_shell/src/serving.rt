@@ -4,16 +4,10 @@ use lines::End;
 use std::test::Fail;
 
 /// The input, the call that fails, the most bytes of a piece, the budget; how it ends, and what was said.
-type Case = (
-    &'static [u8],
-    Option<u64>,
-    usize,
-    u64,
-    End,
-    &'static [u8],
-);
+type Case = (&'static [u8], Option<u64>, usize, u64, End, &'static [u8]);
 
 const CUT: &[u8] = b"one\n\ntwo three\n four\nlast";
+
 const SAID: &[u8] = b"one\ntwo three\n four\nlast\n";
 
 const CASES: [Case; 18] = [

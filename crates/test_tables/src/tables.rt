@@ -2,8 +2,8 @@
 ghost use Rattle.std.specs.Prelude.{◌<◌, length};
 
 use mk_value::{
-    Kind, MAX_VIEWS, Memory, Name, Path, Row, Rows, Schema, TableRead, Text, Value, print_value, rows_fit,
-    to_value,
+    Kind, MAX_VIEWS, Memory, Name, Path, Row, Rows, Schema, TableRead, Text, Value, print_value,
+    rows_fit, to_value,
 };
 use std::alloc::Global;
 use std::test::Fail;
