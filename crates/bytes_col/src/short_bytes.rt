@@ -9,6 +9,7 @@ use std::marker::Model;
 /// What is still to be written of the short values of a column, joined. A caller sees the bytes to come.
 ///
 /// It keeps the row that it has come to, so that the pieces together cost about what one piece costs.
+#[derive(Drop)]
 pub struct ShortBytes<'a> {
     chunks: &'a Chunked,
     row: usize,

@@ -10,6 +10,7 @@ use std::marker::Model;
 /// What is still to be written of the packed bytes of a column. A caller sees the bytes to come.
 ///
 /// The width is looked up once, so that the pieces together cost about what one piece costs.
+#[derive(Drop)]
 pub struct PackedBytes<'a> {
     segments: &'a Segmented,
     width: Width,

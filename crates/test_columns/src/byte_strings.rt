@@ -32,67 +32,7 @@ fn holds<R: Abort>(rt: &R, column: &BytesCol, at: usize, want: &[u8]) -> Result<
     assert!(rt; at < column.len());
     let value = column.get(at)?;
     assert!(rt; value.as_slice() == want, "at {at}");
-    Ok(())
-}
-
-/// Values of 0, 1, 512 and 513 bytes.
-#[test]
-fn values(rt: HostRuntime) -> Result<(), Fail> {
-    let column = of_all_sizes(rt.alloc())?;
-    assert!(rt; column.len() == 4 && !column.is_empty());
-    holds(&rt, &column, 0, b"")?;
-    holds(&rt, &column, 1, b"b")?;
-    holds(&rt, &column, 2, &SHORT)?;
-    holds(&rt, &column, 3, &MEMO)
-}
-
-/// The sizes, and what they tell: 1 and 512 bytes are short, 513 a memo.
-#[test]
-fn sizes(rt: HostRuntime) -> Result<(), Fail> {
-    let column = of_all_sizes(rt.alloc())?;
-    let sizes = column.sizes();
-    assert!(rt; sizes.len() == 4);
-    assert!(rt; sizes.get(0) == 0 && sizes.get(2) == 512 && sizes.get(3) == 513);
-    assert!(rt; column.short_len() == 513);
-    let rows = column.memo_rows(rt.alloc())?;
-    assert!(rt; rows.as_slice() == [3].as_slice());
-    Ok(())
-}
-
-/// The short values joined are b and then c 512 times.
-#[test]
-fn fills_short(rt: HostRuntime) -> Result<(), Fail> {
-    let column = of_all_sizes(rt.alloc())?;
-    let mut bytes = [0; 2];
-    assert!(rt; column.short_len() == 513);
-    column.fill_short(0, &mut bytes);
-    assert!(rt; bytes == *b"bc");
-    column.fill_short(511, &mut bytes);
-    assert!(rt; bytes == *b"cc");
-    Ok(())
-}
-
-/// The last two bytes of the memo.
-#[test]
-fn fills_memo(rt: HostRuntime) -> Result<(), Fail> {
-    let column = of_all_sizes(rt.alloc())?;
-    assert!(rt; column.len() == 4);
-    assert!(rt; column.get(3)?.len() == 513);
-    let mut bytes = [0; 2];
-    column.fill_memo(3, 511, &mut bytes);
-    assert!(rt; bytes == *b"dd");
-    Ok(())
-}
-
-/// The first byte that differs decides, and a proper prefix is less.
-#[test]
-fn order(rt: HostRuntime) -> Result<(), Fail> {
-    let column = of_all_sizes(rt.alloc())?;
-    assert!(rt; column.len() == 4);
-    assert!(rt; column.cmp_at(0, 1) == Ordering::Less);
-    assert!(rt; column.cmp_at(3, 2) == Ordering::Greater);
-    assert!(rt; column.cmp_with(1, b"bb") == Ordering::Less);
-    assert!(rt; column.cmp_with(1, b"b") == Ordering::Equal);
+    assert!(rt; column.value(at) == want, "at {at}");
     Ok(())
 }
 
@@ -116,14 +56,68 @@ fn differs_at_each_place<R: Abort>(rt: &R, column: &BytesCol, text: &mut [u8]) -
     Ok(())
 }
 
-/// One byte decides, wherever it stands in the blocks in which texts are compared.
+/// Asserts that the short bytes come in pieces: half of them at once, and then one by one.
+fn comes_in_pieces<R: Abort>(rt: &R, column: &BytesCol, want: &[u8]) {
+    let mut bytes = column.short();
+    assert!(rt; bytes.len() == want.len());
+    let half = want.len() / 2;
+    let mut front = [0u8; 4096];
+    assert!(rt; half <= 4096);
+    bytes.fill(&mut front[..half]);
+    assert!(rt; front[..half] == want[..half]);
+    for byte in &want[half..] {
+        let mut next = [0];
+        assert!(rt; !bytes.is_empty());
+        bytes.fill(&mut next);
+        assert!(rt; next[0] == *byte);
+    }
+    assert!(rt; bytes.is_empty());
+}
+
+/// Values of 0, 1, 512 and 513 bytes: what they are, their blocks, and their order. The short ones joined are b and then c 512 times; the
+/// last is a memo.
 #[test]
-fn order_by_one_byte(rt: HostRuntime) -> Result<(), Fail> {
+fn worked_values(rt: HostRuntime) -> Result<(), Fail> {
+    let none = BytesCol::from_values(rt.alloc(), &[], None)?;
+    assert!(rt; none.is_empty() && none.short_len() == 0);
+    comes_in_pieces(&rt, &none, b"");
+
+    let column = of_all_sizes(rt.alloc())?;
+    assert!(rt; column.len() == 4 && !column.is_empty());
+    holds(&rt, &column, 0, b"")?;
+    holds(&rt, &column, 1, b"b")?;
+    holds(&rt, &column, 2, &SHORT)?;
+    holds(&rt, &column, 3, &MEMO)?;
+
+    let sizes = column.sizes();
+    assert!(rt; sizes.len() == 4);
+    assert!(rt; sizes.get(0) == 0 && sizes.get(2) == 512 && sizes.get(3) == 513);
+    let rows = column.memo_rows(rt.alloc())?;
+    assert!(rt; rows.as_slice() == [3].as_slice());
+    let mut bytes = [0; 2];
+    assert!(rt; column.short_len() == 513);
+    column.fill_short(0, &mut bytes);
+    assert!(rt; bytes == *b"bc");
+    column.fill_short(511, &mut bytes);
+    assert!(rt; bytes == *b"cc");
+    let mut short = [b'c'; 513];
+    short[0] = b'b';
+    comes_in_pieces(&rt, &column, &short);
+    assert!(rt; column.len() == 4);
+    assert!(rt; column.get(3)?.len() == 513);
+    column.fill_memo(3, 511, &mut bytes);
+    assert!(rt; bytes == *b"dd");
+
+    assert!(rt; column.cmp_at(0, 1) == Ordering::Less);
+    assert!(rt; column.cmp_at(3, 2) == Ordering::Greater);
+    assert!(rt; column.cmp_with(1, b"bb") == Ordering::Less);
+    assert!(rt; column.cmp_with(1, b"b") == Ordering::Equal);
+    // One byte decides, wherever it stands in the blocks in which texts are compared.
     for len in [1, 31, 32, 33, 63, 64, 65, 100, 513] {
         let mut text = vec![in rt.alloc(); b'm'; len]?;
         let value = Bytes::from_slice(rt.alloc(), &text)?;
-        let column = BytesCol::from_values(rt.alloc(), &[value], None)?;
-        differs_at_each_place(&rt, &column, &mut text)?;
+        let one = BytesCol::from_values(rt.alloc(), &[value], None)?;
+        differs_at_each_place(&rt, &one, &mut text)?;
     }
     Ok(())
 }
@@ -155,17 +149,6 @@ fn set_two<R: Abort>(
     hold(rt, copy, &[b"", b"b", &SHORT, &MEMO, &MEMO, &MEMO])
 }
 
-/// A value is set to others of its size, and each other value stays: those beside it, a memo that shares its bytes, and those of a copy.
-#[test]
-fn set_to_the_same_size(rt: HostRuntime) -> Result<(), Fail> {
-    let mut column = of_all_sizes(rt.alloc())?;
-    assert!(rt; column.len() == 4);
-    column.insert(4, &MEMO, 2)?;
-    let copy = column.same()?;
-    set_two(&rt, &mut column, &copy, b"x")?;
-    set_two(&rt, &mut column, &copy, b"w")
-}
-
 /// A home whose one memo stands at a place.
 fn home(alloc: Global, place: u64) -> Result<BytesHome, Fail> {
     let memo = Span { place, len: 513 };
@@ -177,28 +160,6 @@ fn home(alloc: Global, place: u64) -> Result<BytesHome, Fail> {
     })
 }
 
-/// A copy of a home names the same blocks, and its memos are a list of its own.
-#[test]
-fn home_copied(rt: HostRuntime) -> Result<(), Fail> {
-    let first = home(rt.alloc(), 208)?;
-    let mut copy = first.copy(rt.alloc())?;
-    assert!(rt; copy.sizes == Span { place: 192, len: 9 } && copy.short == copy.sizes);
-    assert!(rt;
-        copy.memos.as_slice()
-            == [Span {
-                place: 208,
-                len: 513
-            }]
-            .as_slice()
-    );
-    copy.memos.push(Span {
-        place: 736,
-        len: 600,
-    })?;
-    assert!(rt; first.memos.len() == 1 && copy.memos.len() == 2);
-    Ok(())
-}
-
 /// Asserts that the column's home has its one memo at a place.
 fn stands<R: Abort>(rt: &R, column: &BytesCol, place: u64) {
     match column.home() {
@@ -207,21 +168,41 @@ fn stands<R: Abort>(rt: &R, column: &BytesCol, place: u64) {
     }
 }
 
-/// An edit of no values keeps the home, any other takes it, and a copy keeps its home and its values.
+/// What edits leave: an edit of no values keeps the home, any other takes it, and copies keep their homes and values. A value that is set to
+/// others of its size leaves each other as it was: those beside it, a memo that shares its bytes, and those of a copy.
 #[test]
-fn homes(rt: HostRuntime) -> Result<(), Fail> {
+fn homes_and_copies(rt: HostRuntime) -> Result<(), Fail> {
+    let first = home(rt.alloc(), 208)?;
+    let mut other = first.copy(rt.alloc())?;
+    assert!(rt; other.sizes == Span { place: 192, len: 9 } && other.short == other.sizes);
+    other.memos.push(Span {
+        place: 736,
+        len: 600,
+    })?;
+    assert!(rt; first.memos.len() == 1 && other.memos.len() == 2);
+
     let mut column = of_all_sizes(rt.alloc())?;
-    column.settle(home(rt.alloc(), 208)?);
+    column.settle(first);
     column.insert(2, b"x", 0)?;
     assert!(rt; column.len() == 4);
     column.remove(1, 0)?;
     stands(&rt, &column, 208);
     let copy = column.same()?;
+    let copy = copy.same()?;
+    let bare = copy.unplaced()?;
     assert!(rt; column.len() == 4);
     column.set(1, b"other")?;
-    assert!(rt; column.home().is_none());
+    assert!(rt; column.home().is_none() && bare.home().is_none());
     stands(&rt, &copy, 208);
-    holds(&rt, &copy, 1, b"b")
+    holds(&rt, &copy, 1, b"b")?;
+    holds(&rt, &bare, 1, b"b")?;
+
+    let mut column = of_all_sizes(rt.alloc())?;
+    assert!(rt; column.len() == 4);
+    column.insert(4, &MEMO, 2)?;
+    let copy = column.same()?;
+    set_two(&rt, &mut column, &copy, b"x")?;
+    set_two(&rt, &mut column, &copy, b"w")
 }
 
 /// A list of copies of a value.
@@ -319,6 +300,12 @@ fn compare_short<R: Abort>(rt: &R, column: &BytesCol, plain: &Vec<Bytes>) -> Res
     assert!(rt; bytes == want);
     column.fill_short((len / 2) as u64, &mut bytes[len / 2..]);
     assert!(rt; bytes == want);
+    let mut left = column.short();
+    assert!(rt; left.len() == len);
+    left.fill(&mut bytes[..len / 2]);
+    assert!(rt; left.len() == len - len / 2);
+    left.fill(&mut bytes[len / 2..]);
+    assert!(rt; bytes == want && left.is_empty());
     Ok(())
 }
 

@@ -1,9 +1,9 @@
-//! Segments of at most four items: where each item stands, what a splice touches, and the segments after it.
+//! Segments of at most four items: where each item stands, what an edit replaces, and the segments after it.
 //!
 //! What is expected is counted by hand.
 ghost use Rattle.std.specs.Prelude.{◌+◌, ◌≤◌, length};
 
-use segments::{Replaced, Segments, Splice, replace_parts};
+use segments::{Replaced, Segments, Shared, Splice, replace_parts};
 use std::process::Abort;
 use std::test::Fail;
 
@@ -14,145 +14,85 @@ fn stands<R: Abort>(rt: &R, segments: &Segments<4>, at: usize, segment: usize, o
     assert!(rt; place.segment == segment && place.offset == offset, "{at}");
 }
 
-/// Asserts which segments a splice touches, and what they hold.
-fn touches<R: Abort>(rt: &R, segments: &Segments<4>, splice: Splice, want: Replaced) {
+/// Asserts which segments are replaced where `count` items stand in place of those from `at` up to `end`: those from the first of
+/// `want` up to the second, which hold the items from the third up to the fourth.
+fn replaces<R: Abort>(
+    rt: &R,
+    segments: &Segments<4>,
+    (at, end, count): (usize, usize, usize),
+    (first, after, start, stop): (usize, usize, usize, usize),
+) {
     let len = segments.len();
-    assert!(rt; splice.at <= splice.end && splice.end <= len && len <= 100 && splice.count <= 100);
-    let replaced = segments.replaced(&splice);
-    assert!(rt; replaced.first == want.first && replaced.after == want.after);
-    assert!(rt; replaced.start == want.start && replaced.stop == want.stop);
+    assert!(rt; at <= end && end <= len && len <= 100 && count <= 100);
+    let replaced = segments.replaced(&Splice { at, end, count });
+    assert!(rt;
+        replaced.first == first && replaced.after == after,
+        "{at} {end}"
+    );
+    assert!(rt;
+        replaced.start == start && replaced.stop == stop,
+        "{at} {end}"
+    );
 }
 
+/// Where items stand, and which segments edits replace.
 #[test]
-fn no_segments(rt: HostRuntime) -> Result<(), Fail> {
-    let segments = Segments::from_counts(rt.alloc(), &[])?;
-    assert!(rt; segments.count() == 0 && segments.len() == 0);
-    let splice = Splice {
+fn segments_of_four(rt: HostRuntime) -> Result<(), Fail> {
+    let none = Segments::from_counts(rt.alloc(), &[])?;
+    assert!(rt; none.count() == 0 && none.len() == 0);
+    replaces(&rt, &none, (0, 0, 3), (0, 0, 0, 0));
+
+    let three = Segments::from_counts(rt.alloc(), &[4, 1, 3])?;
+    assert!(rt; three.count() == 3 && three.len() == 8);
+    stands(&rt, &three, 0, 0, 0);
+    stands(&rt, &three, 3, 0, 3);
+    stands(&rt, &three, 4, 1, 0);
+    stands(&rt, &three, 5, 2, 0);
+    stands(&rt, &three, 7, 2, 2);
+    // Items 2 to 5 go: one of each segment is among them.
+    replaces(&rt, &three, (2, 6, 0), (0, 3, 0, 8));
+    // An item before place 4: the segment before is full, and the one behind has one item.
+    replaces(&rt, &three, (4, 4, 1), (1, 2, 4, 5));
+    // An item at the edge of two segments of three and four items fills the first.
+    let room = Segments::from_counts(rt.alloc(), &[3, 4])?;
+    replaces(&rt, &room, (3, 3, 1), (0, 1, 0, 3));
+    // An item behind a full segment, which is the last.
+    let full = Segments::from_counts(rt.alloc(), &[4])?;
+    replaces(&rt, &full, (4, 4, 1), (1, 1, 4, 4));
+
+    let four = three.spliced(1, 2, &[2, 2])?;
+    assert!(rt; four.count() == 4 && four.len() == 11);
+    stands(&rt, &four, 4, 1, 0);
+    stands(&rt, &four, 7, 2, 1);
+    stands(&rt, &four, 8, 3, 0);
+
+    let mut last = Segments::<4>::from_counts(rt.alloc(), &[4, 2])?;
+    let copy = last.clone()?;
+    last.extend_last();
+    last.extend_last();
+    assert!(rt; last.count() == 2 && last.len() == 8 && copy.len() == 6);
+    stands(&rt, &last, 7, 1, 3);
+
+    let mut parts = Vec::from_slice(rt.alloc(), &[1u8, 2, 3, 4])?;
+    replace_parts(&mut parts, 1, 3, Vec::from_slice(rt.alloc(), &[9])?)?;
+    assert!(rt; parts.as_slice() == [1, 9, 4].as_slice());
+    let size = Splice {
         at: 0,
         end: 0,
         count: 3,
     };
-    let none = Replaced {
+    let nothing = Replaced {
         first: 0,
         after: 0,
         start: 0,
         stop: 0,
     };
-    assert!(rt; splice.size_after(&none) == 3);
-    touches(&rt, &segments, splice, none);
-    Ok(())
-}
+    assert!(rt; size.size_after(&nothing) == 3);
 
-#[test]
-fn places(rt: HostRuntime) -> Result<(), Fail> {
-    let segments = Segments::from_counts(rt.alloc(), &[4, 1, 3])?;
-    assert!(rt; segments.count() == 3 && segments.len() == 8);
-    stands(&rt, &segments, 0, 0, 0);
-    stands(&rt, &segments, 3, 0, 3);
-    stands(&rt, &segments, 4, 1, 0);
-    stands(&rt, &segments, 5, 2, 0);
-    stands(&rt, &segments, 7, 2, 2);
-    Ok(())
-}
-
-/// A full segment, and behind it one that has room for two items more.
-#[test]
-fn last_run(rt: HostRuntime) -> Result<(), Fail> {
-    let mut segments = Segments::<4>::from_counts(rt.alloc(), &[4, 2])?;
-    let copy = segments.clone()?;
-    segments.extend_last();
-    segments.extend_last();
-    assert!(rt; segments.count() == 2 && segments.len() == 8);
-    stands(&rt, &segments, 7, 1, 3);
-    assert_eq!(rt; copy.len(), 6);
-    Ok(())
-}
-
-#[test]
-fn edits_of_several_segments(rt: HostRuntime) -> Result<(), Fail> {
-    let segments = Segments::from_counts(rt.alloc(), &[4, 1, 3])?;
-    // Items 2 to 5 go: one of each segment is among them.
-    let splice = Splice {
-        at: 2,
-        end: 6,
-        count: 0,
-    };
-    let all = Replaced {
-        first: 0,
-        after: 3,
-        start: 0,
-        stop: 8,
-    };
-    touches(&rt, &segments, splice, all);
-    // An item before place 4: the segment before is full, and the one behind has one item.
-    let splice = Splice {
-        at: 4,
-        end: 4,
-        count: 1,
-    };
-    let behind = Replaced {
-        first: 1,
-        after: 2,
-        start: 4,
-        stop: 5,
-    };
-    touches(&rt, &segments, splice, behind);
-    Ok(())
-}
-
-/// An item at the edge of two segments of three and four items: it fills the first.
-#[test]
-fn run_before_is_filled(rt: HostRuntime) -> Result<(), Fail> {
-    let segments = Segments::from_counts(rt.alloc(), &[3, 4])?;
-    let splice = Splice {
-        at: 3,
-        end: 3,
-        count: 1,
-    };
-    let before = Replaced {
-        first: 0,
-        after: 1,
-        start: 0,
-        stop: 3,
-    };
-    touches(&rt, &segments, splice, before);
-    Ok(())
-}
-
-/// An item behind a full segment, which is the last.
-#[test]
-fn last_run_is_full(rt: HostRuntime) -> Result<(), Fail> {
-    let segments = Segments::from_counts(rt.alloc(), &[4])?;
-    let splice = Splice {
-        at: 4,
-        end: 4,
-        count: 1,
-    };
-    let none = Replaced {
-        first: 1,
-        after: 1,
-        start: 4,
-        stop: 4,
-    };
-    touches(&rt, &segments, splice, none);
-    Ok(())
-}
-
-#[test]
-fn segments_in_place_of_others(rt: HostRuntime) -> Result<(), Fail> {
-    let segments = Segments::<4>::from_counts(rt.alloc(), &[4, 1, 3])?;
-    let segments = segments.spliced(1, 2, &[2, 2])?;
-    assert!(rt; segments.count() == 4 && segments.len() == 11);
-    stands(&rt, &segments, 4, 1, 0);
-    stands(&rt, &segments, 7, 2, 1);
-    stands(&rt, &segments, 8, 3, 0);
-    Ok(())
-}
-
-#[test]
-fn parts_in_place_of_others(rt: HostRuntime) -> Result<(), Fail> {
-    let mut parts = Vec::from_slice(rt.alloc(), &[1u8, 2, 3, 4])?;
-    replace_parts(&mut parts, 1, 3, Vec::from_slice(rt.alloc(), &[9])?)?;
-    assert!(rt; parts.as_slice() == [1, 9, 4].as_slice());
+    let shared = Shared::of(rt.alloc(), 7u8)?;
+    let mut other = shared.clone()?;
+    assert!(rt; other.sole().is_none());
+    *other.own()? = 8;
+    assert!(rt; *shared.get() == 7 && *other.get() == 8);
     Ok(())
 }

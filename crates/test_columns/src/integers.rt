@@ -1,7 +1,7 @@
 //! Columns of integers: worked rows, and edits beside a plain list.
 ghost use Rattle.std.specs.Prelude.{◌+◌, ◌≤◌, length};
 
-use bit_pack::{Width, width_for};
+use bit_pack::{PackError, Width, pack, width_for};
 use int_col::IntCol;
 use mk_value::Span;
 use std::alloc::Global;
@@ -24,28 +24,109 @@ fn fills<R: Abort>(rt: &R, column: &IntCol, from: usize, want: [u8; 2]) {
     assert!(rt; bytes == want);
 }
 
-/// The bytes are computed by hand: 0 and 3 at 2 bits are 0c.
+/// Asserts that the packed bytes come in pieces: half of them at once, and then one by one.
+fn comes_in_pieces<R: Abort>(rt: &R, column: &IntCol, want: &[u8]) {
+    let mut bytes = column.packed();
+    assert!(rt; bytes.len() == want.len());
+    let half = want.len() / 2;
+    let mut front = [0u8; 4096];
+    assert!(rt; half <= 4096);
+    bytes.fill(&mut front[..half]);
+    assert!(rt; front[..half] == want[..half]);
+    for byte in &want[half..] {
+        let mut next = [0];
+        assert!(rt; !bytes.is_empty());
+        bytes.fill(&mut next);
+        assert!(rt; next[0] == *byte);
+    }
+    assert!(rt; bytes.is_empty());
+}
+
+/// Asserts that a column is made of its packed bytes again, with the same values and full segments.
+fn comes_back<R: Abort + AllocGlobal>(
+    rt: &R,
+    column: &IntCol,
+    width: Width,
+    bytes: &[u8],
+) -> Result<(), Fail> {
+    let len = column.len();
+    assert!(rt; len <= 16_777_216);
+    let home = Some(Span { place: 192, len: 1 });
+    match IntCol::from_packed(rt.alloc(), width, len, bytes, home) {
+        Ok(back) => {
+            assert!(rt; back.len() == len && back.home() == home && back.width() == width);
+            assert!(rt; back.segments() == len.div_ceil(2048));
+            for at in 0..len {
+                assert!(rt; back.get(at) == column.get(at), "at {at}");
+            }
+        }
+        Err(_error) => assert!(rt; false),
+    }
+    Ok(())
+}
+
+/// Asserts that bytes are no column of so many values, and why.
+fn refuses<R: Abort + AllocGlobal>(
+    rt: &R,
+    width: Width,
+    count: usize,
+    bytes: &[u8],
+    want: PackError,
+) {
+    assert!(rt; count <= 100);
+    match IntCol::from_packed(rt.alloc(), width, count, bytes, None) {
+        Ok(_column) => assert!(rt; false),
+        Err(error) => assert!(rt; error == want),
+    }
+}
+
+/// Columns of few values and of one more than a segment takes. The bytes are computed by hand: 0 and 3 at 2 bits are 0c.
 #[test]
-fn two_values(rt: HostRuntime) -> Result<(), Fail> {
-    let column = IntCol::from_values(rt.alloc(), &[0, 3], None)?;
+fn worked_columns(rt: HostRuntime) -> Result<(), Fail> {
+    let none = IntCol::from_values(rt.alloc(), &[], None)?;
+    assert!(rt; none.is_empty() && none.segments() == 0 && none.width() == Width::W0);
+    comes_in_pieces(&rt, &none, &[]);
+
+    let mut column = IntCol::from_values(rt.alloc(), &[0, 3], None)?;
     assert!(rt; column.len() == 2 && !column.is_empty() && column.segments() == 1);
     assert_eq!(rt; column.get(1), 3);
     holds(&rt, &column, 0, 2, Width::W2, &[0x0c]);
+    comes_in_pieces(&rt, &column, &[0x0c]);
+    comes_back(&rt, &column, Width::W2, &[0x0c])?;
+    // The width follows the values: 0, 0xff and 0xff at 8 bits with a negative value, and 2 bits without it.
+    column.insert(1, -1, 2)?;
+    assert_eq!(rt; column.width(), Width::W8);
+    fills(&rt, &column, 1, [0xff, 0xff]);
+    comes_in_pieces(&rt, &column, &[0, 0xff, 0xff, 3]);
+    comes_back(&rt, &column, Width::W8, &[0, 0xff, 0xff, 3])?;
+    let mut read = [0; 2];
+    assert!(rt; column.len() == 4);
+    column.read(2, &mut read);
+    assert!(rt; read == [-1, 3]);
+    column.remove(1, 2)?;
+    holds(&rt, &column, 0, 2, Width::W2, &[0x0c]);
+    column.set(1, 1)?;
+    assert_eq!(rt; column.width(), Width::W1);
+
+    let long = IntCol::from_values(rt.alloc(), &[1; 2049], None)?;
+    assert_eq!(rt; long.segments(), 2);
+    holds(&rt, &long, 0, 2048, Width::W1, &[0xff; 256]);
+    holds(&rt, &long, 1, 1, Width::W1, &[0x01]);
+    fills(&rt, &long, 255, [0xff, 0x01]);
+
+    refuses(
+        &rt,
+        Width::W2,
+        2,
+        &[0x04],
+        PackError::NotLeast(Width::W2, Width::W1),
+    );
+    refuses(&rt, Width::W2, 2, &[0x1c], PackError::Padding(0));
+    refuses(&rt, Width::W2, 2, &[], PackError::Length(1, 0));
     Ok(())
 }
 
-/// One value more than a segment takes.
-#[test]
-fn two_segments(rt: HostRuntime) -> Result<(), Fail> {
-    let column = IntCol::from_values(rt.alloc(), &[1; 2049], None)?;
-    assert_eq!(rt; column.segments(), 2);
-    holds(&rt, &column, 0, 2048, Width::W1, &[0xff; 256]);
-    holds(&rt, &column, 1, 1, Width::W1, &[0x01]);
-    fills(&rt, &column, 255, [0xff, 0x01]);
-    Ok(())
-}
-
-/// An edit of no values keeps the home, any other takes it, and a copy stays.
+/// An edit of no values keeps the home, any other takes it, and a copy stays; a copy without a home has the same values.
 #[test]
 fn homes(rt: HostRuntime) -> Result<(), Fail> {
     let mut column = IntCol::from_values(rt.alloc(), &[0, 3], None)?;
@@ -55,23 +136,11 @@ fn homes(rt: HostRuntime) -> Result<(), Fail> {
     column.remove(1, 0)?;
     assert_eq!(rt; column.home(), home);
     let copy = column.same()?;
+    let bare = copy.unplaced()?;
     column.set(1, 3)?;
     assert_eq!(rt; column.home(), None);
     assert_eq!(rt; copy.home(), home);
-    Ok(())
-}
-
-/// The width follows the values: 0, 0xff and 0xff at 8 bits with a negative value, and 2 bits without it.
-#[test]
-fn widths(rt: HostRuntime) -> Result<(), Fail> {
-    let mut column = IntCol::from_values(rt.alloc(), &[0, 3], None)?;
-    column.insert(1, -1, 2)?;
-    assert_eq!(rt; column.width(), Width::W8);
-    fills(&rt, &column, 1, [0xff, 0xff]);
-    column.remove(1, 2)?;
-    holds(&rt, &column, 0, 2, Width::W2, &[0x0c]);
-    column.set(1, 1)?;
-    assert_eq!(rt; column.width(), Width::W1);
+    assert!(rt; bare.home().is_none() && bare.len() == 2 && bare.get(1) == 3);
     Ok(())
 }
 
@@ -186,6 +255,30 @@ fn edit<R: Abort>(
     }
 }
 
+/// Asserts that the blocks of the column are those of the list, and that it is made of them again.
+fn compare_blocks<R: Abort + AllocGlobal>(
+    rt: &R,
+    column: &IntCol,
+    plain: &[i64],
+) -> Result<(), Fail> {
+    let width = width_for(plain);
+    match pack(rt.alloc(), width, plain) {
+        Ok(bytes) => {
+            let want = bytes.as_slice();
+            let mut room = vec![in rt.alloc(); 0u8; want.len()]?;
+            let mut left = column.packed();
+            assert!(rt; left.len() == want.len());
+            left.fill(&mut room);
+            assert!(rt; room.as_slice() == want && left.is_empty());
+            comes_back(rt, column, width, want)
+        }
+        Err(_error) => {
+            assert!(rt; false);
+            Ok(())
+        }
+    }
+}
+
 /// A thousand edits beside a plain list, and copies that stay as they were.
 #[test]
 fn edits_beside_a_list(rt: HostRuntime) -> Result<(), Fail> {
@@ -203,6 +296,7 @@ fn edits_beside_a_list(rt: HostRuntime) -> Result<(), Fail> {
         if turn % 50 == 49 {
             compare(&rt, &column, &plain);
             compare(&rt, &copy, &plain_copy);
+            compare_blocks(&rt, &column, &plain)?;
             copy = column.same()?;
             plain_copy = Vec::from_slice(rt.alloc(), &plain)?;
         }

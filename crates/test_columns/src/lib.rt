@@ -1,4 +1,4 @@
-//! Tests of columns: packed integers, runs, columns of integers, and columns of byte strings.
+//! Tests of columns: packed integers, segments, columns of integers, and columns of byte strings.
 //!
 //! They stand above the crates that they test, since a crate with tests in it is proved once more with them.
 #![tactic(auto)]

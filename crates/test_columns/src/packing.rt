@@ -5,8 +5,9 @@ use bit_pack::{
 };
 use std::process::Abort;
 
+/// Both ends of each width and the first value past each, and what a width knows of itself.
 #[test]
-fn least_widths(rt: HostRuntime) {
+fn widths(rt: HostRuntime) {
     // both ends of each width, and the first value past each
     let rows = [
         (0, Width::W0),
@@ -39,10 +40,6 @@ fn least_widths(rt: HostRuntime) {
     assert_eq!(rt; width_for(&[]), Width::W0);
     assert_eq!(rt; width_for(&[0, 3]), Width::W2);
     assert_eq!(rt; width_for(&[200, -1]), Width::W16);
-}
-
-#[test]
-fn bits_of_widths(rt: HostRuntime) {
     for (bits, want) in [
         (0, Some(Width::W0)),
         (1, Some(Width::W1)),
@@ -82,6 +79,7 @@ fn packs<R: Abort + AllocGlobal>(
     Ok(())
 }
 
+/// Values and their bytes, both ways, and the lists that they are given in.
 #[test]
 fn packs_and_unpacks(rt: HostRuntime) -> Result<(), PackError> {
     packs(&rt, &[], Width::W0, &[])?;
@@ -104,11 +102,23 @@ fn packs_and_unpacks(rt: HostRuntime) -> Result<(), PackError> {
         &[
             8, 7, 6, 5, 4, 3, 2, 1, 255, 255, 255, 255, 255, 255, 255, 255,
         ],
-    )
+    )?;
+    let mut bytes = Bytes::new(rt.alloc());
+    assert!(rt; bytes.is_empty());
+    bytes.push(7)?;
+    assert_eq!(rt; bytes.len(), 1);
+    assert_eq!(rt; bytes.into_vec().as_slice(), [7].as_slice());
+    let mut values = Values::new(rt.alloc());
+    assert!(rt; values.is_empty());
+    values.push(-7)?;
+    assert_eq!(rt; values.len(), 1);
+    assert_eq!(rt; values.into_vec().as_slice(), [-7].as_slice());
+    Ok(())
 }
 
+/// What is refused and why, and bytes that are read and changed where they lie.
 #[test]
-fn refuses(rt: HostRuntime) {
+fn refuses_and_changes(rt: HostRuntime) {
     let alloc = rt.alloc();
     for (width, count, byte, want) in [
         (Width::W8, 1, 1, PackError::NotLeast(Width::W8, Width::W1)),
@@ -127,10 +137,7 @@ fn refuses(rt: HostRuntime) {
             "{width:?}, {count} values, byte {byte}"
         );
     }
-}
 
-#[test]
-fn single_values(rt: HostRuntime) {
     let mut bytes = [0x93, 0x01];
     assert_eq!(rt; get(Width::W2, &bytes, 3), 2);
     put(Width::W2, &mut bytes, 3, 0);
@@ -152,19 +159,4 @@ fn single_values(rt: HostRuntime) {
     assert!(rt; Width::W4.holds(5) && Width::W4.holds(9));
     pack_into(Width::W4, &[5, 9], &mut packed);
     assert_eq!(rt; packed.as_slice(), [0x95].as_slice());
-}
-
-#[test]
-fn lists(rt: HostRuntime) -> Result<(), PackError> {
-    let mut bytes = Bytes::new(rt.alloc());
-    assert!(rt; bytes.is_empty());
-    bytes.push(7)?;
-    assert_eq!(rt; bytes.len(), 1);
-    assert_eq!(rt; bytes.into_vec().as_slice(), [7].as_slice());
-    let mut values = Values::new(rt.alloc());
-    assert!(rt; values.is_empty());
-    values.push(-7)?;
-    assert_eq!(rt; values.len(), 1);
-    assert_eq!(rt; values.into_vec().as_slice(), [-7].as_slice());
-    Ok(())
 }
