@@ -1,7 +1,6 @@
 pub mod Behind
 pub mod Commands
 pub mod Cuts
-pub mod Decoding
 pub mod Lines
 pub mod Offences
 pub mod Parts

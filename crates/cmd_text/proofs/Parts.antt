@@ -1,17 +1,21 @@
 -- Parts and forms: with what they begin, and that what is read from the front is read in one way.
 use Rattle.std.proofs.Common.{rules, true, ◌≡◌, ◌⊎◌, inl, inr, ℕ, pos, List, [], ◌∷◌, ◌++◌, refl, sym, ap, subst, ◌∙◌, append_assoc, append-nil, lit<, lit≤}
 use Rattle.std.specs.List.{flat_map}
-use Rattle.std.proofs.lemmas.List.Elements.{All-nil, All-cons}
+use Rattle.std.proofs.lemmas.List.Elements.{All-nil, All-cons, All-head}
 use Rattle.mk_value.specs.Data.{Datum}
 use Rattle.mk_value.specs.Literals.{tokens_of}
 use Rattle.mk_value.specs.Names.{IsName, is_name_byte}
 use Rattle.mk_value.specs.Tokens.{Token, word, number as number_token, sign}
+use Rattle.mk_value.specs.declared.path.Step.{Step}
 use Rattle.tokens.specs.Fronts.{IsFront}
+use Rattle.tokens.specs.Literals.{IsLiteral, max_braces}
 use Rattle.tokens.specs.Paths.{step_tokens, path_tokens, slash}
 use Rattle.cmd_text.specs.Grammar.{count, literals_tokens}
 use Rattle.cmd_text.specs.Forms.{Part, name, number, path, literal, Form, nothing, values, next, IsPart, IsOfForm}
 use Rattle.cmd_text.proofs.Cuts.{two_cuts}
-use Rattle.cmd_text.proofs.Decoding.{literal_begins, begins_otherwise, literal_begins_with, behind_literal, behind_steps}
+use Rattle.tokens.proofs.Braces.{literal_some}
+use Rattle.tokens.proofs.Languages.{BeginsLiteral, literal_begins, literal_not_empty}
+use Rattle.tokens.proofs.Unambiguous.{same_literal}
 
 -- the first of the tokens is one of those
 abbrev pub BeginsWith : (Token → Type 0) → List Token → Type 0
@@ -39,14 +43,24 @@ pub record PartBegins (tokens : List Token) : Type 0 where
 slash_is_no_brace : ◌≡◌ {A = ℕ} slash 123 → ⊥
 slash_is_no_brace e = cc
 
+-- no literal begins with a slash
+begins_no_slash : (t : Token) → BeginsLiteral t → t ≡ sign slash → ⊥
+begins_no_slash t h e = slash_is_no_brace (subst BeginsLiteral e h)
+
+literal_no_slash : (d : Datum) (front rest : List Token) → IsLiteral max_braces d → sign slash ∷ rest ≡ tokens_of d ++ front → ⊥
+literal_no_slash d front rest whole e =
+    let some = literal_some d in
+    let f : sign slash ∷ rest ≡ some.0 ∷ (some.1 ++ front) = e ∙ ap (λ tokens. tokens ++ front) some.2 in
+    let first : some.0 ≡ sign slash = cc in
+    begins_no_slash some.0 (literal_begins some.0 some.1 (d, record { whole = whole; is = sym some.2 })) first
+
 pub part_begins : (part : Part) (tokens : List Token) → IsPart part tokens → PartBegins tokens
 part_begins name tokens (text, (named, is)) = record { first = word text; rest = []; is = is; no_slash = λ e. cc }
 part_begins number tokens (n, (few, is)) = record { first = count n; rest = []; is = is; no_slash = λ e. cc }
 part_begins path tokens (route, spells) =
     record { first = word route.name; rest = flat_map step_tokens route.steps; is = spells.is; no_slash = λ e. cc }
-part_begins literal tokens (d, spells) =
-    let begins = literal_begins d in
-    record { first = begins.first; rest = begins.rest; is = spells.is ∙ begins.is; no_slash = λ e. begins_otherwise begins.first slash slash_is_no_brace begins.may e }
+part_begins literal [] h = absurd (literal_not_empty h)
+part_begins literal (t ∷ tokens) h = record { first = t; rest = tokens; is = refl; no_slash = begins_no_slash t (literal_begins t tokens h) }
 
 pub no_part : (part : Part) → IsPart part [] → ⊥
 no_part part h = let begins = part_begins part [] h in absurd_first begins.first begins.rest begins.is
@@ -60,7 +74,7 @@ form_no_slash form [] h b = b
 form_no_slash nothing (t ∷ tokens) h b = cc
 form_no_slash values (t ∷ tokens) ([], (whole, is)) b = cc
 form_no_slash values (t ∷ tokens) (d ∷ literals, (whole, is)) b =
-    literal_begins_with d slash (literals_tokens literals) tokens slash_is_no_brace (sym (ap (λ x. x ∷ tokens) b) ∙ is)
+    literal_no_slash d (literals_tokens literals) tokens (All-head (λ x. IsLiteral max_braces x) d literals whole) (sym (ap (λ x. x ∷ tokens) b) ∙ is)
 form_no_slash (next part form) (t ∷ tokens) h b =
     let begins = part_begins part h.front h.in_front in
     let f : t ∷ tokens ≡ begins.first ∷ (begins.rest ++ h.rest) = h.is ∙ ap (λ x. x ++ h.rest) begins.is in
@@ -82,6 +96,13 @@ one_longer t u tokens more e f =
     let g : t ∷ more ≡ u ∷ [] = sym (ap (λ x. x ++ more) e) ∙ f in
     cc
 
+-- what stands behind a path's steps in the steps of another begins with a slash
+behind_steps : (a b : List Step) (c : List Token) → flat_map step_tokens a ++ c ≡ flat_map step_tokens b → (c ≡ []) ⊎ ((rest : List Token) × (c ≡ sign slash ∷ rest))
+behind_steps [] [] c e = inl e
+behind_steps [] (t ∷ b) c e = inr (number_token (pos t.row) ∷ sign slash ∷ word t.prop ∷ flat_map step_tokens b, e)
+behind_steps (s ∷ a) [] c e = absurd (cc)
+behind_steps (s ∷ a) (t ∷ b) c e = behind_steps a b c (let tail : flat_map step_tokens a ++ c ≡ flat_map step_tokens b = cc in tail)
+
 -- a part that is whole is no proper front of another, but a path of one that goes on with a slash
 pub part_longer : (part : Part) (tokens more : List Token) → IsPart part tokens → IsPart part (tokens ++ more) → (more ≡ []) ⊎ BeginsWith (GoesOn part) more
 part_longer name tokens more (a, (_, is)) (b, (_, longer)) = inl (one_longer (word a) (word b) tokens more is longer)
@@ -91,7 +112,7 @@ part_longer path tokens more (a, is) (b, longer) =
     let tail : flat_map step_tokens a.steps ++ more ≡ flat_map step_tokens b.steps = cc in
     elim (behind_steps a.steps b.steps more tail) [ inl none ↦ inl none | inr some ↦ inr (subst (BeginsWith (λ t. t ≡ sign slash)) (sym some.1) refl) ]
 part_longer literal tokens more (a, is) (b, longer) =
-    inl (behind_literal a b more [] (sym (ap (λ x. x ++ more) is.is) ∙ longer.is ∙ sym (append-nil (tokens_of b))))
+    inl (same_literal a b max_braces max_braces more [] is.whole longer.whole (sym (ap (λ x. x ++ more) is.is) ∙ longer.is ∙ sym (append-nil (tokens_of b)))).1
 
 nothing_more : (a b : List Token) → a ++ b ≡ [] → a ≡ []
 nothing_more [] b e = refl

@@ -12,7 +12,6 @@ pub fn one_offence()
     ensures one_offence { (line : List ℕ) (one two : TheError) → IsRefusedAs line one → IsRefusedAs line two → one ≡ two }
     ensures not_both { (line : List ℕ) (command : TheCommand) (error : TheError) → Reads line command → IsRefusedAs line error → ⊥ }
 {
-    tokens::one_cutting();
     struct_text::one_structure();
     struct_text::one_first_offence();
 }
