@@ -12,12 +12,12 @@ use Rattle.lines.specs.Crash.{MayStand, IsReady, IsCrashSafe}
 use Rattle.lines.specs.Served.{state_of, Serves}
 use Rattle.lines.specs.Steps.{AnswersLine, SoFar}
 use Rattle.lines.proofs.Splitting.{Splits-empty, Splits-span, Splits-newline, Splits-ended, some_split, take_more_held}
-use Rattle.lines.proofs.Turns.{Run-push, Run-later, HasEnded-push, goes_on-push, replies-push, world_after, world_after-run}
+use Rattle.lines.proofs.Turns.{Run-push, Run-later, HasEnded-push, goes_on-push, replies-push, state_after, state_after-run}
 use Rattle.host_io.proofs.Moments.{Left-goes, only_now}
 use Rattle.lines.proofs.Standing.{MayStand-before, MayStand-within}
 
 -- a run that begins
-pub SoFar-start : {W : Type 0} (machine : Machine W) (start : W) (begin : Outside) → IsReady machine start begin.now.disk
+pub SoFar-start : {W : Type 0} (machine : Machine W) (start : W) (begin : Outside) → IsReady machine (state_of start begin)
     → SoFar machine start begin start begin [] [] 0
 SoFar-start machine start begin ready = record {
   looked = [];
@@ -42,7 +42,8 @@ pub SoFar-take : {W : Type 0} (machine : Machine W) (start : W) (begin : Outside
 SoFar-take {W} machine start begin world old new room bytes count so came still faults =
     let same : moments new ≡ moments old = rw (still.now, still.past) refl in
     let L : List ℕ → ℕ → List Moment → Type 0 = λ image n list. LeftAt (moment begin) list image n in
-    let R : ℕ → Type 0 = λ faults'. Run machine (state_of start begin) so.lines so.turns (record { world = world; disk_faults = faults' }) in
+    let same_state : state_of world new ≡ state_of world old = rw (still.now, faults) refl in
+    let R : State W → Type 0 = λ state. Run machine (state_of start begin) so.lines so.turns state in
     let said : new.now.said ≡ old.now.said = ap (λ (at : Moment). at.said) still.now in
     record {
       looked = so.looked;
@@ -53,7 +54,7 @@ SoFar-take {W} machine start begin world old new room bytes count so came still 
       splits = so.splits;
       held = so.held;
       turns = so.turns;
-      answered = subst R (sym faults) so.answered;
+      answered = subst R (sym same_state) so.answered;
       goes_on = so.goes_on;
       spoke = said ∙ so.spoke;
       most = λ image n left. let h = so.most image n (subst (L image n) same left) in rw said h;
@@ -85,7 +86,7 @@ pub record Turned {W : Type 0} (machine : Machine W) (start : W) (begin : Outsid
   pub answered : Run machine (state_of start begin) lines (before ++ turn ∷ []) (state_of after new)
   pub spoke : new.now.said ≡ begin.now.said ++ (replies before ++ take part turn.reply)
   pub most : part ≡ length turn.reply → (image : List ℕ) (n : ℕ) → Left (moment begin) new image n → n ≤ length new.now.said
-  pub crash : IsCrashSafe machine start (before ++ turn ∷ []) (moment begin) (length begin.now.said) new
+  pub crash : IsCrashSafe machine (state_of start begin) (before ++ turn ∷ []) (moment begin) (length begin.now.said) new
 
 pub turned : {W E : Type 0} (machine : Machine W) (start : W) (begin : Outside) (world after : W) (old new : Outside) (room ahead : List ℕ) (count : ℕ) (result : Result Flow E)
     → (so : SoFar machine start begin world old room ahead count) → (answer : AnswersLine machine so.rest world after old new result)
@@ -94,10 +95,10 @@ turned {W} machine start begin world after old new room ahead count result so an
     let turn = answer.turn in
     let so_said = ap length so.spoke ∙ length-append begin.now.said (replies so.turns) in
     let R : State W → Type 0 = λ state. Run machine (state_of start begin) (so.lines ++ so.rest ∷ []) (so.turns ++ turn ∷ []) state in
-    let world_is : world_after start so.turns ≡ world = world_after-run machine (state_of start begin) (state_of world old) so.lines so.turns so.answered in
-    let B : List ℕ → W → Type 0 = λ image w. machine.allowed w image → MayStand machine w (turn ∷ []) 0 image in
-    let M : List ℕ → ℕ → W → Type 0 = λ image part w. MayStand machine w (turn ∷ []) part image in
-    let N : List ℕ → ℕ → Type 0 = λ image m. MayStand machine start (so.turns ++ turn ∷ []) m image in
+    let state_is : state_after (state_of start begin) so.turns ≡ state_of world old = state_after-run machine (state_of start begin) (state_of world old) so.lines so.turns so.answered in
+    let B : List ℕ → State W → Type 0 = λ image s. machine.allowed s image → MayStand machine s (turn ∷ []) 0 image in
+    let M : List ℕ → ℕ → State W → Type 0 = λ image part s. MayStand machine s (turn ∷ []) part image in
+    let N : List ℕ → ℕ → Type 0 = λ image m. MayStand machine (state_of start begin) (so.turns ++ turn ∷ []) m image in
     record {
       answered = subst R answer.left (Run-push machine (state_of start begin) (state_of world old) so.lines so.turns so.rest turn so.answered so.goes_on answer.asked answer.answers);
       spoke = answer.spoke ∙ (ap (λ (x : List ℕ). x ++ take answer.part turn.reply) so.spoke ∙ append_assoc begin.now.said (replies so.turns) (take answer.part turn.reply));
@@ -111,11 +112,11 @@ turned {W} machine start begin world after old new room ahead count result so an
       crash = λ image n left. elim (Left-goes (moment begin) image n answer.moments left) [
         | inl past ↦
             let short = so.most image n past in
-            MayStand-before machine start so.turns turn (n - length begin.now.said) image (subst (B image) (sym world_is) (answer.before image)) (omega arith) (so.crash image n past)
+            MayStand-before machine (state_of start begin) so.turns turn (n - length begin.now.said) image (subst (B image) (sym state_is) (answer.before image)) (omega arith) (so.crash image n past)
         | inr now ↦
             let here = now.holds.said in let is = now.said in
             let place : length (replies so.turns) + now.holds.part ≡ n - length begin.now.said = omega arith in
-            subst (N image) place (MayStand-within machine start so.turns turn now.holds.part image (subst (M image now.holds.part) (sym world_is) (now.holds.images image now.is_image)))
+            subst (N image) place (MayStand-within machine (state_of start begin) so.turns turn now.holds.part image (subst (M image now.holds.part) (sym state_is) (now.holds.images image now.is_image)))
       ];
     }
 

@@ -38,57 +38,57 @@ Goes-now : (P : Moment → Type 0) (old new : Outside) → Goes P old new → P 
 Goes-now P old new goes before = by_added P goes.added old new goes.follows goes.each before
 
 -- a moment while a line is being answered
-pub record IsHolding {W : Type 0} (machine : Machine W) (world : W) (line said : List ℕ) (at : Moment) : Type 0 where
+pub record IsHolding {W : Type 0} (machine : Machine W) (state : State W) (line said : List ℕ) (at : Moment) : Type 0 where
   pub silent : at.said ≡ said
-  pub images : (image : List ℕ) → IsImage at.disk image → MayStandWithin machine world line image
+  pub images : (image : List ℕ) → IsImage at.disk image → MayStandWithin machine state line image
 
 -- a line was answered, and nothing was said yet
 pub record Answered {W : Type 0} (machine : Machine W) (line reply : List ℕ) (world after : W) (old mid : Outside) : Type 0 where
   pub answers : Answers machine (state_of world old) line reply (state_of after mid)
-  pub ready : IsReady machine after mid.now.disk
-  pub moments : Goes (IsHolding machine world line old.now.said) old mid
-  pub quiet : reply ≡ [] → (image : List ℕ) → MayStandWithin machine world line image → machine.allowed after image
+  pub ready : IsReady machine (state_of after mid)
+  pub moments : Goes (IsHolding machine (state_of world old) line old.now.said) old mid
+  pub quiet : reply ≡ [] → (image : List ℕ) → MayStandWithin machine (state_of world old) line image → machine.allowed (state_of after mid) image
   pub said : mid.now.said ≡ old.now.said
   pub input : mid.input ≡ old.input
 
 -- what may stand where nothing of the reply has been said
-stands_first : {W : Type 0} (machine : Machine W) (line reply : List ℕ) (world : W) (after : State W) (image : List ℕ)
-    → (reply ≡ [] → MayStandWithin machine world line image → machine.allowed after.world image) → MayStandWithin machine world line image
-    → MayStand machine world ((record { line = line; reply = reply; after = after }) ∷ []) 0 image
-stands_first machine line [] world after image quiet stands = inl (omega arith, quiet refl stands)
-stands_first machine line (byte ∷ reply) world after image quiet stands = inr (omega arith, stands)
+stands_first : {W : Type 0} (machine : Machine W) (line reply : List ℕ) (state after : State W) (image : List ℕ)
+    → (reply ≡ [] → MayStandWithin machine state line image → machine.allowed after image) → MayStandWithin machine state line image
+    → MayStand machine state ((record { line = line; reply = reply; after = after }) ∷ []) 0 image
+stands_first machine line [] state after image quiet stands = inl (omega arith, quiet refl stands)
+stands_first machine line (byte ∷ reply) state after image quiet stands = inr (omega arith, stands)
 
 -- what may stand where a front of the reply has been said
-stands_later : {W : Type 0} (machine : Machine W) (line reply : List ℕ) (world : W) (after : State W) (part : ℕ) (image : List ℕ)
-    → machine.allowed after.world image → MayStandWithin machine world line image
-    → MayStand machine world ((record { line = line; reply = reply; after = after }) ∷ []) part image
-stands_later machine line reply world after part image next stands = elim (cases_lt part (length reply)) [
+stands_later : {W : Type 0} (machine : Machine W) (line reply : List ℕ) (state after : State W) (part : ℕ) (image : List ℕ)
+    → machine.allowed after image → MayStandWithin machine state line image
+    → MayStand machine state ((record { line = line; reply = reply; after = after }) ∷ []) part image
+stands_later machine line reply state after part image next stands = elim (cases_lt part (length reply)) [
   | inl short ↦ inr (short, stands)
   | inr whole ↦ inl (whole, next)
 ]
 
 within_now : {W : Type 0} (machine : Machine W) (line reply : List ℕ) (world after : W) (old mid : Outside)
-    → IsReady machine world old.now.disk → Answered machine line reply world after old mid → IsHolding machine world line old.now.said mid.now
+    → IsReady machine (state_of world old) → Answered machine line reply world after old mid → IsHolding machine (state_of world old) line old.now.said mid.now
 within_now machine line reply world after old mid ready answered =
-    Goes-now (IsHolding machine world line old.now.said) old mid answered.moments
+    Goes-now (IsHolding machine (state_of world old) line old.now.said) old mid answered.moments
     (record { silent = refl; images = λ image is. inl (ready.allowed image is) })
 
 -- the moments while it is answered, and while the answer is said
 turning : {W T E : Type 0} (machine : Machine W) (line reply : List ℕ) (world after : W) (old mid new : Outside) (result : Result T E) (turn : Turn W)
-    → turn ≡ record { line = line; reply = reply; after = state_of after new }
-    → IsReady machine world old.now.disk → Answered machine line reply world after old mid → SaysAll reply mid new result
-    → Goes (IsTurning machine world turn old.now) old new
+    → turn ≡ record { line = line; reply = reply; after = state_of after mid }
+    → IsReady machine (state_of world old) → Answered machine line reply world after old mid → SaysAll reply mid new result
+    → Goes (IsTurning machine (state_of world old) turn old.now) old new
 turning {W} machine line reply world after old mid new result turn is ready answered says =
-    let this : Turn W = record { line = line; reply = reply; after = state_of after new } in
+    let this : Turn W = record { line = line; reply = reply; after = state_of after mid } in
     let now = within_now machine line reply world after old mid ready answered in
-    let by_answer : (at : Moment) → IsHolding machine world line old.now.said at → IsTurning machine world this old.now at =
+    let by_answer : (at : Moment) → IsHolding machine (state_of world old) line old.now.said at → IsTurning machine (state_of world old) this old.now at =
     λ at within. record {
       part = 0;
       within = omega arith;
       said = let sizes = ap length within.silent in omega arith;
-      images = λ image here. stands_first machine line reply world (state_of after new) image (λ none. answered.quiet none image) (within.images image here);
+      images = λ image here. stands_first machine line reply (state_of world old) (state_of after mid) image (λ none. answered.quiet none image) (within.images image here);
     } in
-    let by_saying : (at : Moment) → IsSaying reply mid.now at → IsTurning machine world this old.now at =
+    let by_saying : (at : Moment) → IsSaying reply mid.now at → IsTurning machine (state_of world old) this old.now at =
     λ at saying. record {
       part = saying.part;
       within = saying.within;
@@ -99,24 +99,25 @@ turning {W} machine line reply world after old mid new result turn is ready answ
       images = λ image here.
           let P : DiskState → Type 0 = λ disk. IsImage disk image in
           let image_of = subst P saying.disk here in
-          stands_later machine line reply world (state_of after new) saying.part image (answered.ready.allowed image image_of) (now.images image image_of);
+          stands_later machine line reply (state_of world old) (state_of after mid) saying.part image (answered.ready.allowed image image_of) (now.images image image_of);
     } in
-    let Q : Turn W → Type 0 = λ t. Goes (IsTurning machine world t old.now) old new in
+    let Q : Turn W → Type 0 = λ t. Goes (IsTurning machine (state_of world old) t old.now) old new in
     subst Q (sym is) (joins (weaker by_answer answered.moments) (weaker by_saying says.moments))
 
 -- the line is answered and its answer said, whole or in part
 pub answers_line : {W T E : Type 0} (machine : Machine W) (line reply : List ℕ) (world after : W) (old mid new : Outside) (result : Result T E) (outcome : Result Flow E)
-    → IsReady machine world old.now.disk → Answered machine line reply world after old mid
+    → IsReady machine (state_of world old) → Answered machine line reply world after old mid
     → (says : SaysAll reply mid new result) → new.disk_faults ≡ mid.disk_faults
     → OnOk outcome (says.part ≡ length reply) → OnErr outcome (says.part < length reply) → IfOk outcome (λ flow. (flow ≡ Ends) ↔ IsLast machine line)
     → AnswersLine machine line world after old new outcome
 answers_line {W} machine line reply world after old mid new result outcome ready answered says counts ok err ends =
-    let A : ℕ → Type 0 = λ faults. Answers machine (state_of world old) line reply (record { world = after; disk_faults = faults }) in
+    let disk = says.disk in
+    let same : state_of after mid ≡ state_of after new = rw (disk, counts) refl in
     record {
-      turn = record { line = line; reply = reply; after = state_of after new };
+      turn = record { line = line; reply = reply; after = state_of after mid };
       asked = refl;
-      answers = subst A (sym counts) answered.answers;
-      left = refl;
+      answers = answered.answers;
+      left = same;
       ends = ends;
       part = says.part;
       spoke = says.spoke ∙ ap (λ (x : List ℕ). x ++ take says.part reply) answered.said;
@@ -124,12 +125,12 @@ answers_line {W} machine line reply world after old mid new result outcome ready
       err = err;
       input = says.input ∙ answered.input;
       moments = turning machine line reply world after old mid new result _ refl ready answered says;
-      before = λ image allowed. stands_first machine line reply world (state_of after new) image (λ none. answered.quiet none image) (inl allowed);
+      before = λ image allowed. stands_first machine line reply (state_of world old) (state_of after mid) image (λ none. answered.quiet none image) (inl allowed);
     }
 
 -- a line that is too long
 pub Answered-limit : {W : Type 0} (machine : Machine W) (line : List ℕ) (world : W) (outside : Outside)
-    → IsTooLong line → IsReady machine world outside.now.disk → Answered machine line limit_reply world world outside outside
+    → IsTooLong line → IsReady machine (state_of world outside) → Answered machine line limit_reply world world outside outside
 Answered-limit machine line world outside long ready = record {
   answers = inl (long, refl, refl);
   ready = ready;
@@ -149,9 +150,9 @@ ends-short machine line flow short ends = (λ is. (short, ends.0 is), λ last. e
 
 -- a line that the session answered
 pub answers_short : {W T E : Type 0} (machine : Machine W) (held line reply bytes : List ℕ) (world after : W) (old mid new : Outside) (result : Result T E) (outcome : Result Flow E)
-    → held ≡ take (max_line + 1) line → length held ≤ max_line → IsReady machine world old.now.disk
-    → machine.answers (state_of world old) held reply (state_of after mid) → IsReady machine after mid.now.disk
-    → Goes (IsWithin machine world held old.now.said) old mid → (reply ≡ [] → KeepsImages machine world held after)
+    → held ≡ take (max_line + 1) line → length held ≤ max_line → IsReady machine (state_of world old)
+    → machine.answers (state_of world old) held reply (state_of after mid) → IsReady machine (state_of after mid)
+    → Goes (IsWithin machine (state_of world old) held old.now.said) old mid → (reply ≡ [] → KeepsImages machine (state_of world old) held (state_of after mid))
     → mid.now.said ≡ old.now.said → mid.input ≡ old.input
     → bytes ≡ reply → (says : SaysAll bytes mid new result) → new.disk_faults ≡ mid.disk_faults
     → OnOk outcome (says.part ≡ length bytes) → OnErr outcome (says.part < length bytes) → IfOk outcome (λ flow. (flow ≡ Ends) ↔ (machine.ends held ≡ true))

@@ -70,17 +70,17 @@ pub replies-push : {W : Type 0} (turns : List (Turn W)) (turn : Turn W) → repl
 replies-push [] turn = append-nil turn.reply
 replies-push (turn' ∷ turns) turn = ap (λ (x : List ℕ). turn'.reply ++ x) (replies-push turns turn) ∙ sym (append_assoc turn'.reply (replies turns) turn.reply)
 
--- the world after these turns
-abbrev pub world_after : {W : Type 0} → W → List (Turn W) → W
-world_after world [] = world
-world_after world (turn ∷ turns) = world_after turn.after.world turns
+-- the state after these turns
+abbrev pub state_after : {W : Type 0} → State W → List (Turn W) → State W
+state_after state [] = state
+state_after state (turn ∷ turns) = state_after turn.after turns
 
-pub world_after-run : {W : Type 0} (machine : Machine W) (old last : State W) (lines : List (List ℕ)) (turns : List (Turn W))
-    → Run machine old lines turns last → world_after old.world turns ≡ last.world
-world_after-run {W} machine old last [] [] run = ap (λ (state : State W). state.world) (sym run)
-world_after-run machine old last [] (turn ∷ turns) run = absurd run
-world_after-run machine old last (line ∷ lines) [] run = absurd run
-world_after-run {W} machine old last (line ∷ lines) (turn ∷ turns) run = elim run.2 [
-  | inl over ↦ rw (over.1) (ap (λ (state : State W). state.world) (sym over.2))
-  | inr more ↦ world_after-run machine turn.after last lines turns more.1
+pub state_after-run : {W : Type 0} (machine : Machine W) (old last : State W) (lines : List (List ℕ)) (turns : List (Turn W))
+    → Run machine old lines turns last → state_after old turns ≡ last
+state_after-run machine old last [] [] run = sym run
+state_after-run machine old last [] (turn ∷ turns) run = absurd run
+state_after-run machine old last (line ∷ lines) [] run = absurd run
+state_after-run machine old last (line ∷ lines) (turn ∷ turns) run = elim run.2 [
+  | inl over ↦ rw (over.1) (sym over.2)
+  | inr more ↦ state_after-run machine turn.after last lines turns more.1
 ]

@@ -3,9 +3,10 @@ use Rattle.std.specs.Prelude.{◌≡◌, ℕ, Bool, true, List, [], ◌∷◌, �
 use Rattle.host_io.specs.Disk.{DiskState}
 use Rattle.lines.specs.Lines.{IsTooLong, newline}
 
--- a world, and how often the disk had failed when it came
+-- a world over a disk, and how often that had failed when it came
 pub record State (W : Type 0) : Type 0 where
   pub world : W
+  pub disk : DiskState
   pub disk_faults : ℕ
 
 pub record Machine (W : Type 0) : Type 1 where
@@ -13,12 +14,12 @@ pub record Machine (W : Type 0) : Type 1 where
   pub answers : State W → List ℕ → List ℕ → State W → Type 0
   -- the line ends the session
   pub ends : List ℕ → Bool
-  -- in this world a crash may leave this image
-  pub allowed : W → List ℕ → Type 0
-  -- while this line is being answered in this world, a crash may leave this image too
-  pub under_way : W → List ℕ → List ℕ → Type 0
-  -- the disk is as this world needs it for its next line
-  pub ready : W → DiskState → Type 0
+  -- in this state a crash may leave this image
+  pub allowed : State W → List ℕ → Type 0
+  -- while this line is being answered in this state, a crash may leave this image too
+  pub under_way : State W → List ℕ → List ℕ → Type 0
+  -- the state is as its next line needs it
+  pub ready : State W → Type 0
 
 -- a line that was answered, the bytes of the answer, and what it left
 pub record Turn (W : Type 0) : Type 0 where

@@ -9,7 +9,7 @@ use Rattle.lines.specs.Crash.{IsCrashSafe}
 
 -- the state of a world over a host
 abbrev pub state_of : {W : Type 0} → W → Outside → State W
-state_of world outside = record { world = world; disk_faults = outside.disk_faults }
+state_of world outside = record { world = world; disk = outside.now.disk; disk_faults = outside.disk_faults }
 
 -- All of the input was taken and every line of it was answered and said, or a line that had ended ended the session.
 pub record IsDone {W : Type 0} (machine : Machine W) (budget : ℕ) (old last : State W) (taken left said : List ℕ) (turns : List (Turn W)) : Type 0 where
@@ -69,4 +69,4 @@ pub record Serves {W : Type 0} (machine : Machine W) (budget : ℕ) (end : End) 
   pub spoke : new.now.said ≡ old.now.said ++ said
   pub turns : List (Turn W)
   pub ends : EndsAs end machine budget (state_of world old) (state_of after new) taken new.input said turns
-  pub crash : IsCrashSafe machine world turns (moment old) (length old.now.said) new
+  pub crash : IsCrashSafe machine (state_of world old) turns (moment old) (length old.now.said) new

@@ -6,16 +6,16 @@ use Rattle.lines.specs.declared.session.Flow.{Flow}
 use Rattle.lines.specs.declared.session.Flow.TheVariants.{Goes as GoesOn, Ends}
 use Rattle.lines.specs.declared.serving.End.TheVariants.{Done, SayFault}
 use Rattle.lines.specs.Lines.{Splits, max_line}
-use Rattle.lines.specs.Machine.{Machine, Turn, Answers, IsLast, Run, replies, HasEnded}
+use Rattle.lines.specs.Machine.{Machine, State, Turn, Answers, IsLast, Run, replies, HasEnded}
 use Rattle.lines.specs.Crash.{MayStand, IsCrashSafe}
 use Rattle.lines.specs.Served.{state_of, Serves}
 
--- a moment while a turn in this world goes on
-pub record IsTurning {W : Type 0} (machine : Machine W) (world : W) (turn : Turn W) (old at : Moment) : Type 0 where
+-- a moment while a turn in this state goes on
+pub record IsTurning {W : Type 0} (machine : Machine W) (state : State W) (turn : Turn W) (old at : Moment) : Type 0 where
   pub part : ℕ
   pub within : part ≤ length turn.reply
   pub said : length at.said ≡ length old.said + part
-  pub images : (image : List ℕ) → IsImage at.disk image → MayStand machine world (turn ∷ []) part image
+  pub images : (image : List ℕ) → IsImage at.disk image → MayStand machine state (turn ∷ []) part image
 
 -- A line is answered and its reply is said, whole where the output did not fail.
 pub record AnswersLine {W E : Type 0} (machine : Machine W) (line : List ℕ) (world after : W) (old new : Outside) (result : Result Flow E) : Type 0 where
@@ -29,9 +29,9 @@ pub record AnswersLine {W E : Type 0} (machine : Machine W) (line : List ℕ) (w
   pub ok : OnOk result (part ≡ length turn.reply)
   pub err : OnErr result (part < length turn.reply)
   pub input : new.input ≡ old.input
-  pub moments : Goes (IsTurning machine world turn old.now) old new
+  pub moments : Goes (IsTurning machine (state_of world old) turn old.now) old new
   -- what stood before the line may stand at its beginning
-  pub before : (image : List ℕ) → machine.allowed world image → MayStand machine world (turn ∷ []) 0 image
+  pub before : (image : List ℕ) → machine.allowed (state_of world old) image → MayStand machine (state_of world old) (turn ∷ []) 0 image
 
 -- Where a run stands that goes on: the bytes that it has looked at, the lines among them and their answers, the front
 -- of the line that has not ended, which the room holds, and the bytes that were taken and not looked at yet.
@@ -48,7 +48,7 @@ pub record SoFar {W : Type 0} (machine : Machine W) (start : W) (begin : Outside
   pub goes_on : ¬ HasEnded machine turns
   pub spoke : outside.now.said ≡ begin.now.said ++ replies turns
   pub most : (image : List ℕ) (n : ℕ) → Left (moment begin) outside image n → n ≤ length outside.now.said
-  pub crash : IsCrashSafe machine start turns (moment begin) (length begin.now.said) outside
+  pub crash : IsCrashSafe machine (state_of start begin) turns (moment begin) (length begin.now.said) outside
 
 -- what came of a run: it goes on, or it has ended
 abbrev pub Comes : {W E : Type 0} → Machine W → ℕ → W → Outside → W → Outside → List ℕ → List ℕ → ℕ → Result Flow E → Type 0

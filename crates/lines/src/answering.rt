@@ -4,6 +4,7 @@ ghost use Rattle.host_io.specs.Outside.{Outside};
 ghost use Rattle.host_io.specs.Calls.{Counts};
 ghost use Rattle.lines.specs.Lines.{max_line};
 ghost use Rattle.lines.specs.Crash.{IsReady};
+ghost use Rattle.lines.specs.Served.{state_of};
 ghost use Rattle.lines.specs.Rooms.{IsClear};
 ghost use Rattle.lines.specs.Steps.{AnswersLine};
 
@@ -25,11 +26,11 @@ pub(crate) fn answer_line<H: Host, S: Session<H>>(
 ) -> Result<Flow, Failed>
     requires short { length held.now ≤ max_line + 1 }
     requires clear { IsClear out.old }
-    requires ready { H.tells → IsReady S.machine session.old (H.outside host.old).now.disk }
+    requires ready { H.tells → IsReady S.machine (state_of session.old (H.outside host.old)) }
 
     ensures answers { H.tells → (line : List ℕ) → held.now ≡ take (max_line + 1) line
         → AnswersLine S.machine line session.old session.new (H.outside host.old) (H.outside host.new) result }
-    ensures ready { H.tells → IsReady S.machine session.new (H.outside host.new).now.disk }
+    ensures ready { H.tells → IsReady S.machine (state_of session.new (H.outside host.new)) }
     ensures clear { OnOk result (IsClear out.new) }
 
     ensures say_faults { Counts (H.outside host.old).say_faults (H.outside host.new).say_faults result }

@@ -4,6 +4,7 @@ ghost use Rattle.host_io.specs.Outside.{Outside};
 ghost use Rattle.host_io.specs.Calls.{Counts};
 ghost use Rattle.lines.specs.Lines.{HasNoNewline, newline, max_line};
 ghost use Rattle.lines.specs.Crash.{IsReady};
+ghost use Rattle.lines.specs.Served.{state_of};
 ghost use Rattle.lines.specs.Rooms.{HasLineRoom, IsClear};
 ghost use Rattle.lines.specs.Steps.{SoFar, Comes};
 
@@ -44,12 +45,12 @@ pub(crate) fn feed_piece<H: Host, S: Session<H>>(
 ) -> Result<Flow, Failed>
     requires room { HasLineRoom room.old }
     requires clear { IsClear out.old }
-    requires ready { H.tells → IsReady S.machine session.old (H.outside host.old).now.disk }
+    requires ready { H.tells → IsReady S.machine (state_of session.old (H.outside host.old)) }
 
     ensures comes { H.tells → (start : S) (begin : Outside) (budget count : ℕ) → count + length piece.now ≤ budget
         → SoFar S.machine start begin session.old (H.outside host.old) room.old.bytes piece.now count
         → Comes S.machine budget start begin session.new (H.outside host.new) room.new.bytes [] (count + length piece.now) result }
-    ensures ready { H.tells → IsReady S.machine session.new (H.outside host.new).now.disk }
+    ensures ready { H.tells → IsReady S.machine (state_of session.new (H.outside host.new)) }
     ensures room { IfOk result (λ flow. flow ≡ Flow.Goes → HasLineRoom room.new) }
     ensures clear { IfOk result (λ flow. flow ≡ Flow.Goes → IsClear out.new) }
 

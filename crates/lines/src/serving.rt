@@ -4,7 +4,7 @@ ghost use Rattle.host_io.specs.Outside.{Outside};
 ghost use Rattle.host_io.specs.Calls.{Rose};
 ghost use Rattle.lines.specs.Lines.{max_line, max_budget};
 ghost use Rattle.lines.specs.Crash.{IsReady};
-ghost use Rattle.lines.specs.Served.{Serves};
+ghost use Rattle.lines.specs.Served.{Serves, state_of};
 ghost use Rattle.lines.specs.Rooms.{HasLineRoom, IsClear};
 ghost use Rattle.lines.specs.Steps.{SoFar};
 
@@ -42,13 +42,13 @@ fn end_input<H: Host, S: Session<H>>(
 ) -> End
     requires room { HasLineRoom room.old }
     requires clear { IsClear out.old }
-    requires ready { H.tells → IsReady S.machine session.old (H.outside host.old).now.disk }
+    requires ready { H.tells → IsReady S.machine (state_of session.old (H.outside host.old)) }
     requires over { H.tells → (H.outside host.old).input ≡ [] }
 
     ensures serves { H.tells → (start : S) (begin : Outside) (budget count : ℕ) → count ≤ budget
         → SoFar S.machine start begin session.old (H.outside host.old) room.old.bytes [] count
         → Serves S.machine budget result start session.new begin (H.outside host.new) }
-    ensures ready { H.tells → IsReady S.machine session.new (H.outside host.new).now.disk }
+    ensures ready { H.tells → IsReady S.machine (state_of session.new (H.outside host.new)) }
     ensures done_or_unsaid { (result ≡ End.Done) ⊎ (result ≡ End.SayFault) }
 
     ensures say_fault { result ≡ End.SayFault → Rose (H.outside host.old).say_faults (H.outside host.new).say_faults }
@@ -76,7 +76,7 @@ fn take_piece<H: Host, S: Session<H>>(
     requires some { 0 < length piece.old }
     requires room { HasLineRoom room.old }
     requires clear { IsClear out.old }
-    requires ready { H.tells → IsReady S.machine session.old (H.outside host.old).now.disk }
+    requires ready { H.tells → IsReady S.machine (state_of session.old (H.outside host.old)) }
 
     ensures within { IfOk result (λ count. count ≤ length piece.old) }
     ensures progress { IfOk result (λ count. 0 < count) }
@@ -85,7 +85,7 @@ fn take_piece<H: Host, S: Session<H>>(
         → MatchResult result
         (λ count. SoFar S.machine start begin session.new (H.outside host.new) room.new.bytes [] (taken + count))
         (λ end. Serves S.machine budget end start session.new begin (H.outside host.new)) }
-    ensures ready { H.tells → IsReady S.machine session.new (H.outside host.new).now.disk }
+    ensures ready { H.tells → IsReady S.machine (state_of session.new (H.outside host.new)) }
     ensures room { OnOk result (HasLineRoom room.new) }
     ensures clear { OnOk result (IsClear out.new) }
 
@@ -117,12 +117,12 @@ fn end_budget<H: Host, S: Session<H>>(
 ) -> End
     requires room { HasLineRoom room.old }
     requires clear { IsClear out.old }
-    requires ready { H.tells → IsReady S.machine session.old (H.outside host.old).now.disk }
+    requires ready { H.tells → IsReady S.machine (state_of session.old (H.outside host.old)) }
 
     ensures serves { H.tells → (start : S) (begin : Outside) (budget : ℕ)
         → SoFar S.machine start begin session.old (H.outside host.old) room.old.bytes [] budget
         → Serves S.machine budget result start session.new begin (H.outside host.new) }
-    ensures ready { H.tells → IsReady S.machine session.new (H.outside host.new).now.disk }
+    ensures ready { H.tells → IsReady S.machine (state_of session.new (H.outside host.new)) }
 
     ensures take_fault { result ≡ End.TakeFault → Rose (H.outside host.old).take_faults (H.outside host.new).take_faults }
     ensures say_fault { result ≡ End.SayFault → Rose (H.outside host.old).say_faults (H.outside host.new).say_faults }
@@ -155,10 +155,10 @@ pub fn serve<H: Host, S: Session<H>>(
     requires room { IsClear room.old }
     requires out { IsClear out.old }
     requires budget { budget ≤ max_budget }
-    requires ready { H.tells → IsReady S.machine session.old (H.outside host.old).now.disk }
+    requires ready { H.tells → IsReady S.machine (state_of session.old (H.outside host.old)) }
 
     ensures serves { H.tells → Serves S.machine budget result session.old session.new (H.outside host.old) (H.outside host.new) }
-    ensures ready { H.tells → IsReady S.machine session.new (H.outside host.new).now.disk }
+    ensures ready { H.tells → IsReady S.machine (state_of session.new (H.outside host.new)) }
 
     // A fault is told only where one came.
     ensures take_fault { result ≡ End.TakeFault → Rose (H.outside host.old).take_faults (H.outside host.new).take_faults }

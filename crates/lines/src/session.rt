@@ -32,15 +32,15 @@ pub trait Session<H: Host> {
         requires short { length line.now ≤ max_line }
         requires empty { out.old.bytes ≡ [] }
         requires room { max_line + 1 ≤ out.old.spare }
-        requires ready { H.tells → IsReady machine self.old (H.outside host.old).now.disk }
+        requires ready { H.tells → IsReady machine (state_of self.old (H.outside host.old)) }
 
         ensures answers { H.tells → machine.answers (state_of self.old (H.outside host.old)) line.now out.new.bytes (state_of self.new (H.outside host.new)) }
         ensures ends { (result ≡ Flow.Ends) ↔ (machine.ends line.now ≡ true) }
         ensures room { max_line + 1 ≤ out.new.spare + length out.new.bytes }
 
-        ensures ready { H.tells → IsReady machine self.new (H.outside host.new).now.disk }
-        ensures moments { H.tells → Goes (IsWithin machine self.old line.now (H.outside host.old).now.said) (H.outside host.old) (H.outside host.new) }
-        ensures quiet { H.tells → out.new.bytes ≡ [] → KeepsImages machine self.old line.now self.new }
+        ensures ready { H.tells → IsReady machine (state_of self.new (H.outside host.new)) }
+        ensures moments { H.tells → Goes (IsWithin machine (state_of self.old (H.outside host.old)) line.now (H.outside host.old).now.said) (H.outside host.old) (H.outside host.new) }
+        ensures quiet { H.tells → out.new.bytes ≡ [] → KeepsImages machine (state_of self.old (H.outside host.old)) line.now (state_of self.new (H.outside host.new)) }
         ensures said { H.tells → (H.outside host.new).now.said ≡ (H.outside host.old).now.said }
         ensures input { H.tells → (H.outside host.new).input ≡ (H.outside host.old).input }
         ensures disk_faults { (H.outside host.old).disk_faults ≤ (H.outside host.new).disk_faults }

@@ -48,9 +48,9 @@ Step old line reply new = CarriesOut old line reply new ⊎ (RefusesLine old lin
 -- The session as a machine. Nothing is stored, so the file stays empty.
 abbrev pub machine : Machine World
 machine = record {
-  answers = λ old line reply new. Step old.world line reply new.world × (new.disk_faults ≡ old.disk_faults);
+  answers = λ old line reply new. Step old.world line reply new.world × (new.disk ≡ old.disk) × (new.disk_faults ≡ old.disk_faults);
   ends = is_quit;
-  allowed = λ world image. image ≡ [];
-  under_way = λ world line image. ⊥;
-  ready = λ world disk. Unit {0};
+  allowed = λ state image. image ≡ [];
+  under_way = λ state line image. ⊥;
+  ready = λ state. Unit {0};
 }

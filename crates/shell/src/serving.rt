@@ -3,6 +3,7 @@ ghost use Rattle.host_io.specs.Calls.{Rose};
 ghost use Rattle.lines.specs.Crash.{IsReady};
 ghost use Rattle.lines.specs.Lines.{max_budget};
 ghost use Rattle.lines.specs.Rooms.{IsClear};
+ghost use Rattle.lines.specs.Served.{state_of};
 ghost use Rattle.session.specs.Step.{machine};
 ghost use Rattle.shell.specs.Ran.{IsServed, ServesAs};
 
@@ -26,14 +27,20 @@ pub fn serve<H: Host>(
     requires room { IsClear room.old }
     requires out { IsClear out.old }
     requires budget { budget ≤ max_budget }
-    requires ready { H.tells → IsReady machine session.old (H.outside host.old).now.disk }
+    requires ready { H.tells → IsReady machine (state_of session.old (H.outside host.old)) }
 
     ensures serves { H.tells → ServesAs result budget session.old session.new (H.outside host.old) (H.outside host.new) }
+    ensures ready { H.tells → IsReady machine (state_of session.new (H.outside host.new)) }
     ensures status { IsServed result }
 
     // A fault is told only where one came.
     ensures take_fault { result ≡ Status.TakeFault → Rose (H.outside host.old).take_faults (H.outside host.new).take_faults }
     ensures say_fault { result ≡ Status.SayFault → Rose (H.outside host.old).say_faults (H.outside host.new).say_faults }
+
+    // No count of faults falls.
+    ensures take_faults { (H.outside host.old).take_faults ≤ (H.outside host.new).take_faults }
+    ensures say_faults { (H.outside host.old).say_faults ≤ (H.outside host.new).say_faults }
+    ensures disk_faults { (H.outside host.old).disk_faults ≤ (H.outside host.new).disk_faults }
 {
     lines::serve(session, host, room, out, budget).into()
 }

@@ -19,9 +19,9 @@ impl<H: Host> Session<H> for Echo {
     ghost machine = { record {
       answers = λ old line reply new. new ≡ old;
       ends = λ line. bytes_eq line (codes "quit");
-      allowed = λ world image. Unit {0};
-      under_way = λ world line image. ⊥;
-      ready = λ world disk. Unit {0};
+      allowed = λ state image. Unit {0};
+      under_way = λ state line image. ⊥;
+      ready = λ state. Unit {0};
     } };
 
     fn answer(&mut self, _host: &mut H, line: &[u8], out: &mut Text) -> Flow {

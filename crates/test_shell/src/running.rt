@@ -2,6 +2,7 @@
 ghost use Rattle.std.specs.Prelude.{◌≡◌, ◌+◌, ◌≤◌, [], length};
 ghost use Rattle.lines.specs.Lines.{max_line};
 ghost use Rattle.lines.specs.Crash.{IsReady};
+ghost use Rattle.lines.specs.Served.{state_of};
 
 use host_io::{Effect, Fault, Host, MemHost};
 use lines::{Flow, MAX_LINE, Session as LineSession};
@@ -124,7 +125,7 @@ fn answer<H: Host, S: LineSession<H>>(
     requires short { length line.now ≤ max_line }
     requires empty { out.old.bytes ≡ [] }
     requires room { max_line + 1 ≤ out.old.spare }
-    requires ready { H.tells → IsReady S.machine session.old (H.outside host.old).now.disk }
+    requires ready { H.tells → IsReady S.machine (state_of session.old (H.outside host.old)) }
 {
     session.answer(host, line, out)
 }

@@ -2,6 +2,7 @@ use Rattle.std.proofs.Common.{◌≡◌, ℕ, ◌+◌, ◌-◌, ◌≤◌, lengt
 use Rattle.host_io.specs.Outside.{Outside}
 use Rattle.lines.specs.Crash.{IsReady}
 use Rattle.lines.specs.Rooms.{HasLineRoom, IsClear}
+use Rattle.lines.specs.Served.{state_of}
 use Rattle.lines.specs.Steps.{SoFar}
 use Rattle.lines.proofs.feeding.feed_piece.Given as goal
 
@@ -11,7 +12,7 @@ invariant-lines g l = record {
   within : l.from ≤ length l.piece;
   room : HasLineRoom l.room;
   clear : IsClear l.out;
-  ready : g.H.Disk.tells → IsReady g.S.Session.machine l.session (g.H.Disk.outside l.host).now.disk;
+  ready : g.H.Disk.tells → IsReady g.S.Session.machine (state_of l.session (g.H.Disk.outside l.host));
   so_far : g.H.Disk.tells → (start : g.row.S.Denot) (begin : Outside) (count : ℕ)
       → SoFar g.S.Session.machine start begin l.initial.session (g.H.Disk.outside l.initial.host) l.initial.room.bytes l.piece count
       → SoFar g.S.Session.machine start begin l.session (g.H.Disk.outside l.host) l.room.bytes (drop l.from l.piece) (count + l.from);

@@ -1,6 +1,7 @@
 use Rattle.std.proofs.Common.{◌≡◌, ℕ, ◌+◌, ◌≤◌, []}
 use Rattle.lines.specs.Crash.{IsReady}
 use Rattle.lines.specs.Rooms.{HasLineRoom, IsClear}
+use Rattle.lines.specs.Served.{state_of}
 use Rattle.lines.specs.Steps.{SoFar}
 use Rattle.lines.proofs.serving.serve.Given as goal
 
@@ -10,7 +11,7 @@ invariant-taking g l = record {
   within : l.left ≤ l.budget;
   room : HasLineRoom l.room;
   clear : IsClear l.out;
-  ready : g.H.Disk.tells → IsReady g.S.Session.machine l.session (g.H.Disk.outside l.host).now.disk;
+  ready : g.H.Disk.tells → IsReady g.S.Session.machine (state_of l.session (g.H.Disk.outside l.host));
   so_far : g.H.Disk.tells → (count : ℕ) → count + l.left ≡ l.budget
       → SoFar g.S.Session.machine l.initial.session (g.H.Disk.outside l.initial.host) l.session (g.H.Disk.outside l.host) l.room.bytes [] count;
   take_faults : (g.H.Disk.outside l.initial.host).take_faults ≤ (g.H.Disk.outside l.host).take_faults;
