@@ -130,16 +130,22 @@ fn answer<H: Host, S: LineSession<H>>(
     session.answer(host, line, out)
 }
 
-/// A line by itself, and then a run that takes five bytes of two lines: `size` is answered, and one more byte comes.
+/// A line by itself.
 #[test]
-fn a_line_is_answered_and_a_budget_is_kept(rt: HostRuntime) -> Result<(), Fail> {
+fn a_line_is_answered(rt: HostRuntime) -> Result<(), Fail> {
     let mut session = Session::new(rt.alloc());
     let mut reply = Text::with_room(rt.alloc(), MAX_LINE + 1)?;
-    let mut host = MemHost::new(rt.alloc(), b"", b"size\nquit\n", &[], 0, ROOM)?;
+    let mut host = MemHost::new(rt.alloc(), b"", b"", &[], 0, 0)?;
     let flow = answer(&mut session, &mut host, b"getas x[a:I]", &mut reply);
     assert!(rt; flow == Flow::Goes);
     assert_eq!(rt; reply.as_str(), "ok x[a:I]\n");
+    Ok(())
+}
 
+/// A run that takes five bytes of two lines: `size` is answered, and one more byte comes.
+#[test]
+fn a_budget_is_kept(rt: HostRuntime) -> Result<(), Fail> {
+    let mut host = MemHost::new(rt.alloc(), b"", b"size\nquit\n", &[], 0, ROOM)?;
     let mut room = Bytes::with_room(rt.alloc(), MAX_LINE + 1)?;
     let mut reply = Text::with_room(rt.alloc(), MAX_LINE + 1)?;
     let mut session = Session::new(rt.alloc());
