@@ -1,0 +1,13 @@
+-- What a directory of the program means.
+use Rattle.dir_codec.specs.declared.dir.DirCol.{DirCol}
+use Rattle.dir_codec.specs.declared.dir.DirCol.TheVariants.{Ints, Blobs, Views}
+use Rattle.dir_codec.specs.declared.dir.DirBody.{DirBody}
+use Rattle.dir_codec.specs.Dir.{Entry, Body, bodies_from}
+
+abbrev pub entry_of : DirCol → Entry
+entry_of (Ints w span) = Entry.numbers w span
+entry_of (Blobs w sizes short memos) = Entry.strings w sizes short memos
+entry_of (Views bodies) = Entry.tables (bodies_from bodies)
+
+abbrev pub body_of : DirBody → Body
+body_of b = record { rows = b.rows; columns = b.cols }

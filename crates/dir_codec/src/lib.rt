@@ -1,0 +1,14 @@
+//! The directory of a commit: its views, where the blocks of their columns stand, and its notes, as bytes and back.
+#![tactic(auto)]
+
+mod columns;
+mod dir;
+mod error;
+mod fields;
+mod laws;
+
+pub use dir::{
+    Dir, DirBodies, DirBody, DirCol, DirCols, DirView, DirViews, Memo, Memos, Note, Notes,
+};
+pub use error::DirError;
+pub use laws::{one_directory, one_flaw, whole_or_flawed};
