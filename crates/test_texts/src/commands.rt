@@ -3,6 +3,7 @@ use crate::shown;
 use cmd_text::{CmdError, Command, Refusal, Reply, Space, read_command, reply_text};
 use mk_value::{Literals, Path, Text, Texts};
 use std::alloc::Global;
+use std::process::Abort;
 use std::test::Fail;
 
 /// What a line reads as, or how it is refused.
@@ -83,7 +84,14 @@ fn shown_values(alloc: Global, values: &Literals) -> Result<String, Fail> {
     Ok(out)
 }
 
-/// Each command.
+/// Each line reads, or is refused, as is said beside it.
+fn all_read(rt: &impl Abort, alloc: Global, table: &[(&str, &str)]) -> Result<(), Fail> {
+    for (line, want) in table {
+        assert_eq!(rt; reading(alloc, line.as_bytes())?.as_str(), *want, "{line}");
+    }
+    Ok(())
+}
+
 const COMMANDS: [(&str, &str); 12] = [
     ("", "nothing"),
     ("   ", "nothing"),
@@ -99,7 +107,11 @@ const COMMANDS: [(&str, &str); 12] = [
     (" quit  ", "quit"),
 ];
 
-/// Values are literals side by side.
+#[test]
+fn each_command_reads(rt: HostRuntime) -> Result<(), Fail> {
+    all_read(&rt, rt.alloc(), &COMMANDS)
+}
+
 const VALUES: [(&str, &str); 7] = [
     ("add t", "add t"),
     ("add t 1\"x\"", "add t 1 'x'"),
@@ -113,7 +125,11 @@ const VALUES: [(&str, &str); 7] = [
     ("add d/0/a/1/b 8", "add d/0/a/1/b 8"),
 ];
 
-/// Words of commands name views.
+#[test]
+fn values_are_literals_side_by_side(rt: HostRuntime) -> Result<(), Fail> {
+    all_read(&rt, rt.alloc(), &VALUES)
+}
+
 const NAMES: [(&str, &str); 4] = [
     ("size quit", "size quit"),
     ("show struct/0/getas", "show struct/0/getas"),
@@ -121,7 +137,11 @@ const NAMES: [(&str, &str); 4] = [
     ("set set 0 set 1", "set set 0 set 1"),
 ];
 
-/// A piece that is no token wins.
+#[test]
+fn words_of_commands_name_views(rt: HostRuntime) -> Result<(), Fail> {
+    all_read(&rt, rt.alloc(), &NAMES)
+}
+
 const PIECES: [(&str, &str); 7] = [
     ("foo %", "syntax 4"),
     ("quit x \"", "syntax 7"),
@@ -132,7 +152,11 @@ const PIECES: [(&str, &str); 7] = [
     ("quit\r", "syntax 4"),
 ];
 
-/// The first token that cannot go on.
+#[test]
+fn a_piece_that_is_no_token_wins(rt: HostRuntime) -> Result<(), Fail> {
+    all_read(&rt, rt.alloc(), &PIECES)
+}
+
 const TOKENS: [(&str, &str); 14] = [
     ("foo", "syntax 0"),
     ("  quit x", "syntax 7"),
@@ -150,7 +174,11 @@ const TOKENS: [(&str, &str); 14] = [
     ("1", "syntax 0"),
 ];
 
-/// A line that ends early is refused at its end.
+#[test]
+fn the_first_token_that_cannot_go_on(rt: HostRuntime) -> Result<(), Fail> {
+    all_read(&rt, rt.alloc(), &TOKENS)
+}
+
 const EARLY_ENDS: [(&str, &str); 9] = [
     ("drop", "syntax 4"),
     ("drop  ", "syntax 6"),
@@ -163,7 +191,11 @@ const EARLY_ENDS: [(&str, &str); 9] = [
     ("insert", "syntax 6"),
 ];
 
-/// A line that gives a structure.
+#[test]
+fn a_line_that_ends_early_is_refused_at_its_end(rt: HostRuntime) -> Result<(), Fail> {
+    all_read(&rt, rt.alloc(), &EARLY_ENDS)
+}
+
 const STRUCTURES: [(&str, &str); 14] = [
     ("getas", "syntax 5"),
     ("getas  ", "syntax 7"),
@@ -181,12 +213,28 @@ const STRUCTURES: [(&str, &str); 14] = [
     ("getas d[a[b[c[e[f[g[h[i:I]]]]]]]]", "getas d 1"),
 ];
 
-/// Braces stand eight deep.
+#[test]
+fn a_line_that_gives_a_structure(rt: HostRuntime) -> Result<(), Fail> {
+    all_read(&rt, rt.alloc(), &STRUCTURES)
+}
+
 const BRACES: [(&str, &str); 3] = [
     ("add d {({({({({({({(7)})})})})})})}", "add d rows 1"),
     ("add d {({({({({({({({})})})})})})})}", "add d rows 1"),
     ("add d {({({({({({({({({})})})})})})})})}", "syntax 22"),
 ];
+
+#[test]
+fn braces_stand_eight_deep(rt: HostRuntime) -> Result<(), Fail> {
+    all_read(&rt, rt.alloc(), &BRACES)
+}
+
+#[test]
+fn a_line_that_is_no_text(rt: HostRuntime) -> Result<(), Fail> {
+    assert_eq!(rt; reading(rt.alloc(), b"getas \xff")?.as_str(), "syntax 6");
+    assert_eq!(rt; reading(rt.alloc(), b"% quit \xc3")?.as_str(), "syntax 7");
+    Ok(())
+}
 
 /// The lines of a reply.
 fn text_of(alloc: Global, reply: &Reply) -> Result<Text, Fail> {
@@ -196,93 +244,95 @@ fn text_of(alloc: Global, reply: &Reply) -> Result<Text, Fail> {
 }
 
 #[test]
-fn lines_are_read(rt: HostRuntime) -> Result<(), Fail> {
-    let tables = [
-        &COMMANDS[..],
-        &VALUES[..],
-        &NAMES[..],
-        &PIECES[..],
-        &TOKENS[..],
-        &EARLY_ENDS[..],
-        &STRUCTURES[..],
-        &BRACES[..],
-    ];
-    for table in tables {
-        for (line, want) in table {
-            assert_eq!(rt;
-                reading(rt.alloc(), line.as_bytes())?.as_str(),
-                *want,
-                "{line}"
-            );
-        }
-    }
-    assert_eq!(rt; reading(rt.alloc(), b"getas \xff")?.as_str(), "syntax 6");
-    assert_eq!(rt; reading(rt.alloc(), b"% quit \xc3")?.as_str(), "syntax 7");
-    Ok(())
-}
-
-const SPACE: Space = Space {
-    number: 4,
-    end: 608,
-    used: 304,
-};
-
-#[test]
 fn replies_have_their_texts(rt: HostRuntime) -> Result<(), Fail> {
-    let alloc = rt.alloc();
-    let mut lines = Texts::new(alloc);
-    lines.push(Text::from_str(alloc, "(\"Ann\",31)")?)?;
-    lines.push(Text::from_str(alloc, "(\"Bob\",31)")?)?;
+    let space = Space {
+        number: 4,
+        end: 608,
+        used: 304,
+    };
     let table = [
         (Reply::Silent, ""),
         (Reply::Plain, "ok\n"),
-        (Reply::Count(u64::MAX), "ok 18446744073709551615\n"),
+        (
+            Reply::Count(18446744073709551615),
+            "ok 18446744073709551615\n",
+        ),
         (Reply::Pair(1, 2), "ok 1 2\n"),
         (Reply::NotFound, "ok none\n"),
         (Reply::Commit(1), "ok commit 1\n"),
         (Reply::Rollback(1), "ok rollback 1\n"),
         (Reply::Reopen(2), "ok reopen 2\n"),
-        (Reply::Space(SPACE), "ok space 4 608 304\n"),
+        (Reply::Space(space), "ok space 4 608 304\n"),
         (Reply::Quit, "ok quit\n"),
-        (
-            Reply::One(Text::from_str(alloc, "people[name:S,age:I]")?),
-            "ok people[name:S,age:I]\n",
-        ),
-        (Reply::Lines(Texts::new(alloc)), "ok 0\n"),
-        (Reply::Lines(lines), "ok 2\n(\"Ann\",31)\n(\"Bob\",31)\n"),
     ];
     for (reply, want) in table {
-        assert_eq!(rt; text_of(alloc, &reply)?.as_str(), want);
+        assert_eq!(rt; text_of(rt.alloc(), &reply)?.as_str(), want);
     }
     Ok(())
 }
 
-const REFUSALS: [(Refusal, &str); 18] = [
-    (Refusal::Memory, "err 1 memory\n"),
-    (Refusal::Syntax(8), "err 2 syntax 8\n"),
-    (Refusal::NoName, "err 3 noname\n"),
-    (Refusal::Exists, "err 4 exists\n"),
-    (Refusal::Range(3), "err 5 range 3\n"),
-    (Refusal::NoProp, "err 6 noprop\n"),
-    (Refusal::Kind, "err 7 kind\n"),
-    (Refusal::Limit, "err 8 limit\n"),
-    (Refusal::Disk, "err 9 disk\n"),
-    (Refusal::Full(800, 608), "err 10 full 800 608\n"),
-    (Refusal::Shut, "err 11 shut\n"),
-    (Refusal::LastNumber, "err 12 lastnumber\n"),
-    (Refusal::Floating(10), "err 13 floating 10\n"),
-    (Refusal::ReadOnly, "err 14 readonly\n"),
-    (Refusal::Damaged(224), "err 15 damaged 224\n"),
-    (Refusal::InUse, "err 16 inuse\n"),
-    (Refusal::Keys(1), "err 17 keys 1\n"),
-    (Refusal::Unsorted, "err 18 unsorted\n"),
-];
+#[test]
+fn texts_stand_on_lines_of_their_own(rt: HostRuntime) -> Result<(), Fail> {
+    let alloc = rt.alloc();
+    let one = Text::from_str(alloc, "people[name:S,age:I]")?;
+    assert_eq!(rt;
+        text_of(alloc, &Reply::One(one))?.as_str(),
+        "ok people[name:S,age:I]\n"
+    );
+    let mut lines = Texts::new(alloc);
+    assert_eq!(rt;
+        text_of(alloc, &Reply::Lines(Texts::new(alloc)))?.as_str(),
+        "ok 0\n"
+    );
+    lines.push(Text::from_str(alloc, "(\"Ann\",31)")?)?;
+    lines.push(Text::from_str(alloc, "(\"Bob\",31)")?)?;
+    assert_eq!(rt;
+        text_of(alloc, &Reply::Lines(lines))?.as_str(),
+        "ok 2\n(\"Ann\",31)\n(\"Bob\",31)\n"
+    );
+    Ok(())
+}
 
 #[test]
 fn refusals_have_their_numbers(rt: HostRuntime) -> Result<(), Fail> {
-    for (refusal, want) in &REFUSALS {
-        let reply = Reply::Refused(*refusal);
-        assert_eq!(rt; text_of(rt.alloc(), &reply)?.as_str(), *want);
+    let table = [
+        (Refusal::Memory, "err 1 memory\n"),
+        (Refusal::Syntax(8), "err 2 syntax 8\n"),
+        (Refusal::NoName, "err 3 noname\n"),
+        (Refusal::Exists, "err 4 exists\n"),
+        (Refusal::Range(3), "err 5 range 3\n"),
+        (Refusal::NoProp, "err 6 noprop\n"),
+        (Refusal::Kind, "err 7 kind\n"),
+        (Refusal::Limit, "err 8 limit\n"),
+        (Refusal::Disk, "err 9 disk\n"),
+    ];
+    for (refusal, want) in table {
+        assert_eq!(rt;
+            text_of(rt.alloc(), &Reply::Refused(refusal))?.as_str(),
+            want
+        );
+    }
+    Ok(())
+}
+
+#[test]
+fn later_refusals_have_their_numbers(rt: HostRuntime) -> Result<(), Fail> {
+    let table = [
+        (Refusal::Full(800, 608), "err 10 full 800 608\n"),
+        (Refusal::Shut, "err 11 shut\n"),
+        (Refusal::LastNumber, "err 12 lastnumber\n"),
+        (Refusal::Floating(10), "err 13 floating 10\n"),
+        (Refusal::ReadOnly, "err 14 readonly\n"),
+        (Refusal::Damaged(224), "err 15 damaged 224\n"),
+        (Refusal::InUse, "err 16 inuse\n"),
+        (Refusal::Keys(1), "err 17 keys 1\n"),
+        (Refusal::Unsorted, "err 18 unsorted\n"),
+    ];
+    for (refusal, want) in table {
+        assert_eq!(rt;
+            text_of(rt.alloc(), &Reply::Refused(refusal))?.as_str(),
+            want
+        );
     }
     Ok(())
 }

@@ -1,6 +1,7 @@
 //! Tokens, and the literals and paths that stand at the front of them.
 use crate::shown;
 use std::alloc::Global;
+use std::process::Abort;
 use std::test::Fail;
 use tokens::{PartError, Piece, ReadError, Token, cut, literal_at, path_at, read_literal};
 
@@ -63,7 +64,14 @@ fn literal_of(alloc: Global, text: &str) -> Result<(bool, usize), Fail> {
     }
 }
 
-/// Words are names.
+/// Each text is cut as is said beside it.
+fn all_cut(rt: &impl Abort, alloc: Global, table: &[(&str, &str)]) -> Result<(), Fail> {
+    for (text, want) in table {
+        assert_eq!(rt; cutting(alloc, text)?.as_str(), *want, "{text}");
+    }
+    Ok(())
+}
+
 const WORDS: [(&str, &str); 6] = [
     ("_9Z", "0:_9Z "),
     (
@@ -76,7 +84,11 @@ const WORDS: [(&str, &str); 6] = [
     ("a é", "0:a none at 2"),
 ];
 
-/// Numbers have 64 bits and one spelling.
+#[test]
+fn words_are_names(rt: HostRuntime) -> Result<(), Fail> {
+    all_cut(&rt, rt.alloc(), &WORDS)
+}
+
 const NUMBERS: [(&str, &str); 8] = [
     ("0", "0:0 "),
     ("00", "none at 0"),
@@ -88,7 +100,11 @@ const NUMBERS: [(&str, &str); 8] = [
     ("-5a", "none at 0"),
 ];
 
-/// A minus before a digit begins a number.
+#[test]
+fn numbers_have_64_bits_and_one_spelling(rt: HostRuntime) -> Result<(), Fail> {
+    all_cut(&rt, rt.alloc(), &NUMBERS)
+}
+
 const MINUSES: [(&str, &str); 5] = [
     ("1-2", "0:1 1:-2 "),
     ("- 5", "0:Minus 2:5 "),
@@ -97,7 +113,11 @@ const MINUSES: [(&str, &str); 5] = [
     ("a-1", "0:a 1:-1 "),
 ];
 
-/// Byte strings are pairs of digits.
+#[test]
+fn a_minus_before_a_digit_begins_a_number(rt: HostRuntime) -> Result<(), Fail> {
+    all_cut(&rt, rt.alloc(), &MINUSES)
+}
+
 const BYTE_STRINGS: [(&str, &str); 7] = [
     ("x\"00ff\"", "0:x'00ff' "),
     ("x\"\"", "0:x'' "),
@@ -108,7 +128,11 @@ const BYTE_STRINGS: [(&str, &str); 7] = [
     ("ax\"00\"", "0:ax 2:'00' "),
 ];
 
-/// Texts have three escapes.
+#[test]
+fn byte_strings_are_pairs_of_digits(rt: HostRuntime) -> Result<(), Fail> {
+    all_cut(&rt, rt.alloc(), &BYTE_STRINGS)
+}
+
 const TEXTS: [(&str, &str); 9] = [
     ("\"a\\\"b\\\\c\\nd\"", "0:'a\\\"b\\\\c\\nd' "),
     ("\"\"", "0:'' "),
@@ -121,7 +145,11 @@ const TEXTS: [(&str, &str); 9] = [
     ("\"abc\\\"", "none at 0"),
 ];
 
-/// Only spaces part tokens.
+#[test]
+fn texts_have_three_escapes(rt: HostRuntime) -> Result<(), Fail> {
+    all_cut(&rt, rt.alloc(), &TEXTS)
+}
+
 const SPACES: [(&str, &str); 8] = [
     ("", ""),
     ("   ", ""),
@@ -136,7 +164,19 @@ const SPACES: [(&str, &str); 8] = [
     ),
 ];
 
-/// Whole literals.
+#[test]
+fn only_spaces_part_tokens(rt: HostRuntime) -> Result<(), Fail> {
+    all_cut(&rt, rt.alloc(), &SPACES)
+}
+
+/// Each text reads as a literal, or is refused, as is said beside it.
+fn all_read(rt: &impl Abort, alloc: Global, table: &[(&str, &str)]) -> Result<(), Fail> {
+    for (text, want) in table {
+        assert_eq!(rt; reading(alloc, text)?.as_str(), *want, "{text}");
+    }
+    Ok(())
+}
+
 const LITERALS: [(&str, &str); 11] = [
     ("2147483647", "2147483647"),
     (" -9223372036854775808 ", "-9223372036854775808"),
@@ -153,7 +193,11 @@ const LITERALS: [(&str, &str); 11] = [
     ("{({({({({({({({})})})})})})})}", "rows 1"),
 ];
 
-/// The first offence of a text.
+#[test]
+fn literals_are_read(rt: HostRuntime) -> Result<(), Fail> {
+    all_read(&rt, rt.alloc(), &LITERALS)
+}
+
 const OFFENCES: [(&str, &str); 13] = [
     ("9223372036854775808", "none at 0"),
     ("  ", "none at 2"),
@@ -172,7 +216,11 @@ const OFFENCES: [(&str, &str); 13] = [
     ("foo 1a", "none at 4"),
 ];
 
-/// A path stops where no slash goes on.
+#[test]
+fn the_first_offence_is_told(rt: HostRuntime) -> Result<(), Fail> {
+    all_read(&rt, rt.alloc(), &OFFENCES)
+}
+
 const PATHS: [(&str, (bool, usize)); 10] = [
     ("d", (true, 1)),
     ("d 5", (true, 1)),
@@ -186,7 +234,14 @@ const PATHS: [(&str, (bool, usize)); 10] = [
     ("d/0/a/0/5", (false, 8)),
 ];
 
-/// A literal is read from the front.
+#[test]
+fn paths_stop_where_no_slash_goes_on(rt: HostRuntime) -> Result<(), Fail> {
+    for (text, want) in &PATHS {
+        assert_eq!(rt; path_of(rt.alloc(), text)?, *want, "{text}");
+    }
+    Ok(())
+}
+
 const FRONTS: [(&str, (bool, usize)); 7] = [
     ("1 2", (true, 1)),
     ("{(1)} a", (true, 5)),
@@ -198,38 +253,7 @@ const FRONTS: [(&str, (bool, usize)); 7] = [
 ];
 
 #[test]
-fn texts_are_cut(rt: HostRuntime) -> Result<(), Fail> {
-    let tables = [
-        &WORDS[..],
-        &NUMBERS[..],
-        &MINUSES[..],
-        &BYTE_STRINGS[..],
-        &TEXTS[..],
-        &SPACES[..],
-    ];
-    for table in tables {
-        for (text, want) in table {
-            assert_eq!(rt; cutting(rt.alloc(), text)?.as_str(), *want, "{text}");
-        }
-    }
-    Ok(())
-}
-
-#[test]
-fn texts_are_read(rt: HostRuntime) -> Result<(), Fail> {
-    for table in [&LITERALS[..], &OFFENCES[..]] {
-        for (text, want) in table {
-            assert_eq!(rt; reading(rt.alloc(), text)?.as_str(), *want, "{text}");
-        }
-    }
-    Ok(())
-}
-
-#[test]
-fn fronts_are_read(rt: HostRuntime) -> Result<(), Fail> {
-    for (text, want) in &PATHS {
-        assert_eq!(rt; path_of(rt.alloc(), text)?, *want, "{text}");
-    }
+fn a_literal_is_read_from_the_front(rt: HostRuntime) -> Result<(), Fail> {
     for (text, want) in &FRONTS {
         assert_eq!(rt; literal_of(rt.alloc(), text)?, *want, "{text}");
     }

@@ -51,6 +51,15 @@ fn refusals(rt: HostRuntime) {
         ("x[a:I,ab:S,a[b:I]]", StructError::Repeated(11)),
         ("x[a[b:I],a:I]", StructError::Repeated(9)),
         ("x[a[b:I,b:I],a:F]", StructError::Repeated(8)),
+    ];
+    for (text, wanted) in rows {
+        assert_eq!(rt; parse(rt.alloc(), text).err(), Some(wanted), "at {text}");
+    }
+}
+
+#[test]
+fn refusals_at_limits(rt: HostRuntime) {
+    let rows = [
         (
             "aaaaaaaaaaaaaaaaaaaaaaaaaaaaaaaa[b:I]",
             StructError::TooLong(0),
