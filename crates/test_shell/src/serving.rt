@@ -1,6 +1,8 @@
 //! How a run over lines ends, and what it has said by then.
 use crate::echo::run;
 use lines::End;
+use std::alloc::Global;
+use std::process::Abort;
 use std::test::Fail;
 
 /// The input, the call that fails, the most bytes of a piece, the budget; how it ends, and what was said.
@@ -36,12 +38,19 @@ const CASES: [Case; 18] = [
     (CUT, None, 7, 99, End::Done, SAID),
 ];
 
+/// A run ends so, and has said just this.
+fn holds(rt: &impl Abort, alloc: Global, case: &Case) -> Result<(), Fail> {
+    let (input, fails, most, budget, end, said) = *case;
+    let (ended, spoke) = run(alloc, input, fails, most, budget)?;
+    assert_eq!(rt; ended, end);
+    assert_eq!(rt; spoke.as_slice(), said);
+    Ok(())
+}
+
 #[test]
 fn runs_end_as_their_rows_say(rt: HostRuntime) -> Result<(), Fail> {
-    for (input, fails, most, budget, end, said) in CASES {
-        let (ended, spoke) = run(rt.alloc(), input, fails, most, budget)?;
-        assert_eq!(rt; ended, end, "on {input:?} in pieces of {most}");
-        assert_eq!(rt; spoke.as_slice(), said, "on {input:?} in pieces of {most}");
+    for case in &CASES {
+        holds(&rt, rt.alloc(), case)?;
     }
     Ok(())
 }

@@ -5,6 +5,7 @@ use mk_value::{
 };
 use std::alloc::Global;
 use std::cmp::Ordering;
+use std::process::Abort;
 use std::test::Fail;
 use struct_text::parse;
 use tokens::read_literal;
@@ -67,18 +68,24 @@ const VALUES: [(&str, &str, &str, &str); 15] = [
     ),
 ];
 
+/// The default of a kind prints so, and a literal becomes that.
+fn has_value(rt: &impl Abort, alloc: Global, case: &(&str, &str, &str, &str)) -> Result<(), Fail> {
+    let (kind, default, literal, want) = *case;
+    let schema = schema_of(alloc, kind)?;
+    let Some(prop) = schema.as_slice().first() else {
+        return Err(Fail::new("no property"));
+    };
+    let mut out = Text::new(alloc);
+    print_value(&default_of(alloc, &prop.kind), &mut out)?;
+    assert_eq!(rt; out.as_str(), default);
+    assert_eq!(rt; becoming(alloc, &prop.kind, literal)?.as_str(), want);
+    Ok(())
+}
+
 #[test]
 fn a_literal_becomes_a_value_or_does_not_fit(rt: HostRuntime) -> Result<(), Fail> {
-    for (kind, default, literal, want) in VALUES {
-        let schema = schema_of(rt.alloc(), kind)?;
-        let Some(prop) = schema.as_slice().first() else {
-            return Err(Fail::new("no property"));
-        };
-        let mut out = Text::new(rt.alloc());
-        print_value(&default_of(rt.alloc(), &prop.kind), &mut out)?;
-        assert_eq!(rt; out.as_str(), default, "the default of {kind}");
-        let became = becoming(rt.alloc(), &prop.kind, literal)?;
-        assert_eq!(rt; became.as_str(), want, "{literal} under {kind}");
+    for case in &VALUES {
+        has_value(&rt, rt.alloc(), case)?;
     }
     Ok(())
 }
@@ -95,18 +102,27 @@ const FITTING: [(&str, &str, &str, bool); 8] = [
     ("[age:I]", "{(31)}", "[age:I,name:S]", false),
 ];
 
+/// Whether a value of a kind fits another.
+fn does_fit(alloc: Global, own: &str, literal: &str, kind: &str) -> Result<bool, Fail> {
+    let given = value(alloc, own, literal)?;
+    let schema = schema_of(alloc, kind)?;
+    match schema.as_slice().first() {
+        Some(prop) => Ok(fits(&given, &prop.kind)),
+        None => Err(Fail::new("no property")),
+    }
+}
+
 #[test]
 fn a_value_fits_its_own_kind_alone(rt: HostRuntime) -> Result<(), Fail> {
-    for (own, literal, kind, want) in FITTING {
-        let given = value(rt.alloc(), own, literal)?;
-        let schema = schema_of(rt.alloc(), kind)?;
-        let fit = schema
-            .as_slice()
-            .first()
-            .map(|prop| fits(&given, &prop.kind));
-        assert_eq!(rt; fit, Some(want), "{literal} under {kind}");
+    for (own, literal, kind, want) in &FITTING {
+        assert_eq!(rt; does_fit(rt.alloc(), own, literal, kind)?, *want);
     }
-    // No literal spells a text with a zero byte.
+    Ok(())
+}
+
+/// No literal spells a text with a zero byte.
+#[test]
+fn a_text_with_a_zero_byte_fits_no_kind(rt: HostRuntime) -> Result<(), Fail> {
     let zero = Value::S(Text::from_str(rt.alloc(), "a\0")?);
     assert!(rt; !fits(&zero, &Kind::S));
     Ok(())
@@ -148,39 +164,65 @@ const KEYS: [((i32, u64, bool), (i32, u64, bool), bool, Ordering); 6] = [
     ((1, 9, false), (1, 0, true), false, Ordering::Less),
 ];
 
+/// The order of two values of a kind.
+fn value_order(alloc: Global, kind: &str, one: &str, two: &str) -> Result<Ordering, Fail> {
+    let first = value(alloc, kind, one)?;
+    let second = value(alloc, kind, two)?;
+    Ok(cmp_value(&first, &second))
+}
+
 #[test]
-fn values_and_keys_are_ordered(rt: HostRuntime) -> Result<(), Fail> {
-    for (kind, one, two, want) in ORDERS {
-        let first = value(rt.alloc(), kind, one)?;
-        let second = value(rt.alloc(), kind, two)?;
-        assert_eq!(rt; cmp_value(&first, &second), want, "{one} beside {two}");
-    }
-    for (one, two, down, want) in KEYS {
-        let first = key(rt.alloc(), one.0, down, one.1, one.2)?;
-        let second = key(rt.alloc(), two.0, down, two.1, two.2)?;
-        assert_eq!(rt; first.cmp(&second), want, "{one:?} beside {two:?}");
-        assert_eq!(rt;
-            first == second,
-            want == Ordering::Equal,
-            "{one:?} beside {two:?}"
-        );
+fn values_are_ordered(rt: HostRuntime) -> Result<(), Fail> {
+    for (kind, one, two, want) in &ORDERS {
+        assert_eq!(rt; value_order(rt.alloc(), kind, one, two)?, *want);
     }
     Ok(())
 }
 
+/// The order of two keys, and whether they are equal.
+fn key_order(
+    alloc: Global,
+    one: (i32, u64, bool),
+    two: (i32, u64, bool),
+    down: bool,
+) -> Result<(Ordering, bool), Fail> {
+    let first = key(alloc, one.0, down, one.1, one.2)?;
+    let second = key(alloc, two.0, down, two.1, two.2)?;
+    Ok((first.cmp(&second), first == second))
+}
+
 #[test]
-fn a_table_of_plain_rows_is_read_by_row_and_column(rt: HostRuntime) -> Result<(), Fail> {
-    let schema = schema_of(rt.alloc(), ":I")?;
-    let Value::V(mut rows) = value(rt.alloc(), "[x:I]", "{(1)}")? else {
-        return Err(Fail::new("no rows"));
-    };
-    let Value::V(five) = value(rt.alloc(), "[x:I]", "{(5)}")? else {
+fn keys_are_ordered(rt: HostRuntime) -> Result<(), Fail> {
+    for (one, two, down, want) in &KEYS {
+        let (order, equal) = key_order(rt.alloc(), *one, *two, *down)?;
+        assert_eq!(rt; order, *want);
+        assert_eq!(rt; equal, want.is_eq());
+    }
+    Ok(())
+}
+
+/// The rows 5 and 1 of a table of numbers: two copies of 5 put before 1, and one taken out.
+fn five_and_one(alloc: Global) -> Result<Rows, Fail> {
+    let (Value::V(mut rows), Value::V(five)) = (
+        value(alloc, "[x:I]", "{(1)}")?,
+        value(alloc, "[x:I]", "{(5)}")?,
+    ) else {
         return Err(Fail::new("no rows"));
     };
     for row in five.as_slice() {
         rows.insert(0, row, 2)?;
     }
+    if rows.len() == 0 {
+        return Err(Fail::new("no rows"));
+    }
     rows.remove(0, 1);
+    Ok(rows)
+}
+
+#[test]
+fn a_table_of_plain_rows_is_read_by_row_and_column(rt: HostRuntime) -> Result<(), Fail> {
+    let schema = schema_of(rt.alloc(), ":I")?;
+    let rows = five_and_one(rt.alloc())?;
     if !rows_fit(&rows, &schema) {
         return Err(Fail::new("no rows of the schema"));
     }
@@ -204,17 +246,26 @@ const NAMES: [(&str, bool); 7] = [
     ("é", false),
 ];
 
-/// Names; a schema and its copy; a path with more steps than stand in the path itself; a list.
 #[test]
-fn names_schemas_paths_and_lists(rt: HostRuntime) -> Result<(), Fail> {
-    for (text, want) in NAMES {
-        assert_eq!(rt; Name::is_name(text), want, "{text}");
+fn names_have_1_to_31_letters_digits_and_underscores(rt: HostRuntime) {
+    for (text, want) in &NAMES {
+        assert_eq!(rt; Name::is_name(text), *want);
     }
+}
+
+#[test]
+fn a_schema_finds_its_property(rt: HostRuntime) -> Result<(), Fail> {
     let schema = schema_of(rt.alloc(), "[y[z:I]]")?;
     assert!(rt; schema.is_same(&schema.copy()?));
-    assert_eq!(rt; (schema.find("x"), schema.find("y")), (Some(0), None));
+    assert_eq!(rt; schema.find("x"), Some(0));
+    assert_eq!(rt; schema.find("y"), None);
     assert_eq!(rt; schema.depth(), 3);
+    Ok(())
+}
 
+/// More steps than stand in the path itself.
+#[test]
+fn a_path_keeps_its_name_and_its_steps(rt: HostRuntime) -> Result<(), Fail> {
     let Some(name) = Name::from_bytes(b"book") else {
         return Err(Fail::new("no name"));
     };
@@ -226,7 +277,11 @@ fn names_schemas_paths_and_lists(rt: HostRuntime) -> Result<(), Fail> {
     assert_eq!(rt; path.name().as_str(), "book");
     assert_eq!(rt; path.steps().len(), 6);
     assert_eq!(rt; path.steps().last().map(|step| step.row), Some(5));
+    Ok(())
+}
 
+#[test]
+fn a_list_gives_what_was_put_into_it(rt: HostRuntime) -> Result<(), Fail> {
     let mut positions = Positions::new(rt.alloc());
     assert!(rt; positions.is_empty());
     positions.push(4)?;
