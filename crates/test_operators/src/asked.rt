@@ -1,10 +1,10 @@
 //! What an operator is asked by: names, keys, criteria, positions.
-ghost use Rattle.std.specs.Prelude.{◌<◌, IfOk, length};
+ghost use Rattle.std.specs.Prelude.{◌≡◌, ◌<◌, IfOk, length};
 
 use crate::tables::name;
 use anyhow::{Context, Result, ensure};
 use derived::{Criterion, Key};
-use mk_value::{Name, Positions, Sequence, Value, to_value};
+use mk_value::{Kind, Name, Positions, Sequence, Value, to_value};
 use std::alloc::Global;
 use struct_text::parse;
 use tokens::read_literal;
@@ -51,13 +51,36 @@ pub fn criteria(alloc: Global, words: Words) -> Result<Sequence<Criterion>> {
 }
 
 fn criterion(alloc: Global, prop: &str, low: &str, high: &str) -> Result<Criterion> {
+    let (name, kind) = property(alloc, prop)?;
+    let low = to_value(alloc, &read_literal(alloc, low)?, &kind)?;
+    let high = to_value(alloc, &read_literal(alloc, high)?, &kind)?;
+    Ok(Criterion {
+        prop: name,
+        low,
+        high,
+    })
+}
+
+/// The criterion that a property has a value.
+pub fn equal(alloc: Global, prop: &str, value: &str) -> Result<Criterion>
+    ensures { IfOk result (λ criterion. criterion.low ≡ criterion.high) }
+{
+    let (name, kind) = property(alloc, prop)?;
+    let low = to_value(alloc, &read_literal(alloc, value)?, &kind)?;
+    let high = low.copy()?;
+    Ok(Criterion {
+        prop: name,
+        low,
+        high,
+    })
+}
+
+/// The name and the kind of a property as a structure text has it.
+fn property(alloc: Global, prop: &str) -> Result<(Name, Kind)> {
     let structure = format!(in alloc; "t[{prop}]")?;
     let (_, schema) = parse(alloc, structure.as_str())?;
     let prop = schema.as_slice().first().context("a property")?;
-    let low = to_value(alloc, &read_literal(alloc, low)?, &prop.kind)?;
-    let high = to_value(alloc, &read_literal(alloc, high)?, &prop.kind)?;
-    let prop = prop.name.copy()?;
-    Ok(Criterion { prop, low, high })
+    Ok((prop.name.copy()?, prop.kind.copy()?))
 }
 
 /// Positions of rows.

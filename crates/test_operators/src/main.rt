@@ -25,26 +25,16 @@ use std::alloc::Global;
 fn answer(alloc: Global, line: &str) -> Result<String> {
     let (source, steps) = line.split_once(" | ").context("a line has a step")?;
     let mut table = tables::table(alloc, source)?;
-    let mut rest = steps;
-    while let Some((step, others)) = rest.split_once(" | ") {
+    for step in steps.split(" | ") {
+        if let Some(said) = indexed::said(alloc, &table, step)? {
+            return Ok(said);
+        }
         match steps::step(alloc, table, step)? {
             Ok(next) => table = next,
             Err(error) => return shown::refusal(alloc, &error),
         }
-        rest = others;
     }
-    last_answer(alloc, table, rest)
-}
-
-/// What the last step says of a table.
-fn last_answer(alloc: Global, table: tables::Table, step: &str) -> Result<String> {
-    if step == "groups" {
-        return indexed::groups(alloc, &table);
-    }
-    match step.split_once("positions & ") {
-        Some((_, row)) => indexed::positions(alloc, &table, row),
-        None => shown::outcome(alloc, &steps::step(alloc, table, step)?),
-    }
+    shown::shown(alloc, &table)
 }
 
 fn main(rt: HostRuntime) -> Result<()> {

@@ -1,5 +1,4 @@
 //! Tables and refusals as texts.
-use crate::steps::Outcome;
 use crate::tables::{Table, name};
 use anyhow::Result;
 use derived::{DerivedError, copy_rows};
@@ -7,16 +6,8 @@ use mk_value::{Name, TableRead, Text, Value, print_value};
 use std::alloc::Global;
 use struct_text::print;
 
-/// The table as it is shown, or the refusal.
-pub fn outcome(alloc: Global, outcome: &Outcome) -> Result<String> {
-    match outcome {
-        Ok(table) => shown(alloc, table),
-        Err(error) => refusal(alloc, error),
-    }
-}
-
 /// The structure text of a table under the name `t`, and its rows as a view literal.
-fn shown(alloc: Global, table: &Table) -> Result<String> {
+pub fn shown(alloc: Global, table: &Table) -> Result<String> {
     let mut text = Text::new(alloc);
     print(&name("t")?, table.schema(), &mut text)?;
     text.push_str(" ")?;

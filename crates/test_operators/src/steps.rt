@@ -1,5 +1,5 @@
 //! One step: an operator over one table, or over two.
-use crate::asked::{Words, all_and_last, criteria, keys, names, positions};
+use crate::asked::{Words, all_and_last, criteria, equal, keys, names, positions};
 use crate::tables::{Table, are_within, name, table, words};
 use anyhow::{Context, Result, bail, ensure};
 use derived::{
@@ -32,7 +32,7 @@ pub fn step(alloc: Global, base: Table, step: &str) -> Result<Outcome> {
 
 fn on_one(alloc: Global, base: Table, word: &str, rest: Words) -> Result<Outcome> {
     match word {
-        "select" => Ok(select(alloc, base, criteria(alloc, rest)?.as_slice())),
+        "select" => selected(alloc, base, rest),
         "range" => Ok(range(alloc, base, criteria(alloc, rest)?.as_slice())),
         "sort" => Ok(sort(alloc, base, keys(alloc, rest)?.as_slice())),
         "project" => Ok(project(alloc, base, names(alloc, rest)?.as_slice())),
@@ -62,6 +62,19 @@ fn on_two(alloc: Global, a: Table, b: Table, word: &str, rest: Words) -> Result<
         "join" => Ok(join(alloc, a, b, names(alloc, rest)?.as_slice(), false)),
         "outerjoin" => Ok(join(alloc, a, b, names(alloc, rest)?.as_slice(), true)),
         _ => bail!("no operator on two tables"),
+    }
+}
+
+/// The rows that have one value, or two.
+fn selected(alloc: Global, base: Table, rest: Words) -> Result<Outcome> {
+    let prop = rest.first().context("a property")?;
+    let first = equal(alloc, prop, rest.get(1).context("a value")?)?;
+    match rest.get(2) {
+        None => Ok(select(alloc, base, &[first])),
+        Some(prop) => {
+            let second = equal(alloc, prop, rest.get(3).context("a value")?)?;
+            Ok(select(alloc, base, &[first, second]))
+        }
     }
 }
 

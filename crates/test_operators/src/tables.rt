@@ -53,12 +53,9 @@ pub fn are_within(positions: &Positions, size: usize) -> bool
 /// The words of a text with a space between each two.
 pub fn words(alloc: Global, text: &str) -> Result<Vec<&str>> {
     let mut words = Vec::new(alloc);
-    let mut rest = text;
-    while let Some((word, others)) = rest.split_once(" ") {
+    for word in text.split_whitespace() {
         words.push(word)?;
-        rest = others;
     }
-    words.push(rest)?;
     Ok(words)
 }
 
