@@ -5,4 +5,5 @@ pub mod MemoLists
 pub mod OneRow
 pub mod Reading
 pub mod Spelled
+pub mod TextColumns
 pub mod Whole
