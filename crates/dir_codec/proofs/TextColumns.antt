@@ -1,6 +1,6 @@
 -- A column of texts or byte strings, field by field.
 use Rattle.std.proofs.Common.{◌≡◌, ℕ, ◌+◌, ◌<◌, ◌≤◌, ◌⊎◌, inl, inr, ⊎_elim, List, [], ◌∷◌, ◌++◌, length, drop, refl, sym, ◌∙◌, ap, subst, arith}
-use Rattle.std.proofs.lemmas.List.{append-nil, append_assoc}
+use Rattle.std.proofs.lemmas.List.{append_assoc}
 use Rattle.bit_pack.specs.declared.widths.Width.{Width}
 use Rattle.bit_pack.specs.Width.{bit_count}
 use Rattle.bit_pack.specs.Packed.{packed_len}

@@ -1,4 +1,3 @@
-use Rattle.std.proofs.Common.{◌≡◌, ◌+◌, ◌≤◌, length, arith}
 use Rattle.std.proofs.lemmas.Result.{err_from_is_err_and}
 use Rattle.dir_codec.specs.Dir.{IsStrings}
 use Rattle.dir_codec.proofs.TextColumns.{count_flaw, memos_flaw, short_flaw, strings_read}
