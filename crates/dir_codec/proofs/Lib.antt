@@ -2,6 +2,7 @@ pub mod Going
 pub mod ColumnParts
 pub mod Fits
 pub mod MemoLists
+pub mod NoteLists
 pub mod NoteParts
 pub mod OneRow
 pub mod Reading
