@@ -2,7 +2,10 @@ pub mod Going
 pub mod ColumnParts
 pub mod Fits
 pub mod MemoLists
+pub mod NoteLists
+pub mod NoteParts
 pub mod OneRow
 pub mod Reading
 pub mod Spelled
+pub mod TextColumns
 pub mod Whole

@@ -1,11 +1,12 @@
 -- What is due for the parts of a directory, and how they are spelled.
-use Rattle.std.specs.Prelude.{ℕ, ◌+◌, List, [], ◌∷◌}
+use Rattle.std.specs.Prelude.{ℕ, ◌+◌, ◌<◌, ◌≤◌, List, [], ◌∷◌, length}
 use Rattle.std.specs.List.{flat_map}
 use Rattle.bit_pack.specs.declared.widths.Width.{Width}
 use Rattle.bit_pack.specs.Width.{bit_count}
 use Rattle.mk_value.specs.declared.span.Span.{Span}
+use Rattle.mk_value.specs.Data.{IsText}
 use Rattle.dir_codec.specs.declared.dir.Memo.{Memo}
-use Rattle.dir_codec.specs.Dir.{spelled_memo, spelled_span}
+use Rattle.dir_codec.specs.Dir.{NoteEntry, spelled_memo, spelled_span}
 use Rattle.dir_codec.specs.Fields.{Due, sizes_width, width}
 
 abbrev pub numbers_due : ℕ → ℕ → List Due
@@ -25,3 +26,11 @@ next_row least (memo ∷ memos) = next_row (memo.row + 1) memos
 
 abbrev pub strings_due : ℕ → List Due
 strings_due rows = sizes_width rows ∷ []
+
+-- a note in a directory of a commit with this number, whose own number is from this one on
+pub record IsNote (number least : ℕ) (note : NoteEntry) : Type 0 where
+  pub from : least ≤ note.number
+  pub upto : note.number ≤ number
+  pub some : 0 < length note.text
+  pub few : length note.text ≤ 255
+  pub text : IsText note.text

@@ -2,7 +2,8 @@
 use Rattle.dir_codec.specs.declared.dir.DirCol.{DirCol}
 use Rattle.dir_codec.specs.declared.dir.DirCol.TheVariants.{Ints, Blobs, Views}
 use Rattle.dir_codec.specs.declared.dir.DirBody.{DirBody}
-use Rattle.dir_codec.specs.Dir.{Entry, Body, bodies_from}
+use Rattle.dir_codec.specs.declared.dir.Note.{Note}
+use Rattle.dir_codec.specs.Dir.{Entry, Body, NoteEntry, bodies_from}
 
 abbrev pub entry_of : DirCol → Entry
 entry_of (Ints w span) = Entry.numbers w span
@@ -11,3 +12,6 @@ entry_of (Views bodies) = Entry.tables (bodies_from bodies)
 
 abbrev pub body_of : DirBody → Body
 body_of b = record { rows = b.rows; columns = b.cols }
+
+abbrev pub note_of : Note → NoteEntry
+note_of n = record { number = n.number; text = n.text.bytes }

@@ -3,11 +3,14 @@ ghost use Rattle.std.specs.Prelude.{◌≡◌, ◌+◌, ◌<◌, ◌≤◌, ℕ,
 ghost use Rattle.mk_value.specs.Limits.{max_rows};
 ghost use Rattle.bit_pack.specs.Width.{bit_count};
 ghost use Rattle.dir_codec.specs.Dir.{AreMemos, IsMemo, IsMemoSpan, IsNumbers, IsStrings, spelled_memo, spelled_span};
-ghost use Rattle.dir_codec.specs.Fields.{Due, memo_row, memos_due, span_of_field};
+ghost use Rattle.dir_codec.specs.Dir.{IsEntry, spelled_entry};
+ghost use Rattle.dir_codec.specs.Values.{entry_of};
+ghost use Rattle.dir_codec.specs.Fields.{Due, memo_count, memo_row, memos_due, short_block, span_of_field};
 ghost use Rattle.dir_codec.specs.Reads.{Flaws, GivesField, GivesPart, Leads, bytes_at};
-ghost use Rattle.dir_codec.specs.Parts.{numbers_due, spelled_memos, spelled_numbers};
+ghost use Rattle.dir_codec.specs.Parts.{numbers_due, spelled_memos, spelled_numbers, strings_due};
+ghost use Rattle.mk_value.specs.Heading.{Domain};
 
-use crate::dir::{Memo, Memos};
+use crate::dir::{DirCol, Memo, Memos};
 use crate::error::DirError;
 use crate::fields::{read_between, read_block, read_span, read_width, stands_in};
 use bit_pack::Width;
@@ -97,4 +100,49 @@ fn read_memos(
         memos.push(memo)?;
     }
     Ok((memos, place))
+}
+
+/// The width and the block of the sizes of so many texts or byte strings.
+fn read_sizes(bytes: &[u8], at: usize, end: u64, rows: u32) -> Result<(Width, Span), DirError>
+    requires within { at ≤ length bytes.now }
+    requires few { rows ≤ max_rows }
+    ensures { (number : ℕ) → MatchResult result
+        (λ r. IsNumbers end rows 32 r.0 r.1
+        × Leads number end (strings_due rows) bytes.now at (short_block ∷ memo_count rows ∷ []) (at + 17) (spelled_numbers r))
+        (Flaws number end (strings_due rows) bytes.now at) }
+{
+    let width = read_width(bytes, at, 32)?;
+    let sizes = read_block(bytes, at + 1, end)?;
+    if sizes.len == width.packed_len(rows as usize) as u64 {
+        Ok((width, sizes))
+    } else {
+        Err(DirError::At(at as u64 + 1))
+    }
+}
+
+/// A column of so many texts or byte strings.
+pub(crate) fn read_strings(
+    alloc: Global,
+    bytes: &[u8],
+    at: usize,
+    end: u64,
+    rows: u32,
+) -> Result<(DirCol, usize), DirError>
+    requires within { at ≤ length bytes.now }
+    requires few { rows ≤ max_rows }
+    ensures { (number : ℕ) → GivesPart number end (strings_due rows) bytes.now at
+        (λ column. IsEntry end rows Domain.text (entry_of column) × IsEntry end rows Domain.bytes (entry_of column))
+        (λ column. spelled_entry (entry_of column)) result }
+{
+    let (width, sizes) = read_sizes(bytes, at, end, rows)?;
+    let short = read_block(bytes, at + 17, end)?;
+    let count = read_between(bytes, at + 33, 0, rows)?;
+    let (memos, next) = read_memos(alloc, bytes, at + 37, end, rows, count)?;
+    let column = DirCol::Blobs {
+        width,
+        sizes,
+        short,
+        memos,
+    };
+    Ok((column, next))
 }

@@ -1,8 +1,10 @@
 // The fields of a directory, one by one: each is held whole and as required, or refused at its place.
-ghost use Rattle.std.specs.Prelude.{◌≡◌, ◌↔◌, ◌<◌, ◌≤◌, ◌⊎◌, [], ◌∷◌, length, IsTrue};
+ghost use Rattle.std.specs.Prelude.{◌≡◌, ◌↔◌, ◌+◌, ◌<◌, ◌≤◌, ◌⊎◌, [], ◌∷◌, length, drop, IsTrue, MatchResult};
 ghost use Rattle.bit_pack.specs.Width.{bit_count};
 ghost use Rattle.bit_pack.specs.declared.widths.Width.{Width as Widths};
 ghost use Rattle.byteorder.specs.Endian.{little_bytes};
+ghost use Rattle.mk_value.specs.Data.{IsText};
+ghost use Rattle.dir_codec.specs.declared.error.DirError.TheVariants as dir_error;
 ghost use Rattle.dir_codec.specs.Dir.{IsSpan, spelled_span};
 ghost use Rattle.free_space.specs.Sites.{IsSite};
 ghost use Rattle.dir_codec.specs.Fields.{number_of_field, span_of_field};
@@ -12,7 +14,8 @@ use crate::error::DirError;
 use bit_pack::Width;
 use byteorder::{ByteOrder, LittleEndian};
 use free_space::is_site;
-use mk_value::Span;
+use mk_value::{Span, Text, is_text};
+use std::alloc::Global;
 
 /// The bytes of a field.
 fn field(bytes: &[u8], at: usize, len: usize) -> Result<&[u8], DirError>
@@ -54,23 +57,36 @@ pub(crate) fn read_between(bytes: &[u8], at: usize, least: u32, most: u32) -> Re
     Ok(number)
 }
 
-/// A number of eight bytes, from `least` to `most`.
-pub(crate) fn read_long_between(
-    bytes: &[u8],
-    at: usize,
-    least: u64,
-    most: u64,
-) -> Result<u64, DirError>
+/// A number of eight bytes, above `last` and up to `most`.
+pub(crate) fn read_above(bytes: &[u8], at: usize, last: u64, most: u64) -> Result<u64, DirError>
     requires { at ≤ length bytes.now }
     ensures { GivesField bytes.now at 8
-        (λ n. (n ≡ number_of_field (bytes_at at 8 bytes.now)) × (bytes_at at 8 bytes.now ≡ little_bytes 8 n) × (least ≤ n) × (n ≤ most))
-        ((number_of_field (bytes_at at 8 bytes.now) < least) ⊎ (most < number_of_field (bytes_at at 8 bytes.now))) result }
+        (λ n. (n ≡ number_of_field (bytes_at at 8 bytes.now)) × (bytes_at at 8 bytes.now ≡ little_bytes 8 n) × (last < n) × (n ≤ most))
+        ((number_of_field (bytes_at at 8 bytes.now) ≤ last) ⊎ (most < number_of_field (bytes_at at 8 bytes.now))) result }
 {
     let number = read_u64(bytes, at)?;
-    if least <= number && number <= most {
+    if last < number && number <= most {
         Ok(number)
     } else {
         Err(DirError::At(at as u64))
+    }
+}
+
+/// A text of so many bytes.
+pub(crate) fn read_text(
+    alloc: Global,
+    bytes: &[u8],
+    at: usize,
+    len: usize,
+) -> Result<Text, DirError>
+    requires { at ≤ length bytes.now }
+    ensures { MatchResult result
+        (λ t. (at + len ≤ length bytes.now) × (t.bytes ≡ bytes_at at len bytes.now) × IsText t.bytes × (length t.bytes ≡ len))
+        (λ e. (e ≡ dir_error.Memory) ⊎ ((e ≡ dir_error.At at) × ((length (drop at bytes.now) < len) ⊎ (IsText (bytes_at at len bytes.now) → ⊥)))) }
+{
+    match str::from_utf8(field(bytes, at, len)?) {
+        Ok(text) if is_text(text) => Ok(Text::from_str(alloc, text)?),
+        _ => Err(DirError::At(at as u64)),
     }
 }
 

@@ -6,6 +6,7 @@ mod dir;
 mod error;
 mod fields;
 mod laws;
+mod notes;
 
 pub use dir::{
     Dir, DirBodies, DirBody, DirCol, DirCols, DirView, DirViews, Memo, Memos, Note, Notes,
