@@ -132,6 +132,17 @@ impl Chunk {
         Ok(())
     }
 
+    /// Adds a memo, which shares its bytes.
+    pub(crate) fn append_memo(&mut self, memo: &Memo) -> Result<(), Memory>
+        requires room { length self.old < 512 }
+        requires long { 512 < length memo.now }
+        ensures { OnOk result (self.new ≡ self.old ++ memo.now ∷ []) }
+    {
+        self.cells.reserve(1)?;
+        self.cells.push_reserved(Cell::Memo(memo.clone()?));
+        Ok(())
+    }
+
     /// Adds a value, and its size.
     #[inline]
     pub(crate) fn push(&mut self, value: &[u8], sizes: &mut IntCol) -> Result<(), Memory>

@@ -1,10 +1,12 @@
 //! A list of values in chunks, which copies of a column share.
-ghost use Rattle.std.specs.Prelude.{◌≡◌, ℕ, pos, ◌+◌, ◌-◌, ◌<◌, ◌≤◌, [], ◌∷◌, ◌++◌, length, take, drop, map, replicate, slice_set, slice_index_or, None, IfOk, OnOk, OnErr};
+ghost use Rattle.std.specs.Prelude.{◌≡◌, ℕ, pos, ◌+◌, ◌-◌, ◌<◌, ◌≤◌, [], ◌∷◌, ◌++◌, length, take, drop, map, replicate, slice_set, slice_index_or, None, IfOk, IfErr, OnOk, OnErr};
 ghost use Rattle.std.specs.Bool.{OnTrue};
 ghost use Rattle.segments.specs.Joined.{joined};
 ghost use Rattle.bytes_col.specs.Strings.{short_bytes};
+ghost use Rattle.bytes_col.specs.Blocks.{AreBlocks, IsBlocksRefusal};
 ghost use Rattle.bytes_col.specs.Spine.{HasSizes};
 
+use crate::blocks::{BlocksError, Memos, parts_of};
 use crate::chunk::{CHUNK_MOST, Chunk, push_shared, set_shared};
 use crate::parts::Parts;
 use crate::spine::Spine;
@@ -75,6 +77,21 @@ impl Chunked {
             parts.append(value.as_slice())?;
         }
         Chunked::of_chunks(alloc, parts.finish()?)
+    }
+
+    /// The values of these sizes, which the short bytes and the memos are.
+    pub(crate) fn of_blocks(
+        alloc: Global,
+        sizes: &IntCol,
+        short: &[u8],
+        memos: &Memos,
+    ) -> Result<Chunked, BlocksError>
+        ensures ok { IfOk result (λ chunks. AreBlocks (joined chunks) sizes.now.values short.now memos.now) }
+        ensures err { IfErr result (IsBlocksRefusal sizes.now.values short.now memos.now) }
+    {
+        let _few = sizes.len();
+        let parts = parts_of(alloc, sizes, short, memos.as_slice())?;
+        Ok(Chunked::of_chunks(alloc, parts.finish()?)?)
     }
 
     /// These chunks.
