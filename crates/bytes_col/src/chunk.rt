@@ -284,7 +284,10 @@ pub(crate) fn push_shared(
     ensures err { OnErr result (chunk.new ≡ chunk.old) }
     ensures sizes_err { OnErr result (sizes.new ≡ sizes.old) }
 {
-    chunk.own()?.push(value, sizes)
+    match chunk.sole() {
+        Some(own) => own.push(value, sizes),
+        None => chunk.own()?.push(value, sizes),
+    }
 }
 
 /// Sets a value, and its size. Other owners keep the chunk as it was.
@@ -303,7 +306,10 @@ pub(crate) fn set_shared(
     ensures err { OnErr result (chunk.new ≡ chunk.old) }
     ensures sizes_err { OnErr result (sizes.new ≡ sizes.old) }
 {
-    chunk.own()?.set(at, value, sizes, row)
+    match chunk.sole() {
+        Some(own) => own.set(at, value, sizes, row),
+        None => chunk.own()?.set(at, value, sizes, row),
+    }
 }
 
 /// How many short bytes a value has.

@@ -185,7 +185,10 @@ impl Chunked {
         match &mut self.kind {
             Kind::Empty(_) => unreachable!(),
             Kind::One(chunk) => set_in_chunk(chunk, at, value, sizes),
-            Kind::Many(spine) => spine.own()?.set(at, value, sizes),
+            Kind::Many(spine) => match spine.sole() {
+                Some(own) => own.set(at, value, sizes),
+                None => spine.own()?.set(at, value, sizes),
+            },
         }
     }
 
@@ -206,7 +209,10 @@ impl Chunked {
         ensures sizes_err { OnErr result (sizes.new ≡ sizes.old) }
     {
         match &mut self.kind {
-            Kind::Many(spine) => spine.own()?.insert(at, value, count, sizes),
+            Kind::Many(spine) => match spine.sole() {
+                Some(own) => own.insert(at, value, count, sizes),
+                None => spine.own()?.insert(at, value, count, sizes),
+            },
             Kind::One(chunk) if count == 1 && takes_at(chunk.get(), at) => {
                 push_to_chunk(chunk, value, sizes)
             }

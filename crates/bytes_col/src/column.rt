@@ -6,8 +6,8 @@ ghost use Rattle.std.specs.Cmp.Lexicographic.{slice_cmp};
 ghost use Rattle.bytes_col.specs.Blocks.{AreBlocks, IsBlocksRefusal};
 ghost use Rattle.bytes_col.specs.Strings.{Strings, is_short, short_bytes, sizes_of, memo_rows, home_after};
 
-use crate::cell::SHORT_MOST;
 use crate::blocks::{BlocksError, Memos};
+use crate::cell::SHORT_MOST;
 use crate::chunked::Chunked;
 use crate::home::{BytesHome, Home};
 use crate::order::order;
@@ -30,7 +30,7 @@ pub struct BytesCol {
 
 impl Model for BytesCol {
     ghost use Rattle.bytes_col.specs.Blocks.{AreBlocks, IsBlocksRefusal};
-ghost use Rattle.bytes_col.specs.Strings.{Strings};
+    ghost use Rattle.bytes_col.specs.Strings.{Strings};
     ghost use Rattle.segments.specs.Joined.{joined};
     ghost use Rattle.bytes_col.specs.Spine.{strings_of, HasSizes};
 
