@@ -9,7 +9,7 @@ use Rattle.bytes_col.specs.declared.cell.Cell.{Cell}
 use Rattle.bytes_col.specs.Strings.{short_bytes}
 use Rattle.bytes_col.specs.declared.cell.Piece.{Piece}
 use Rattle.bytes_col.specs.Chunk.{cell_value, cell_values, IsCell, IsApart, AreApart, IsBehind, IsChunk, overwritten}
-use Rattle.bytes_col.proofs.Short.{length-short-append, length-short-set, short_few, short_size}
+use Rattle.bytes_col.proofs.Short.{long_size, length-short-append, length-short-set, short_few, short_size}
 
 -- a cell keeps its value where bytes are added
 pub value_kept : (bytes more : List ℕ) (c : Cell) → IsCell bytes c → cell_value (bytes ++ more) c ≡ cell_value bytes c
@@ -94,6 +94,14 @@ cell_added cs new bytes more longer short count c v h is added cell behind value
       count = omega (arith, ap (λ vs. length (short_bytes vs)) values, length-short-append (cell_values bytes cs) (v ∷ []), h.count, counted);
     } in
     subst P (sym added) (chunk, values)
+
+-- a memo is added, whose bytes are its own
+pub memo_added : (cs new : List Cell) (bytes : List ℕ) (short : ℕ) (m : List ℕ) → IsChunk cs bytes short → new ≡ cs ++ Cell.Memo m ∷ [] → 512 < length m → length (cell_values bytes cs) < 512 → IsChunk new bytes short × (cell_values bytes new ≡ cell_values bytes cs ++ m ∷ [])
+memo_added cs new bytes short m h added long room =
+    let made = cell_added cs new bytes [] bytes short 0 (Cell.Memo m) m h (sym (append-nil bytes)) added long tt refl room (sym (long_size m long)) in
+    let P : ℕ → Type 0 = λ n. IsChunk new bytes n in
+    let none : short + 0 ≡ short = omega arith in
+    (subst P none made.0, made.1)
 
 -- a cell is set
 pub cell_set : (cs : List Cell) (bytes more longer : List ℕ) (short new i : ℕ) (c : Cell) (v old : List ℕ) → IsChunk cs bytes short → longer ≡ bytes ++ more → IsCell longer c → IsBehind (length bytes) c → cell_value longer c ≡ v → i < length cs → old ≡ get_or (cell_values bytes cs) i [] → new + length (short_bytes (old ∷ [])) ≡ short + length (short_bytes (v ∷ [])) → IsChunk (set cs i c) longer new × (cell_values longer (set cs i c) ≡ set (cell_values bytes cs) i v)

@@ -7,3 +7,4 @@ pub mod Sizes
 pub mod Fills
 pub mod Orders
 mod Filled
+mod BlockLaws

@@ -1,7 +1,7 @@
 -- Laws of the short bytes of values.
 use Rattle.std.proofs.Common.{◌≡◌, ℕ, zero, suc, ◌+◌, ◌*◌, ◌<◌, ◌≤◌, Bool, true, false, cond, List, [], ◌∷◌, ◌++◌, length, map, sum, get_or, set, replicate, refl, sym, ap, ◌∙◌, arith}
 use Rattle.std.proofs.lemmas.List.{length-append, append-nil, append_assoc}
-use Rattle.std.proofs.lemmas.Bool.{leb-true}
+use Rattle.std.proofs.lemmas.Bool.{leb-true, lt-leb}
 use Rattle.std.specs.Prelude.{nat_le}
 use Rattle.std.specs.List.{filter, concat}
 use Rattle.segments.proofs.Counts.{sum-cons}
@@ -50,6 +50,10 @@ short_size u v same = of u ∙ ap (λ n. cond (nat_le n 512) n 0) same ∙ sym (
 
     of : (w : List ℕ) → length (short_bytes (w ∷ [])) ≡ cond (nat_le (length w) 512) (length w) 0
     of w = go (nat_le (length w) 512) w
+
+-- a memo has no short bytes
+pub long_size : (v : List ℕ) → 512 < length v → length (short_bytes (v ∷ [])) ≡ 0
+long_size v long = ap (λ b. length (concat (cond b (v ∷ []) []))) (lt-leb (length v) 512 long)
 
 -- a value has at most 512 short bytes
 pub short_one : (v : List ℕ) → length (short_bytes (v ∷ [])) ≤ 512

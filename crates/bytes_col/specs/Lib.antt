@@ -6,3 +6,4 @@ pub mod Parts
 pub mod Ties
 pub mod Filled
 pub mod Cursor
+pub mod Blocks

@@ -132,6 +132,17 @@ impl Chunk {
         Ok(())
     }
 
+    /// Adds a memo, which shares its bytes.
+    pub(crate) fn append_memo(&mut self, memo: &Memo) -> Result<(), Memory>
+        requires room { length self.old < 512 }
+        requires long { 512 < length memo.now }
+        ensures { OnOk result (self.new ≡ self.old ++ memo.now ∷ []) }
+    {
+        self.cells.reserve(1)?;
+        self.cells.push_reserved(Cell::Memo(memo.clone()?));
+        Ok(())
+    }
+
     /// Adds a value, and its size.
     #[inline]
     pub(crate) fn push(&mut self, value: &[u8], sizes: &mut IntCol) -> Result<(), Memory>
@@ -273,7 +284,10 @@ pub(crate) fn push_shared(
     ensures err { OnErr result (chunk.new ≡ chunk.old) }
     ensures sizes_err { OnErr result (sizes.new ≡ sizes.old) }
 {
-    chunk.own()?.push(value, sizes)
+    match chunk.sole() {
+        Some(own) => own.push(value, sizes),
+        None => chunk.own()?.push(value, sizes),
+    }
 }
 
 /// Sets a value, and its size. Other owners keep the chunk as it was.
@@ -292,7 +306,10 @@ pub(crate) fn set_shared(
     ensures err { OnErr result (chunk.new ≡ chunk.old) }
     ensures sizes_err { OnErr result (sizes.new ≡ sizes.old) }
 {
-    chunk.own()?.set(at, value, sizes, row)
+    match chunk.sole() {
+        Some(own) => own.set(at, value, sizes, row),
+        None => chunk.own()?.set(at, value, sizes, row),
+    }
 }
 
 /// How many short bytes a value has.

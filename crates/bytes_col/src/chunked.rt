@@ -1,10 +1,12 @@
 //! A list of values in chunks, which copies of a column share.
-ghost use Rattle.std.specs.Prelude.{◌≡◌, ℕ, pos, ◌+◌, ◌-◌, ◌<◌, ◌≤◌, [], ◌∷◌, ◌++◌, length, take, drop, map, replicate, slice_set, slice_index_or, None, IfOk, OnOk, OnErr};
+ghost use Rattle.std.specs.Prelude.{◌≡◌, ℕ, pos, ◌+◌, ◌-◌, ◌<◌, ◌≤◌, [], ◌∷◌, ◌++◌, length, take, drop, map, replicate, slice_set, slice_index_or, None, IfOk, IfErr, OnOk, OnErr};
 ghost use Rattle.std.specs.Bool.{OnTrue};
 ghost use Rattle.segments.specs.Joined.{joined};
 ghost use Rattle.bytes_col.specs.Strings.{short_bytes};
+ghost use Rattle.bytes_col.specs.Blocks.{AreBlocks, IsBlocksRefusal};
 ghost use Rattle.bytes_col.specs.Spine.{HasSizes};
 
+use crate::blocks::{BlocksError, Memos, parts_of};
 use crate::chunk::{CHUNK_MOST, Chunk, push_shared, set_shared};
 use crate::parts::Parts;
 use crate::spine::Spine;
@@ -75,6 +77,21 @@ impl Chunked {
             parts.append(value.as_slice())?;
         }
         Chunked::of_chunks(alloc, parts.finish()?)
+    }
+
+    /// The values of these sizes, which the short bytes and the memos are.
+    pub(crate) fn of_blocks(
+        alloc: Global,
+        sizes: &IntCol,
+        short: &[u8],
+        memos: &Memos,
+    ) -> Result<Chunked, BlocksError>
+        ensures ok { IfOk result (λ chunks. AreBlocks (joined chunks) sizes.now.values short.now memos.now) }
+        ensures err { IfErr result (IsBlocksRefusal sizes.now.values short.now memos.now) }
+    {
+        let _few = sizes.len();
+        let parts = parts_of(alloc, sizes, short, memos.as_slice())?;
+        Ok(Chunked::of_chunks(alloc, parts.finish()?)?)
     }
 
     /// These chunks.
@@ -168,7 +185,10 @@ impl Chunked {
         match &mut self.kind {
             Kind::Empty(_) => unreachable!(),
             Kind::One(chunk) => set_in_chunk(chunk, at, value, sizes),
-            Kind::Many(spine) => spine.own()?.set(at, value, sizes),
+            Kind::Many(spine) => match spine.sole() {
+                Some(own) => own.set(at, value, sizes),
+                None => spine.own()?.set(at, value, sizes),
+            },
         }
     }
 
@@ -189,7 +209,10 @@ impl Chunked {
         ensures sizes_err { OnErr result (sizes.new ≡ sizes.old) }
     {
         match &mut self.kind {
-            Kind::Many(spine) => spine.own()?.insert(at, value, count, sizes),
+            Kind::Many(spine) => match spine.sole() {
+                Some(own) => own.insert(at, value, count, sizes),
+                None => spine.own()?.insert(at, value, count, sizes),
+            },
             Kind::One(chunk) if count == 1 && takes_at(chunk.get(), at) => {
                 push_to_chunk(chunk, value, sizes)
             }

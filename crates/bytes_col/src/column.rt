@@ -1,10 +1,12 @@
 //! A column of texts or byte strings.
-ghost use Rattle.std.specs.Prelude.{◌≡◌, ℕ, pos, ◌+◌, ◌-◌, ◌<◌, ◌≤◌, ◌==◌, [], ◌∷◌, ◌++◌, length, take, drop, map, replicate, slice_set, slice_index_or, Some, None, IfOk, OnOk, OnErr, IfSome, IfNone, sum, nat_le, not, if◌then◌else◌};
+ghost use Rattle.std.specs.Prelude.{◌≡◌, ℕ, pos, ◌+◌, ◌-◌, ◌<◌, ◌≤◌, ◌==◌, [], ◌∷◌, ◌++◌, length, take, drop, map, replicate, slice_set, slice_index_or, Some, None, IfOk, IfErr, OnOk, OnErr, IfSome, IfNone, sum, nat_le, not, if◌then◌else◌};
 ghost use Rattle.std.specs.List.{filter};
 ghost use Rattle.std.specs.Ordering.{nat_cmp};
 ghost use Rattle.std.specs.Cmp.Lexicographic.{slice_cmp};
+ghost use Rattle.bytes_col.specs.Blocks.{AreBlocks, IsBlocksRefusal};
 ghost use Rattle.bytes_col.specs.Strings.{Strings, is_short, short_bytes, sizes_of, memo_rows, home_after};
 
+use crate::blocks::{BlocksError, Memos};
 use crate::cell::SHORT_MOST;
 use crate::chunked::Chunked;
 use crate::home::{BytesHome, Home};
@@ -27,6 +29,7 @@ pub struct BytesCol {
 }
 
 impl Model for BytesCol {
+    ghost use Rattle.bytes_col.specs.Blocks.{AreBlocks, IsBlocksRefusal};
     ghost use Rattle.bytes_col.specs.Strings.{Strings};
     ghost use Rattle.segments.specs.Joined.{joined};
     ghost use Rattle.bytes_col.specs.Spine.{strings_of, HasSizes};
@@ -58,6 +61,33 @@ impl BytesCol {
             chunks: Chunked::of(alloc, values)?,
             sizes: IntCol::from_values(alloc, &sizes, None)?,
             home: common_home(alloc, home)?,
+        })
+    }
+
+    /// The column of the values that have these sizes, these short values, joined in the order of the rows, and these memos. It goes
+    /// value by value; the bytes of memos are not copied. The home of the sizes is left aside.
+    ///
+    /// # Errors
+    ///
+    /// `Mismatch`, exactly where no values have these blocks; `Memory`.
+    pub fn from_blocks(
+        alloc: Global,
+        sizes: &IntCol,
+        short: &[u8],
+        memos: &Memos,
+        home: Option<BytesHome>,
+    ) -> Result<BytesCol, BlocksError>
+        ensures values { IfOk result (λ column. AreBlocks column.values sizes.now.values short.now memos.now) }
+        ensures home { IfOk result (λ column. column.home ≡ home) }
+        ensures refused { IfErr result (IsBlocksRefusal sizes.now.values short.now memos.now) }
+    {
+        let chunks = Chunked::of_blocks(alloc, sizes, short, memos)?;
+        let sizes = sizes.unplaced()?;
+        let home = common_home(alloc, home)?;
+        Ok(BytesCol {
+            chunks,
+            sizes,
+            home,
         })
     }
 

@@ -11,6 +11,7 @@
 //! is kept as its bytes.
 #![tactic(auto)]
 
+mod blocks;
 mod cell;
 mod chunk;
 mod chunked;
@@ -23,6 +24,7 @@ mod parts;
 mod short_bytes;
 mod spine;
 
+pub use blocks::{BlocksError, Memos};
 pub use column::BytesCol;
 pub use home::BytesHome;
 pub use short_bytes::ShortBytes;

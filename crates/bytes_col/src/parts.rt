@@ -3,6 +3,7 @@ ghost use Rattle.std.specs.Prelude.{◌≡◌, ℕ, ◌+◌, ◌-◌, ◌*◌, �
 ghost use Rattle.segments.specs.Joined.{joined};
 
 use crate::chunk::{CHUNK_MOST, Chunk};
+use crate::memo::Memo;
 use mk_value::Memory;
 use segments::Shared;
 use std::alloc::Global;
@@ -56,6 +57,15 @@ impl Parts {
     {
         self.make_room()?;
         self.last.append(value)
+    }
+
+    /// Adds a memo, which shares its bytes.
+    pub(crate) fn append_memo(&mut self, memo: &Memo) -> Result<(), Memory>
+        requires { 512 < length memo.now }
+        ensures { OnOk result (added self.new ≡ added self.old ++ memo.now ∷ []) }
+    {
+        self.make_room()?;
+        self.last.append_memo(memo)
     }
 
     /// Adds a chunk's value.

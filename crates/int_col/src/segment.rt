@@ -266,7 +266,10 @@ pub(crate) fn set_shared(segment: &mut Shared<Segment>, at: usize, value: i64) -
     ensures len { length segment.new ≡ length segment.old }
     ensures err { OnErr result (segment.new ≡ segment.old) }
 {
-    segment.own()?.set(at, value)
+    match segment.sole() {
+        Some(own) => own.set(at, value),
+        None => segment.own()?.set(at, value),
+    }
 }
 
 /// Adds a value that the segment takes. Other owners keep it as it was.
@@ -275,5 +278,8 @@ pub(crate) fn push_shared(segment: &mut Shared<Segment>, value: i64) -> Result<(
     ensures ok { OnOk result (segment.new ≡ segment.old ++ value ∷ []) }
     ensures err { OnErr result (segment.new ≡ segment.old) }
 {
-    segment.own()?.push(value)
+    match segment.sole() {
+        Some(own) => own.push(value),
+        None => segment.own()?.push(value),
+    }
 }

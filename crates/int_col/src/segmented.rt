@@ -217,7 +217,10 @@ impl Segmented {
         match &mut self.kind {
             Kind::Empty(_) => unreachable!(),
             Kind::One(segment) => set_shared(segment, at, value),
-            Kind::Many(spine) => spine.own()?.set(at, value),
+            Kind::Many(spine) => match spine.sole() {
+                Some(own) => own.set(at, value),
+                None => spine.own()?.set(at, value),
+            },
         }
     }
 
@@ -229,7 +232,10 @@ impl Segmented {
         ensures err { OnErr result (self.new ≡ self.old) }
     {
         match &mut self.kind {
-            Kind::Many(spine) => spine.own()?.insert(at, value, count),
+            Kind::Many(spine) => match spine.sole() {
+                Some(own) => own.insert(at, value, count),
+                None => spine.own()?.insert(at, value, count),
+            },
             Kind::One(segment) if count == 1 && takes_at(segment.get(), at, value) => {
                 push_shared(segment, value)
             }

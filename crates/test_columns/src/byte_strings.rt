@@ -1,7 +1,8 @@
 //! Columns of byte strings: worked rows, and edits beside a plain list.
 ghost use Rattle.std.specs.Prelude.{◌≡◌, ◌+◌, ◌≤◌, length, IfOk};
 
-use bytes_col::{BytesCol, BytesHome};
+use bytes_col::{BlocksError, BytesCol, BytesHome, Memos};
+use int_col::IntCol;
 use mk_value::{Bytes, Span, Spans};
 use std::alloc::Global;
 use std::cmp::Ordering;
@@ -72,6 +73,39 @@ fn comes_in_pieces<R: Abort>(rt: &R, column: &BytesCol, want: &[u8]) {
         assert!(rt; next[0] == *byte);
     }
     assert!(rt; bytes.is_empty());
+}
+
+/// Asserts that no column has these blocks.
+fn refuses<R: Abort + AllocGlobal>(rt: &R, sizes: &IntCol, short: &[u8], memos: &Memos) {
+    match BytesCol::from_blocks(rt.alloc(), sizes, short, memos, None) {
+        Ok(_column) => assert!(rt; false),
+        Err(error) => assert!(rt; error == BlocksError::Mismatch),
+    }
+}
+
+/// Blocks of an empty value, b, 512 bytes c and a memo of 513 bytes d, and what is none: a byte too few or too many, no memo or one of
+/// another size, and a negative size.
+#[test]
+fn blocks(rt: HostRuntime) -> Result<(), Fail> {
+    let column = of_all_sizes(rt.alloc())?;
+    let mut short = [b'c'; 514];
+    short[0] = b'b';
+    let none = Memos::new(rt.alloc());
+    let mut memos = Memos::new(rt.alloc());
+    memos.push(Bytes::from_slice(rt.alloc(), &MEMO)?)?;
+    let mut longer = Memos::new(rt.alloc());
+    longer.push(Bytes::from_slice(rt.alloc(), &short)?)?;
+    match BytesCol::from_blocks(rt.alloc(), column.sizes(), &short[..513], &memos, None) {
+        Ok(back) => hold(&rt, &back, &[b"", b"b", &SHORT, &MEMO])?,
+        Err(_error) => assert!(rt; false),
+    }
+    refuses(&rt, column.sizes(), &short[..512], &memos);
+    refuses(&rt, column.sizes(), &short, &memos);
+    refuses(&rt, column.sizes(), &short[..513], &none);
+    refuses(&rt, column.sizes(), &short[..513], &longer);
+    let sizes = IntCol::from_values(rt.alloc(), &[-1], None)?;
+    refuses(&rt, &sizes, &[], &none);
+    Ok(())
 }
 
 /// Values of 0, 1, 512 and 513 bytes: what they are, their blocks, and their order. The short ones joined are b and then c 512 times; the
@@ -336,10 +370,30 @@ fn edit<R: Abort>(
     }
 }
 
+/// Asserts that the column is made of its blocks again.
+fn comes_back<R: Abort>(rt: &R, column: &BytesCol, plain: &Vec<Bytes>) -> Result<(), Fail> {
+    let alloc = *plain.allocator();
+    let short = short_of(plain)?;
+    let mut memos = Memos::new(alloc);
+    for value in plain {
+        if value.len() > 512 {
+            memos.push(value.copy()?)?;
+        }
+    }
+    match BytesCol::from_blocks(alloc, column.sizes(), &short, &memos, None) {
+        Ok(back) => compare(rt, &back, plain),
+        Err(_error) => {
+            assert!(rt; false);
+            Ok(())
+        }
+    }
+}
+
 /// Asserts that the column and its blocks are those of the list.
 fn compare_all<R: Abort>(rt: &R, column: &BytesCol, plain: &Vec<Bytes>) -> Result<(), Fail> {
     compare(rt, column, plain)?;
-    compare_short(rt, column, plain)
+    compare_short(rt, column, plain)?;
+    comes_back(rt, column, plain)
 }
 
 /// Three hundred edits beside a plain list, and copies that stay as they were.

@@ -5,9 +5,10 @@ use bit_pack::{
 };
 use std::process::Abort;
 
-/// Both ends of each width and the first value past each, and what a width knows of itself.
+/// Both ends of each width and the first value past each, and what a width knows of itself; what is refused and why, and bytes that are
+/// read and changed where they lie.
 #[test]
-fn widths(rt: HostRuntime) {
+fn widths_and_refusals(rt: HostRuntime) {
     // both ends of each width, and the first value past each
     let rows = [
         (0, Width::W0),
@@ -59,6 +60,47 @@ fn widths(rt: HostRuntime) {
     assert_eq!(rt; Width::W2.wider(Width::W16), Width::W16);
     assert_eq!(rt; Width::W1.narrower(), Some(Width::W0));
     assert!(rt; Width::W8.holds(-128) && !Width::W8.holds(128));
+
+    let alloc = rt.alloc();
+    for (width, count, byte, want) in [
+        (Width::W8, 1, 1, PackError::NotLeast(Width::W8, Width::W1)),
+        (Width::W8, 1, 15, PackError::NotLeast(Width::W8, Width::W4)),
+        (Width::W4, 2, 0, PackError::NotLeast(Width::W4, Width::W0)),
+        (Width::W2, 1, 7, PackError::Padding(0)),
+        (Width::W1, 7, 128, PackError::Padding(0)),
+        (Width::W8, 2, 1, PackError::Length(2, 1)),
+        (Width::W0, 5, 0, PackError::Length(0, 1)),
+        (Width::W2, 5, 255, PackError::Length(2, 1)),
+    ] {
+        let answer = unpack(alloc, width, count, &[byte]);
+        assert_eq!(rt;
+            answer.err(),
+            Some(want),
+            "{width:?}, {count} values, byte {byte}"
+        );
+    }
+
+    let mut bytes = [0x93, 0x01];
+    assert_eq!(rt; get(Width::W2, &bytes, 3), 2);
+    put(Width::W2, &mut bytes, 3, 0);
+    assert_eq!(rt; bytes.as_slice(), [0x13, 0x01].as_slice());
+    put(Width::W2, &mut bytes, 4, 3);
+    assert_eq!(rt; bytes.as_slice(), [0x13, 0x03].as_slice());
+
+    let mut wide = [0xfe, 0xff, 0x02, 0x01];
+    assert_eq!(rt; get(Width::W16, &wide, 0), -2);
+    put(Width::W16, &mut wide, 1, -3);
+    assert_eq!(rt; wide.as_slice(), [0xfe, 0xff, 0xfd, 0xff].as_slice());
+    assert!(rt; !is_least(Width::W16, &wide, 2));
+    assert_eq!(rt; least_width(Width::W16, &wide, 2), Width::W8);
+
+    let mut values = [0; 2];
+    unpack_into(Width::W2, &bytes, 3, &mut values);
+    assert_eq!(rt; values.as_slice(), [0, 3].as_slice());
+    let mut packed = [0xff; 1];
+    assert!(rt; Width::W4.holds(5) && Width::W4.holds(9));
+    pack_into(Width::W4, &[5, 9], &mut packed);
+    assert_eq!(rt; packed.as_slice(), [0x95].as_slice());
 }
 
 fn packs<R: Abort + AllocGlobal>(
@@ -114,49 +156,4 @@ fn packs_and_unpacks(rt: HostRuntime) -> Result<(), PackError> {
     assert_eq!(rt; values.len(), 1);
     assert_eq!(rt; values.into_vec().as_slice(), [-7].as_slice());
     Ok(())
-}
-
-/// What is refused and why, and bytes that are read and changed where they lie.
-#[test]
-fn refuses_and_changes(rt: HostRuntime) {
-    let alloc = rt.alloc();
-    for (width, count, byte, want) in [
-        (Width::W8, 1, 1, PackError::NotLeast(Width::W8, Width::W1)),
-        (Width::W8, 1, 15, PackError::NotLeast(Width::W8, Width::W4)),
-        (Width::W4, 2, 0, PackError::NotLeast(Width::W4, Width::W0)),
-        (Width::W2, 1, 7, PackError::Padding(0)),
-        (Width::W1, 7, 128, PackError::Padding(0)),
-        (Width::W8, 2, 1, PackError::Length(2, 1)),
-        (Width::W0, 5, 0, PackError::Length(0, 1)),
-        (Width::W2, 5, 255, PackError::Length(2, 1)),
-    ] {
-        let answer = unpack(alloc, width, count, &[byte]);
-        assert_eq!(rt;
-            answer.err(),
-            Some(want),
-            "{width:?}, {count} values, byte {byte}"
-        );
-    }
-
-    let mut bytes = [0x93, 0x01];
-    assert_eq!(rt; get(Width::W2, &bytes, 3), 2);
-    put(Width::W2, &mut bytes, 3, 0);
-    assert_eq!(rt; bytes.as_slice(), [0x13, 0x01].as_slice());
-    put(Width::W2, &mut bytes, 4, 3);
-    assert_eq!(rt; bytes.as_slice(), [0x13, 0x03].as_slice());
-
-    let mut wide = [0xfe, 0xff, 0x02, 0x01];
-    assert_eq!(rt; get(Width::W16, &wide, 0), -2);
-    put(Width::W16, &mut wide, 1, -3);
-    assert_eq!(rt; wide.as_slice(), [0xfe, 0xff, 0xfd, 0xff].as_slice());
-    assert!(rt; !is_least(Width::W16, &wide, 2));
-    assert_eq!(rt; least_width(Width::W16, &wide, 2), Width::W8);
-
-    let mut values = [0; 2];
-    unpack_into(Width::W2, &bytes, 3, &mut values);
-    assert_eq!(rt; values.as_slice(), [0, 3].as_slice());
-    let mut packed = [0xff; 1];
-    assert!(rt; Width::W4.holds(5) && Width::W4.holds(9));
-    pack_into(Width::W4, &[5, 9], &mut packed);
-    assert_eq!(rt; packed.as_slice(), [0x95].as_slice());
 }
