@@ -3,56 +3,62 @@ use bit_pack::{
     Bytes, PackError, Values, Width, check, get, is_least, least_width, pack, pack_into, put,
     unpack, unpack_into, width_for,
 };
+use std::alloc::Global;
 use std::process::Abort;
 
-/// Both ends of each width and the first value past each, and what a width knows of itself; what is refused and why, and bytes that are
-/// read and changed where they lie.
+/// Both ends of each width, and the first value past each.
+const ENDS: [(i64, Width); 22] = [
+    (0, Width::W0),
+    (1, Width::W1),
+    (2, Width::W2),
+    (3, Width::W2),
+    (4, Width::W4),
+    (15, Width::W4),
+    (16, Width::W8),
+    (127, Width::W8),
+    (128, Width::W16),
+    (-1, Width::W8),
+    (-128, Width::W8),
+    (-129, Width::W16),
+    (32_767, Width::W16),
+    (32_768, Width::W32),
+    (-32_768, Width::W16),
+    (-32_769, Width::W32),
+    (2_147_483_647, Width::W32),
+    (2_147_483_648, Width::W64),
+    (-2_147_483_648, Width::W32),
+    (-2_147_483_649, Width::W64),
+    (i64::MAX, Width::W64),
+    (i64::MIN, Width::W64),
+];
+
 #[test]
-fn widths_and_refusals(rt: HostRuntime) {
-    // both ends of each width, and the first value past each
-    let rows = [
-        (0, Width::W0),
-        (1, Width::W1),
-        (2, Width::W2),
-        (3, Width::W2),
-        (4, Width::W4),
-        (15, Width::W4),
-        (16, Width::W8),
-        (127, Width::W8),
-        (128, Width::W16),
-        (-1, Width::W8),
-        (-128, Width::W8),
-        (-129, Width::W16),
-        (32_767, Width::W16),
-        (32_768, Width::W32),
-        (-32_768, Width::W16),
-        (-32_769, Width::W32),
-        (2_147_483_647, Width::W32),
-        (2_147_483_648, Width::W64),
-        (-2_147_483_648, Width::W32),
-        (-2_147_483_649, Width::W64),
-        (i64::MAX, Width::W64),
-        (i64::MIN, Width::W64),
-    ];
-    for (value, want) in rows {
+fn each_value_has_its_least_width(rt: HostRuntime) {
+    for (value, want) in ENDS {
         assert_eq!(rt; Width::of(value), want, "of {value}");
         assert_eq!(rt; width_for(&[0, value]), want, "for 0 and {value}");
     }
     assert_eq!(rt; width_for(&[]), Width::W0);
     assert_eq!(rt; width_for(&[0, 3]), Width::W2);
     assert_eq!(rt; width_for(&[200, -1]), Width::W16);
-    for (bits, want) in [
-        (0, Some(Width::W0)),
-        (1, Some(Width::W1)),
-        (2, Some(Width::W2)),
-        (3, None),
-        (4, Some(Width::W4)),
-        (8, Some(Width::W8)),
-        (16, Some(Width::W16)),
-        (32, Some(Width::W32)),
-        (64, Some(Width::W64)),
-        (65, None),
-    ] {
+}
+
+const BITS: [(u8, Option<Width>); 10] = [
+    (0, Some(Width::W0)),
+    (1, Some(Width::W1)),
+    (2, Some(Width::W2)),
+    (3, None),
+    (4, Some(Width::W4)),
+    (8, Some(Width::W8)),
+    (16, Some(Width::W16)),
+    (32, Some(Width::W32)),
+    (64, Some(Width::W64)),
+    (65, None),
+];
+
+#[test]
+fn a_width_knows_itself(rt: HostRuntime) {
+    for (bits, want) in BITS {
         assert_eq!(rt; Width::from_bits(bits), want, "{bits} bits");
     }
     assert_eq!(rt; Width::W32.bits(), 32);
@@ -60,43 +66,56 @@ fn widths_and_refusals(rt: HostRuntime) {
     assert_eq!(rt; Width::W2.wider(Width::W16), Width::W16);
     assert_eq!(rt; Width::W1.narrower(), Some(Width::W0));
     assert!(rt; Width::W8.holds(-128) && !Width::W8.holds(128));
+}
 
-    let alloc = rt.alloc();
-    for (width, count, byte, want) in [
-        (Width::W8, 1, 1, PackError::NotLeast(Width::W8, Width::W1)),
-        (Width::W8, 1, 15, PackError::NotLeast(Width::W8, Width::W4)),
-        (Width::W4, 2, 0, PackError::NotLeast(Width::W4, Width::W0)),
-        (Width::W2, 1, 7, PackError::Padding(0)),
-        (Width::W1, 7, 128, PackError::Padding(0)),
-        (Width::W8, 2, 1, PackError::Length(2, 1)),
-        (Width::W0, 5, 0, PackError::Length(0, 1)),
-        (Width::W2, 5, 255, PackError::Length(2, 1)),
-    ] {
-        let answer = unpack(alloc, width, count, &[byte]);
-        assert_eq!(rt;
-            answer.err(),
-            Some(want),
-            "{width:?}, {count} values, byte {byte}"
-        );
+/// Why one byte is not so many values of a width.
+fn refusal(alloc: Global, width: Width, count: u8, byte: u8) -> Option<PackError> {
+    unpack(alloc, width, usize::from(count), &[byte]).err()
+}
+
+const REFUSALS: [(Width, u8, u8, PackError); 8] = [
+    (Width::W8, 1, 1, PackError::NotLeast(Width::W8, Width::W1)),
+    (Width::W8, 1, 15, PackError::NotLeast(Width::W8, Width::W4)),
+    (Width::W4, 2, 0, PackError::NotLeast(Width::W4, Width::W0)),
+    (Width::W2, 1, 7, PackError::Padding(0)),
+    (Width::W1, 7, 128, PackError::Padding(0)),
+    (Width::W8, 2, 1, PackError::Length(2, 1)),
+    (Width::W0, 5, 0, PackError::Length(0, 1)),
+    (Width::W2, 5, 255, PackError::Length(2, 1)),
+];
+
+#[test]
+fn bytes_that_are_not_well_packed_are_refused(rt: HostRuntime) {
+    for (width, count, byte, want) in REFUSALS {
+        assert_eq!(rt; refusal(rt.alloc(), width, count, byte), Some(want));
     }
+}
 
+#[test]
+fn values_are_read_and_changed_where_they_lie(rt: HostRuntime) {
     let mut bytes = [0x93, 0x01];
     assert_eq!(rt; get(Width::W2, &bytes, 3), 2);
     put(Width::W2, &mut bytes, 3, 0);
     assert_eq!(rt; bytes.as_slice(), [0x13, 0x01].as_slice());
     put(Width::W2, &mut bytes, 4, 3);
     assert_eq!(rt; bytes.as_slice(), [0x13, 0x03].as_slice());
+    let mut values = [0; 2];
+    unpack_into(Width::W2, &bytes, 3, &mut values);
+    assert_eq!(rt; values.as_slice(), [0, 3].as_slice());
+}
 
+#[test]
+fn wide_values_are_signed(rt: HostRuntime) {
     let mut wide = [0xfe, 0xff, 0x02, 0x01];
     assert_eq!(rt; get(Width::W16, &wide, 0), -2);
     put(Width::W16, &mut wide, 1, -3);
     assert_eq!(rt; wide.as_slice(), [0xfe, 0xff, 0xfd, 0xff].as_slice());
     assert!(rt; !is_least(Width::W16, &wide, 2));
     assert_eq!(rt; least_width(Width::W16, &wide, 2), Width::W8);
+}
 
-    let mut values = [0; 2];
-    unpack_into(Width::W2, &bytes, 3, &mut values);
-    assert_eq!(rt; values.as_slice(), [0, 3].as_slice());
+#[test]
+fn values_are_packed_over_what_was_there(rt: HostRuntime) {
     let mut packed = [0xff; 1];
     assert!(rt; Width::W4.holds(5) && Width::W4.holds(9));
     pack_into(Width::W4, &[5, 9], &mut packed);
