@@ -12,10 +12,10 @@ use Rattle.mk_value.specs.Data.{Datum, integer, relation, relation_of, IsOf, IsR
 use Rattle.mk_value.specs.Tables.{domain_at}
 use Rattle.mk_value.proofs.Headings.{AreAttributes-heading_of, attributes_of-heading_of}
 use Rattle.mk_value.proofs.Relations.{rows_of-relation_of}
-use Rattle.view_store.specs.Homes.{Home, nowhere, tables, ColumnHomes, column_homes, columns_of, RowHomes, no_rows, row, each_of, row_homes, column_of, rows_in, unplaced}
-use Rattle.view_store.specs.Rests.{Column, placed_in, placed_rows, placed_from, placed_columns, Rest, RestsOn}
-use Rattle.view_store.specs.Tables.{Placed, IsTable}
-use Rattle.view_store.proofs.Resting.{placed_in-unplaced, Rest-none}
+use Rattle.tables.specs.Homes.{Home, no_home, tables, ColumnHomes, column_homes, columns_of, RowHomes, no_rows, row, each_of, row_homes, column_of, rows_in, empty_home}
+use Rattle.tables.specs.Rests.{HomedColumn, homed_in, homed_rows, homed_from, homed_columns, Rest, RestsOn}
+use Rattle.tables.specs.Tables.{StoredTable, IsTable}
+use Rattle.view_store.proofs.Resting.{homed_in-empty, Rest-none}
 use Rattle.view_store.proofs.Walking.{place_within}
 use Rattle.restructure.specs.Restructuring.{restructured_value, row_under, value_under, restructured_rows, zip_with, restructured_home, homes_under, restructured}
 use Rattle.restructure.proofs.Apart.{flat, FromPlace, AreFromPlaces, Differ, Rest-self, Rest-append, Rest-parts}
@@ -24,19 +24,19 @@ use Rattle.restructure.proofs.Same.{no_attribute, At, drop_at, value_same}
 use Rattle.restructure.proofs.Whole.{value_is_of, rows_inside}
 
 -- the placed columns of each column of a table, from the place k on
-abbrev parts : List Home → List Attribute → ℕ → List (List Datum) → List (List Column)
+abbrev parts : List Home → List Attribute → ℕ → List (List Datum) → List (List HomedColumn)
 parts [] schema k rows = []
-parts (h ∷ homes) schema k rows = placed_in h (domain_at schema k) (column_of rows k) ∷ parts homes schema (k + 1) rows
+parts (h ∷ homes) schema k rows = homed_in h (domain_at schema k) (column_of rows k) ∷ parts homes schema (k + 1) rows
 
-placed_from-parts : (homes : List Home) (schema : List Attribute) (k : ℕ) (rows : List (List Datum)) → placed_from (column_homes homes) schema k rows ≡ flat (parts homes schema k rows)
-placed_from-parts [] schema k rows = refl
-placed_from-parts (h ∷ homes) schema k rows = ap (λ cs. placed_in h (domain_at schema k) (column_of rows k) ++ cs) (placed_from-parts homes schema (k + 1) rows)
+homed_from-parts : (homes : List Home) (schema : List Attribute) (k : ℕ) (rows : List (List Datum)) → homed_from (column_homes homes) schema k rows ≡ flat (parts homes schema k rows)
+homed_from-parts [] schema k rows = refl
+homed_from-parts (h ∷ homes) schema k rows = ap (λ cs. homed_in h (domain_at schema k) (column_of rows k) ++ cs) (homed_from-parts homes schema (k + 1) rows)
 
-part_at : (homes : List Home) (schema : List Attribute) (k j : ℕ) (rows : List (List Datum)) → get_or (parts homes schema k rows) j [] ≡ placed_in (get_or homes j nowhere) (domain_at schema (k + j)) (column_of rows (k + j))
+part_at : (homes : List Home) (schema : List Attribute) (k j : ℕ) (rows : List (List Datum)) → get_or (parts homes schema k rows) j [] ≡ homed_in (get_or homes j no_home) (domain_at schema (k + j)) (column_of rows (k + j))
 part_at [] schema k j rows = refl
-part_at (h ∷ homes) schema k zero rows = ap (λ m. placed_in h (domain_at schema m) (column_of rows m)) (let e : k ≡ k + 0 = omega arith in e)
+part_at (h ∷ homes) schema k zero rows = ap (λ m. homed_in h (domain_at schema m) (column_of rows m)) (let e : k ≡ k + 0 = omega arith in e)
 part_at (h ∷ homes) schema k (suc j) rows =
-    part_at homes schema (k + 1) j rows ∙ ap (λ m. placed_in (get_or homes j nowhere) (domain_at schema m) (column_of rows m)) (let e : (k + 1) + j ≡ k + suc j = omega arith in e)
+    part_at homes schema (k + 1) j rows ∙ ap (λ m. homed_in (get_or homes j no_home) (domain_at schema m) (column_of rows m)) (let e : (k + 1) + j ≡ k + suc j = omega arith in e)
 
 columns_back : (homes : ColumnHomes) → column_homes (columns_of homes) ≡ homes
 columns_back ColumnHomes.no_columns = refl
@@ -48,19 +48,19 @@ values_kept f e same [] h = refl
 values_kept f e same (d ∷ ds) h =
     ap (λ x. x ∷ map f ds) (same d (All-head (λ x. IsOf x e) d ds h)) ∙ ap (λ xs. d ∷ xs) (values_kept f e same ds (All-tail (λ x. IsOf x e) d ds h))
 
-column_kept : (e : Domain) (h : Home) (values : List Datum) → IsDomain e → All (λ d. IsOf d e) values → Rest (placed_in h e (map (restructured_value e e) values)) (placed_in h e values)
+column_kept : (e : Domain) (h : Home) (values : List Datum) → IsDomain e → All (λ d. IsOf d e) values → Rest (homed_in h e (map (restructured_value e e) values)) (homed_in h e values)
 column_kept e h values whole fits =
-    subst (λ vs. Rest (placed_in h e vs) (placed_in h e values)) (sym (values_kept (restructured_value e e) e (λ d. value_same e d whole) values fits)) (Rest-self (placed_in h e values))
+    subst (λ vs. Rest (homed_in h e vs) (homed_in h e values)) (sym (values_kept (restructured_value e e) e (λ d. value_same e d whole) values fits)) (Rest-self (homed_in h e values))
 
-unplaced_rests : (new : Domain) (values more : List Datum) (old : List Column) → Rest (placed_in (unplaced new values) new more) old
-unplaced_rests new values more old = Rest-none _ old (placed_in-unplaced new values new more)
+empty_rests : (new : Domain) (values more : List Datum) (old : List HomedColumn) → Rest (homed_in (empty_home new values) new more) old
+empty_rests new values more old = Rest-none _ old (homed_in-empty new values new more)
 
 -- the rows of a view, each on its own
 rows_rest : (new old : Heading) (homes_of : List Home → Datum → List Home) (value : Datum → Datum)
     → ((homes : ColumnHomes) (d : Datum) → IsOf d (Domain.relation old)
-    → Rest (placed_from (column_homes (homes_of (columns_of homes) d)) (attributes_of new) 0 (rows_in (value d))) (placed_from homes (attributes_of old) 0 (rows_in d)))
+    → Rest (homed_from (column_homes (homes_of (columns_of homes) d)) (attributes_of new) 0 (rows_in (value d))) (homed_from homes (attributes_of old) 0 (rows_in d)))
     → (rows : RowHomes) (values : List Datum) → All (λ d. IsOf d (Domain.relation old)) values
-    → Rest (placed_rows (row_homes (zip_with homes_of (each_of rows) values)) (Domain.relation new) (map value values)) (placed_rows rows (Domain.relation old) values)
+    → Rest (homed_rows (row_homes (zip_with homes_of (each_of rows) values)) (Domain.relation new) (map value values)) (homed_rows rows (Domain.relation old) values)
 rows_rest new old homes_of value each no_rows values fits = Rest-none [] [] refl
 rows_rest new old homes_of value each (row homes rest) [] fits = Rest-none [] _ refl
 rows_rest new old homes_of value each (row homes rest) (d ∷ ds) fits =
@@ -104,19 +104,19 @@ places_differ old (a ∷ rest) h =
 
 -- the column of a property that has a place in the old schema, or none
 column_rests : (e : Domain) (old : List Attribute) (o : Option ℕ) (homes : List Home) (rows : List (List Datum)) → ((k : ℕ) → o ≡ Some k → k < length old)
-    → ((k : ℕ) → k < length old → Rest (placed_in (restructured_home (domain_at old k) e (get_or homes k nowhere) (column_of rows k)) e (map (restructured_value (domain_at old k) e) (column_of rows k))) (placed_in (get_or homes k nowhere) (domain_at old k) (column_of rows k)))
-    → FromPlace (parts homes old 0 rows) o (placed_in (home_under old o e homes rows) e (map (value_under old o e) rows))
-column_rests e old None homes rows within each = placed_in-unplaced e (map (λ _. default_of e) rows) e (map (λ _. default_of e) rows)
+    → ((k : ℕ) → k < length old → Rest (homed_in (restructured_home (domain_at old k) e (get_or homes k no_home) (column_of rows k)) e (map (restructured_value (domain_at old k) e) (column_of rows k))) (homed_in (get_or homes k no_home) (domain_at old k) (column_of rows k)))
+    → FromPlace (parts homes old 0 rows) o (homed_in (home_under old o e homes rows) e (map (value_under old o e) rows))
+column_rests e old None homes rows within each = homed_in-empty e (map (λ _. default_of e) rows) e (map (λ _. default_of e) rows)
 column_rests e old (Some k) homes rows within each =
     let values : map (restructured_value (domain_at old k) e) (column_of rows k) ≡ map (value_under old (Some k) e) rows = map_twice (restructured_value (domain_at old k) e) (λ r. get_or r k (integer (pos 0))) rows in
-    let part : placed_in (get_or homes k nowhere) (domain_at old k) (column_of rows k) ≡ get_or (parts homes old 0 rows) k [] =
-    ap (λ m. placed_in (get_or homes k nowhere) (domain_at old m) (column_of rows m)) (let n : k ≡ 0 + k = omega arith in n) ∙ sym (part_at homes old 0 k rows) in
-    subst (λ cs. Rest (placed_in (home_under old (Some k) e homes rows) e (map (value_under old (Some k) e) rows)) cs) part
-    (subst (λ vs. Rest (placed_in (home_under old (Some k) e homes rows) e vs) (placed_in (get_or homes k nowhere) (domain_at old k) (column_of rows k))) values (each k (within k refl)))
+    let part : homed_in (get_or homes k no_home) (domain_at old k) (column_of rows k) ≡ get_or (parts homes old 0 rows) k [] =
+    ap (λ m. homed_in (get_or homes k no_home) (domain_at old m) (column_of rows m)) (let n : k ≡ 0 + k = omega arith in n) ∙ sym (part_at homes old 0 k rows) in
+    subst (λ cs. Rest (homed_in (home_under old (Some k) e homes rows) e (map (value_under old (Some k) e) rows)) cs) part
+    (subst (λ vs. Rest (homed_in (home_under old (Some k) e homes rows) e vs) (homed_in (get_or homes k no_home) (domain_at old k) (column_of rows k))) values (each k (within k refl)))
 
 mutual
   home_rests : (new old : Domain) (h : Home) (values : List Datum) → IsDomain new → All (λ d. IsOf d old) values
-      → Rest (placed_in (restructured_home old new h values) new (map (restructured_value old new) values)) (placed_in h old values)
+      → Rest (homed_in (restructured_home old new h values) new (map (restructured_value old new) values)) (homed_in h old values)
   home_rests Domain.integer Domain.integer h values whole fits = column_kept Domain.integer h values tt fits
   home_rests Domain.long Domain.long h values whole fits = column_kept Domain.long h values tt fits
   home_rests Domain.text Domain.text h values whole fits = column_kept Domain.text h values tt fits
@@ -126,14 +126,14 @@ mutual
       (λ homes d fit.
       let inside = homes_rest g (attributes_of old) (columns_of homes) (rows_in d) (attributes_of g) 0 (λ _. []) (λ _. refl) refl whole.1 (rows_inside d (Domain.relation old) fit).whole in
       let made = map (row_under (attributes_of old) g) (rows_in d) in
-      let here : Rest (placed_from (column_homes (homes_under (attributes_of old) g (columns_of homes) (rows_in d))) (attributes_of g) 0 made) (placed_from (column_homes (columns_of homes)) (attributes_of old) 0 (rows_in d)) =
-      subst (λ cs. Rest cs (placed_from (column_homes (columns_of homes)) (attributes_of old) 0 (rows_in d))) (sym (placed_from-parts (homes_under (attributes_of old) g (columns_of homes) (rows_in d)) (attributes_of g) 0 made))
-      (subst (λ cs. Rest (flat (parts (homes_under (attributes_of old) g (columns_of homes) (rows_in d)) (attributes_of g) 0 made)) cs) (sym (placed_from-parts (columns_of homes) (attributes_of old) 0 (rows_in d)))
+      let here : Rest (homed_from (column_homes (homes_under (attributes_of old) g (columns_of homes) (rows_in d))) (attributes_of g) 0 made) (homed_from (column_homes (columns_of homes)) (attributes_of old) 0 (rows_in d)) =
+      subst (λ cs. Rest cs (homed_from (column_homes (columns_of homes)) (attributes_of old) 0 (rows_in d))) (sym (homed_from-parts (homes_under (attributes_of old) g (columns_of homes) (rows_in d)) (attributes_of g) 0 made))
+      (subst (λ cs. Rest (flat (parts (homes_under (attributes_of old) g (columns_of homes) (rows_in d)) (attributes_of g) 0 made)) cs) (sym (homed_from-parts (columns_of homes) (attributes_of old) 0 (rows_in d)))
       (Rest-parts _ (places (attributes_of old) (attributes_of g)) _ inside (places_differ (attributes_of old) (attributes_of g) whole.0.distinct))) in
-      subst (λ hs. Rest (placed_from (column_homes (homes_under (attributes_of old) g (columns_of homes) (rows_in d))) (attributes_of g) 0 (rows_in (relation (relation_of made)))) (placed_from hs (attributes_of old) 0 (rows_in d))) (columns_back homes)
-      (subst (λ rs. Rest (placed_from (column_homes (homes_under (attributes_of old) g (columns_of homes) (rows_in d))) (attributes_of g) 0 rs) (placed_from (column_homes (columns_of homes)) (attributes_of old) 0 (rows_in d))) (sym (rows_of-relation_of made)) here))
+      subst (λ hs. Rest (homed_from (column_homes (homes_under (attributes_of old) g (columns_of homes) (rows_in d))) (attributes_of g) 0 (rows_in (relation (relation_of made)))) (homed_from hs (attributes_of old) 0 (rows_in d))) (columns_back homes)
+      (subst (λ rs. Rest (homed_from (column_homes (homes_under (attributes_of old) g (columns_of homes) (rows_in d))) (attributes_of g) 0 rs) (homed_from (column_homes (columns_of homes)) (attributes_of old) 0 (rows_in d))) (sym (rows_of-relation_of made)) here))
       rows values fits
-  home_rests new old h values whole fits = unplaced_rests new (map (restructured_value old new) values) (map (restructured_value old new) values) (placed_in h old values)
+  home_rests new old h values whole fits = empty_rests new (map (restructured_value old new) values) (map (restructured_value old new) values) (homed_in h old values)
 
   -- the columns of the properties behind those that are in front of each row
   homes_rest : (g : Heading) (old : List Attribute) (homes : List Home) (rows : List (List Datum)) (new : List Attribute) (k : ℕ) (front : List Datum → List Datum) → ((r : List Datum) → length (front r) ≡ k)
@@ -150,16 +150,16 @@ mutual
       map_twice (λ r. get_or r k (integer (pos 0))) all rows
       ∙ map-same (λ r. get_or (all r) k (integer (pos 0))) value (λ r. behind (front r) (value r) (row_under old rest r) k (integer (pos 0)) (long r)) rows in
       let first = column_rests e old (find old n) homes rows (λ j is. place_within old n j is)
-      (λ j p. home_rests e (domain_at old j) (get_or homes j nowhere) (column_of rows j) whole.1 (column_fits old j p rows fits)) in
+      (λ j p. home_rests e (domain_at old j) (get_or homes j no_home) (column_of rows j) whole.1 (column_fits old j p rows fits)) in
       let same : map (λ r. more r ++ row_under old rest r) rows ≡ map all rows = map-same (λ r. more r ++ row_under old rest r) all (λ r. append_assoc (front r) (value r ∷ []) (row_under old rest r)) rows in
       let others = homes_rest rest old homes rows new (k + 1) more (λ r. length-append (front r) (value r ∷ []) ∙ ap (λ m. m + 1) (long r)) found.next whole.2 fits in (
-        subst (λ x. FromPlace (parts homes old 0 rows) (find old n) (placed_in (home_under old (find old n) e homes rows) x (column_of (map all rows) k))) (sym domain)
-            (subst (λ vs. FromPlace (parts homes old 0 rows) (find old n) (placed_in (home_under old (find old n) e homes rows) e vs)) (sym column) first),
+        subst (λ x. FromPlace (parts homes old 0 rows) (find old n) (homed_in (home_under old (find old n) e homes rows) x (column_of (map all rows) k))) (sym domain)
+            (subst (λ vs. FromPlace (parts homes old 0 rows) (find old n) (homed_in (home_under old (find old n) e homes rows) e vs)) (sym column) first),
         subst (λ rs. AreFromPlaces (parts homes old 0 rows) (places old (attributes_of rest)) (parts (homes_under old rest homes rows) new (k + 1) rs)) same others,
       )
 
 -- a whole table under a whole schema
-pub restructured_rests : (t : Placed) (new : List Attribute) → IsTable t → IsHeading new → RestsOn (restructured t new) t
+pub restructured_rests : (t : StoredTable) (new : List Attribute) → IsTable t → IsHeading new → RestsOn (restructured t new) t
 restructured_rests t new table heading =
     let old = t.schema in
     let homes = homes_under old (heading_of new) t.homes t.rows in
@@ -167,6 +167,6 @@ restructured_rests t new table heading =
     let inside : AreFromPlaces (parts t.homes old 0 t.rows) (places old (attributes_of (heading_of new))) (parts homes new 0 (restructured_rows old new t.rows)) =
     homes_rest (heading_of new) old t.homes t.rows new 0 (λ _. []) (λ _. refl) (sym attributes) (AreAttributes-heading_of new heading.attributes) table.rows.whole in
     let differ : AllPairs Differ (places old (attributes_of (heading_of new))) = subst (λ s. AllPairs Differ (places old s)) (sym attributes) (places_differ old new heading.limits.distinct) in
-    subst (λ cs. Rest cs (placed_columns t)) (sym (placed_from-parts homes new 0 (restructured_rows old new t.rows)))
-    (subst (λ cs. Rest (flat (parts homes new 0 (restructured_rows old new t.rows))) cs) (sym (placed_from-parts t.homes old 0 t.rows))
+    subst (λ cs. Rest cs (homed_columns t)) (sym (homed_from-parts homes new 0 (restructured_rows old new t.rows)))
+    (subst (λ cs. Rest (flat (parts homes new 0 (restructured_rows old new t.rows))) cs) (sym (homed_from-parts t.homes old 0 t.rows))
     (Rest-parts _ (places old (attributes_of (heading_of new))) _ inside differ))

@@ -12,7 +12,7 @@ use Rattle.mk_value.specs.Tables.{domain_at}
 use Rattle.mk_value.proofs.Converting.{relation_of-rows_of}
 use Rattle.mk_value.proofs.Headings.{AreAttributes-heading_of, attributes_of-heading_of}
 use Rattle.mk_value.proofs.Relations.{row_fits_length}
-use Rattle.view_store.specs.Tables.{Placed, IsTable, IsUnplaced, unplaced_table}
+use Rattle.tables.specs.Tables.{StoredTable, IsTable, HasNoHomes, table_without_homes}
 use Rattle.restructure.specs.Restructuring.{restructured_value, row_under, value_under, restructured_row, restructured_rows}
 use Rattle.restructure.proofs.Whole.{rows_inside, value_is_of}
 
@@ -104,7 +104,7 @@ rows_kept schema rows heading whole =
     rows whole.whole
 
 -- a whole table no column of which has a home, under its own schema
-pub table_kept : (t : Placed) (new : List Attribute) → IsUnplaced t → IsTable t → t.schema ≡ new → unplaced_table new (restructured_rows t.schema new t.rows) ≡ t
+pub table_kept : (t : StoredTable) (new : List Attribute) → HasNoHomes t → IsTable t → t.schema ≡ new → table_without_homes new (restructured_rows t.schema new t.rows) ≡ t
 table_kept t new plain whole e =
-    subst (λ s. unplaced_table s (restructured_rows t.schema s t.rows) ≡ t) e
-    (ap (λ rows. unplaced_table t.schema rows) (rows_kept t.schema t.rows whole.schema whole.rows) ∙ sym plain)
+    subst (λ s. table_without_homes s (restructured_rows t.schema s t.rows) ≡ t) e
+    (ap (λ rows. table_without_homes t.schema rows) (rows_kept t.schema t.rows whole.schema whole.rows) ∙ sym plain)

@@ -11,8 +11,8 @@ use Rattle.mk_value.specs.Tables.{domain_at}
 use Rattle.mk_value.proofs.Converting.{default_is_of, relation_of-rows_of}
 use Rattle.mk_value.proofs.Headings.{heading_of-attributes_of}
 use Rattle.mk_value.proofs.Relations.{rows_of-relation_of, IsOf-relation, row_fits}
-use Rattle.view_store.specs.Homes.{rows_in}
-use Rattle.view_store.specs.Tables.{inner_schema}
+use Rattle.tables.specs.Homes.{rows_in}
+use Rattle.tables.specs.Tables.{inner_schema}
 use Rattle.view_store.specs.Fitting.{is_within}
 use Rattle.view_store.proofs.Fitting.{is_of_tells}
 use Rattle.view_store.proofs.Walking.{place_within}

@@ -7,8 +7,8 @@ use Rattle.mk_value.specs.Heading.{Domain, Heading, no_attributes, attribute, At
 use Rattle.mk_value.specs.Data.{Datum, integer, long, text, bytes, relation, relation_of, default_of}
 use Rattle.mk_value.specs.Tables.{domain_at}
 use Rattle.view_store.specs.Fitting.{is_within}
-use Rattle.view_store.specs.Homes.{Home, nowhere, tables, each_of, row_homes, column_of, rows_in, unplaced}
-use Rattle.view_store.specs.Tables.{Placed, inner_schema}
+use Rattle.tables.specs.Homes.{Home, no_home, tables, each_of, row_homes, column_of, rows_in, empty_home}
+use Rattle.tables.specs.Tables.{StoredTable, inner_schema}
 
 -- a number where it has 32 bits, else 0
 abbrev pub narrowed : ℤ → ℤ
@@ -76,18 +76,18 @@ abbrev mutual
   restructured_home Domain.bytes Domain.bytes home values = home
   restructured_home (Domain.relation old) (Domain.relation new) (tables rows) values =
       tables (row_homes (zip_with (λ homes d. homes_under (attributes_of old) new homes (rows_in d)) (each_of rows) values))
-  restructured_home old new home values = unplaced new (map (restructured_value old new) values)
+  restructured_home old new home values = empty_home new (map (restructured_value old new) values)
 
   -- of the columns of a table with these homes and rows, under a new heading: a new property has the column of the old one of its name
   pub homes_under : List Attribute → Heading → List Home → List (List Datum) → List Home
   homes_under old no_attributes homes rows = []
   homes_under old (attribute name new rest) homes rows =
-      unwrap_or (option_map (λ k. restructured_home (domain_at old k) new (slice_index_or homes k nowhere) (column_of rows k)) (find old name))
-      (unplaced new (map (λ _. default_of new) rows))
+      unwrap_or (option_map (λ k. restructured_home (domain_at old k) new (slice_index_or homes k no_home) (column_of rows k)) (find old name))
+      (empty_home new (map (λ _. default_of new) rows))
       ∷ homes_under old rest homes rows
 
 -- a table under a new schema
-abbrev pub restructured : Placed → List Attribute → Placed
+abbrev pub restructured : StoredTable → List Attribute → StoredTable
 restructured t new = record {
   schema = new;
   rows = restructured_rows t.schema new t.rows;

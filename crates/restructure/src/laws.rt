@@ -2,8 +2,8 @@
 ghost use Rattle.std.specs.Prelude.{◌≡◌, List, map};
 ghost use Rattle.mk_value.specs.Data.{Datum, IsOf};
 ghost use Rattle.mk_value.specs.Heading.{Attribute, Domain, IsDomain, IsHeading, find};
-ghost use Rattle.view_store.specs.Rests.{RestsOn};
-ghost use Rattle.view_store.specs.Tables.{IsTable, Placed};
+ghost use Rattle.tables.specs.Rests.{RestsOn};
+ghost use Rattle.tables.specs.Tables.{IsTable, StoredTable};
 ghost use Rattle.restructure.specs.Restructuring.{restructured, restructured_row, restructured_value, value_under};
 
 /// A law of rows: a row has for each property of the new schema, in order, what the old value of that name becomes.
@@ -23,5 +23,5 @@ pub fn there_and_back()
 /// A law of homes: under any whole schema a table rests on what it was, whatever homes its columns have. Each home that is left is
 /// that of an old column of the same kind and values, and where the extents of the old homes do not meet, neither do these.
 pub fn rests_on_what_it_was()
-    ensures { (t : Placed) (new : List Attribute) → IsTable t → IsHeading new → RestsOn (restructured t new) t }
+    ensures { (t : StoredTable) (new : List Attribute) → IsTable t → IsHeading new → RestsOn (restructured t new) t }
 {}

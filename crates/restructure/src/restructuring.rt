@@ -4,7 +4,7 @@ ghost use Rattle.mk_value.specs.Data.{AreRowsOf, IsOf, IsRowOf};
 ghost use Rattle.mk_value.specs.Heading.{find};
 ghost use Rattle.mk_value.specs.Kinds.{domain_of};
 ghost use Rattle.mk_value.specs.Values.{datum_of};
-ghost use Rattle.view_store.specs.Rests.{RestsOn};
+ghost use Rattle.tables.specs.Rests.{RestsOn};
 ghost use Rattle.restructure.specs.Restructuring.{places_in, restructured, restructured_row, restructured_rows, restructured_value, value_under};
 
 use crate::conversion::convert;

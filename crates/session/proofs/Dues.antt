@@ -16,9 +16,9 @@ use Rattle.view_store.specs.declared.error.EditError.{EditError}
 use Rattle.view_store.specs.declared.error.EditError.TheVariants.{NoView, OutOfRange}
 use Rattle.view_store.specs.Edits.{Edit, table_at}
 use Rattle.view_store.specs.Fitting.{is_of, are_of}
-use Rattle.view_store.specs.Homes.{rows_in}
+use Rattle.tables.specs.Homes.{rows_in}
 use Rattle.view_store.specs.Refusals.{at_view, due, due_in, kind_refusal, look_due, look_due_in, or_at_end, range_refusal, rows_at, schema_at, schema_in, schema_of, value_refusal}
-use Rattle.view_store.specs.Tables.{Placed, inner_schema, inner_table, place_of}
+use Rattle.tables.specs.Tables.{StoredTable, inner_schema, inner_table, place_of_property}
 use Rattle.view_store.specs.Views.{NamedTable, table_of, view_at}
 use Rattle.view_store.proofs.Fitting.{is_of_tells}
 use Rattle.session.specs.Refusals.{by_rows, by_schema, literal_refusal, refusal_of_edit, row_refusal, rows_refusal}
@@ -29,10 +29,10 @@ some_none : {X : Type 0} (x : X) → Some x ≡ None → ⊥
 some_none x e = let f : ◌≡◌ {A = Option _} (Some x) None = e in cc
 
 -- the rows of the table to which steps lead are those that were walked to
-table_rows : (steps : List Step) (t : Placed) (rows : List (List Datum)) → rows_at steps t.schema t.rows ≡ Ok rows → (table_at steps t).rows ≡ rows
+table_rows : (steps : List Step) (t : StoredTable) (rows : List (List Datum)) → rows_at steps t.schema t.rows ≡ Ok rows → (table_at steps t).rows ≡ rows
 table_rows [] t rows e = let f : ◌≡◌ {A = Result (List (List Datum)) EditError} (Ok t.rows) (Ok rows) = e in cc
 table_rows (s ∷ steps) t rows e =
-    let k = place_of t.schema s.prop in
+    let k = place_of_property t.schema s.prop in
     let inside = rows_at steps (inner_schema (domain_at t.schema k)) (rows_in (cell t.rows s.row k)) in
     elim (ltb s.row (length t.rows)) as (λ b. cond b inside (Err (OutOfRange (length t.rows))) ≡ Ok rows → (table_at steps (inner_table t s.row k)).rows ≡ rows) [
       | true ↦ λ f. table_rows steps (inner_table t s.row k) rows f
@@ -41,14 +41,14 @@ table_rows (s ∷ steps) t rows e =
 
 -- What a route leads to, where no refusal of its names or rows is due.
 pub record Leads (root : List NamedTable) (route : Route) : Type 0 where
-  pub table : Placed
+  pub table : StoredTable
   pub schema : List Attribute
   pub rows : List (List Datum)
   pub found : table_of root route.name ≡ Some table
   pub to_schema : schema_at route.steps table.schema ≡ Ok schema
   pub to_rows : rows_at route.steps table.schema table.rows ≡ Ok rows
 
-leads_in : (root : List NamedTable) (route : Route) (t : Placed) (s : Result (List Attribute) EditError) (r : Result (List (List Datum)) EditError) → table_of root route.name ≡ Some t
+leads_in : (root : List NamedTable) (route : Route) (t : StoredTable) (s : Result (List Attribute) EditError) (r : Result (List (List Datum)) EditError) → table_of root route.name ≡ Some t
     → schema_at route.steps t.schema ≡ s → rows_at route.steps t.schema t.rows ≡ r
     → option_map refusal_of_edit (option_or (or_at_end s (λ _. None)) (or_at_end r (λ _. None))) ≡ None → Leads root route
 leads_in root route t (Err e) r found to_schema to_rows h = absurd (some_none (refusal_of_edit e) h)
@@ -56,7 +56,7 @@ leads_in root route t (Ok schema) (Err e) found to_schema to_rows h = absurd (so
 leads_in root route t (Ok schema) (Ok rows) found to_schema to_rows h =
     record { table = t; schema = schema; rows = rows; found = found; to_schema = to_schema; to_rows = to_rows }
 
-leads_from : (root : List NamedTable) (route : Route) (o : Option Placed) → table_of root route.name ≡ o → option_map refusal_of_edit (at_view o (λ t. look_due_in t route.steps)) ≡ None → Leads root route
+leads_from : (root : List NamedTable) (route : Route) (o : Option StoredTable) → table_of root route.name ≡ o → option_map refusal_of_edit (at_view o (λ t. look_due_in t route.steps)) ≡ None → Leads root route
 leads_from root route None found h = absurd (some_none (refusal_of_edit NoView) h)
 leads_from root route (Some t) found h = leads_in root route t (schema_at route.steps t.schema) (rows_at route.steps t.schema t.rows) found refl refl h
 
@@ -71,7 +71,7 @@ leads-schema root route l = ap (λ r. result_unwrap_or r []) (leads-schema_of ro
 
 pub leads-size : (root : List NamedTable) (route : Route) (l : Leads root route) → size_named root route ≡ length l.rows
 leads-size root route l =
-    ap (λ o. length (unwrap_or (option_map (λ (t : Placed). t.rows) (option_map (λ t. table_at route.steps t) o)) [])) l.found
+    ap (λ o. length (unwrap_or (option_map (λ (t : StoredTable). t.rows) (option_map (λ t. table_at route.steps t) o)) [])) l.found
     ∙ ap length (table_rows route.steps l.table l.rows l.to_rows)
 
 -- an edit that the schema and the number of rows let through is due none

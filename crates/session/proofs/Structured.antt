@@ -5,7 +5,7 @@ use Rattle.mk_value.specs.Names.{IsName, same_bytes}
 use Rattle.restructure.specs.Restructuring.{restructured}
 use Rattle.struct_text.specs.Spelling.{spelling}
 use Rattle.struct_text.proofs.Unique.{one_structure}
-use Rattle.view_store.specs.Tables.{Placed}
+use Rattle.tables.specs.Tables.{StoredTable}
 use Rattle.view_store.specs.Views.{NamedTable, table_of, with_view}
 use Rattle.view_store.proofs.Roots.{same_name}
 use Rattle.session.specs.Structures.{structured, with_structure}
@@ -21,7 +21,7 @@ other_text name a b named first second differ =
     ] refl
 
 -- the view of the name has another structure
-pub structured-other : (root : List NamedTable) (name : List ℕ) (schema : List Attribute) (t : Placed) → table_of root name ≡ Some t → IsName name → IsHeading t.schema → IsHeading schema → (t.schema ≡ schema → ⊥)
+pub structured-other : (root : List NamedTable) (name : List ℕ) (schema : List Attribute) (t : StoredTable) → table_of root name ≡ Some t → IsName name → IsHeading t.schema → IsHeading schema → (t.schema ≡ schema → ⊥)
     → structured root name schema ≡ with_view root name (restructured t schema)
 structured-other root name schema t found named first second differ =
     ap (λ o. with_structure root o name schema) found

@@ -5,7 +5,7 @@ use Rattle.std.proofs.lemmas.List.{length-append, drop_all}
 use Rattle.mk_value.specs.Buffer.{Buffer}
 use Rattle.cmd_text.specs.Replies.{contents, reply_line, lines_text}
 use Rattle.struct_text.specs.Spelling.{spelling}
-use Rattle.view_store.specs.Tables.{Placed}
+use Rattle.tables.specs.Tables.{StoredTable}
 use Rattle.view_store.specs.Views.{NamedTable, view_names}
 use Rattle.session.specs.Structures.{structure_texts, structures}
 
@@ -26,7 +26,7 @@ walked_map f texts t xs i x next e h =
 pub walked_all : {X : Type 0} (f : X → List ℕ) (texts : List Buffer) (xs : List X) (i : ℕ) → length xs ≤ i → contents texts ++ map f (drop i xs) ≡ map f xs → contents texts ≡ map f xs
 walked_all f texts xs i p h = sym (append-nil (contents texts)) ∙ ap (λ rest. contents texts ++ map f rest) (sym (drop_all i xs p)) ∙ h
 
-pub walked_structures : (texts : List Buffer) (t : Buffer) (names : List (List ℕ)) (tables : List Placed) (i : ℕ) (name : List ℕ) (table : Placed)
+pub walked_structures : (texts : List Buffer) (t : Buffer) (names : List (List ℕ)) (tables : List StoredTable) (i : ℕ) (name : List ℕ) (table : StoredTable)
     → drop i names ≡ name ∷ drop (i + 1) names → drop i tables ≡ table ∷ drop (i + 1) tables → t.bytes ≡ spelling name table.schema
     → contents texts ++ structure_texts (drop i names) (drop i tables) ≡ structure_texts names tables
     → contents (texts ++ t ∷ []) ++ structure_texts (drop (i + 1) names) (drop (i + 1) tables) ≡ structure_texts names tables
@@ -34,7 +34,7 @@ walked_structures texts t names tables i name table e f is h =
     walked_more texts t (spelling name table.schema) (structure_texts (drop (i + 1) names) (drop (i + 1) tables)) (structure_texts names tables) is
     (sym (ap (λ ns. contents texts ++ structure_texts ns (drop i tables)) e ∙ ap (λ ts. contents texts ++ structure_texts (name ∷ drop (i + 1) names) ts) f) ∙ h)
 
-pub all_structures : (texts : List Buffer) (names : List (List ℕ)) (tables : List Placed) (i : ℕ) → length names ≤ i
+pub all_structures : (texts : List Buffer) (names : List (List ℕ)) (tables : List StoredTable) (i : ℕ) → length names ≤ i
     → contents texts ++ structure_texts (drop i names) (drop i tables) ≡ structure_texts names tables → contents texts ≡ structure_texts names tables
 all_structures texts names tables i p h =
     sym (append-nil (contents texts)) ∙ ap (λ rest. contents texts ++ structure_texts rest (drop i tables)) (sym (drop_all i names p)) ∙ h

@@ -4,7 +4,7 @@ use Rattle.mk_value.specs.Heading.{Attribute}
 use Rattle.mk_value.specs.Names.{same_bytes}
 use Rattle.restructure.specs.Restructuring.{restructured}
 use Rattle.struct_text.specs.Spelling.{spelling}
-use Rattle.view_store.specs.Tables.{Placed, unplaced_table}
+use Rattle.tables.specs.Tables.{StoredTable, table_without_homes}
 use Rattle.view_store.specs.Views.{NamedTable, table_of, with_view}
 
 -- the structure texts of the views, in the order in which the views were made
@@ -12,14 +12,14 @@ abbrev pub structures : List NamedTable → List (List ℕ)
 structures root = map (λ v. spelling v.name v.table.schema) root
 
 -- the structure texts of names and their tables
-abbrev pub structure_texts : List (List ℕ) → List Placed → List (List ℕ)
+abbrev pub structure_texts : List (List ℕ) → List StoredTable → List (List ℕ)
 structure_texts (name ∷ names) (t ∷ tables) = spelling name t.schema ∷ structure_texts names tables
 structure_texts _ _ = []
 
 -- The views after one of a name was given a structure: where none has the name, a view without rows is added last; where its structure is
 -- the same, nothing changes; else its rows are restructured, and it keeps its place.
-abbrev pub with_structure : List NamedTable → Option Placed → List ℕ → List Attribute → List NamedTable
-with_structure root None name schema = with_view root name (unplaced_table schema [])
+abbrev pub with_structure : List NamedTable → Option StoredTable → List ℕ → List Attribute → List NamedTable
+with_structure root None name schema = with_view root name (table_without_homes schema [])
 with_structure root (Some t) name schema =
     if same_bytes (spelling name t.schema) (spelling name schema) then root else with_view root name (restructured t schema)
 

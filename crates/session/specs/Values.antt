@@ -8,7 +8,7 @@ use Rattle.mk_value.specs.Heading.{Domain, Attribute}
 use Rattle.mk_value.specs.Paths.{Route}
 use Rattle.mk_value.specs.Tables.{domain_at}
 use Rattle.view_store.specs.Refusals.{schema_of}
-use Rattle.view_store.specs.Tables.{place_of}
+use Rattle.tables.specs.Tables.{place_of_property}
 use Rattle.view_store.specs.Views.{NamedTable, view_at}
 
 -- the schema and the rows of the view that a route names; none where it names no view
@@ -28,4 +28,4 @@ values_for _ _ = []
 
 -- the domain of the property of a name
 abbrev pub domain_named : List Attribute → List ℕ → Domain
-domain_named schema name = domain_at schema (place_of schema name)
+domain_named schema name = domain_at schema (place_of_property schema name)

@@ -4,7 +4,7 @@ ghost use Rattle.restructure.specs.Restructuring.{restructured};
 ghost use Rattle.struct_text.specs.Spelling.{spelling};
 ghost use Rattle.mk_value.specs.Limits.{max_structure, max_views};
 ghost use Rattle.view_store.specs.Views.{structure_length, table_of, without_view, with_view};
-ghost use Rattle.view_store.specs.Tables.{unplaced_table};
+ghost use Rattle.tables.specs.Tables.{table_without_homes};
 ghost use Rattle.session.specs.Refusals.{AnswersDue, drop_due, getas_due};
 ghost use Rattle.session.specs.Structures.{structured};
 
@@ -65,7 +65,7 @@ impl Session {
         requires absent { table_of self.old.root name.now ≡ None }
         requires short { structure_length name.now schema.now ≤ max_structure }
         ensures due { AnswersDue (getas_due self.old.root name.now) result }
-        ensures ok { OnOk result (self.new.root ≡ with_view self.old.root name.now (unplaced_table schema.now [])) }
+        ensures ok { OnOk result (self.new.root ≡ with_view self.old.root name.now (table_without_homes schema.now [])) }
         ensures err { OnErr result (self.new ≡ self.old) }
     {
         if self.root.names().len() >= MAX_VIEWS {

@@ -12,14 +12,15 @@ use Rattle.mk_value.specs.Data.{Datum, integer, relation, relation_of, cell, def
 use Rattle.mk_value.specs.Tables.{domain_at}
 use Rattle.view_store.specs.declared.error.EditError.{EditError}
 use Rattle.view_store.specs.declared.error.EditError.TheVariants.{NoProp, WrongKind, OutOfRange}
-use Rattle.view_store.specs.Homes.{rows_in, unplaced_in}
-use Rattle.view_store.specs.Tables.{inner_table, with_value, with_inner, unplaced_table}
+use Rattle.tables.specs.Homes.{rows_in, empty_homes_in}
+use Rattle.tables.specs.Tables.{inner_table, with_value, with_inner, table_without_homes}
 use Rattle.view_store.specs.Fitting.{is_of, are_of}
-use Rattle.view_store.specs.Edits.{Edit, completed, edited, edited_here}
+use Rattle.tables.specs.Rows.{completed}
+use Rattle.view_store.specs.Edits.{Edit, edited, edited_here}
 use Rattle.view_store.specs.Refusals.{schema_at, rows_at, or_at_end, kind_refusal, value_refusal, range_refusal, due_in}
 use Rattle.view_store.proofs.Fitting.{is_of_tells, completed_fits}
-use Rattle.view_store.proofs.Unplaced.{unplaced_table-inserted, unplaced_table-with_value, unplaced_table-with_inner, inner_table-unplaced}
-use Rattle.view_store.proofs.Walking.{schema_at-step, rows_at-step, place_of-found, place_within, row_long}
+use Rattle.view_store.proofs.Homeless.{table_without_homes-inserted, table_without_homes-with_value, table_without_homes-with_inner, inner_table-empty}
+use Rattle.view_store.proofs.Walking.{schema_at-step, rows_at-step, place_of_property-found, place_within, row_long}
 
 none_both : {X : Type 0} (o p : Option X) → option_or o p ≡ None → (o ≡ None) × (p ≡ None)
 none_both None p e = (refl, e)
@@ -55,7 +56,7 @@ pub record MayInsert (schema : List Attribute) (size at : ℕ) (values : List Da
   pub within : at ≤ size
   pub room : size + n ≤ max_rows
 
-pub may_insert : (schema : List Attribute) (rows : List (List Datum)) (at n : ℕ) (values : List Datum) → due_in (unplaced_table schema rows) [] (Edit.insert at values n) ≡ None → MayInsert schema (length rows) at values n
+pub may_insert : (schema : List Attribute) (rows : List (List Datum)) (at n : ℕ) (values : List Datum) → due_in (table_without_homes schema rows) [] (Edit.insert at values n) ≡ None → MayInsert schema (length rows) at values n
 may_insert schema rows at n values e =
     let parts = none_both _ _ e in
     let kinds = no_kind_refusal (ltb (length schema) (length values)) (are_of values schema) parts.0 in
@@ -86,15 +87,15 @@ insert_whole schema rows at n values whole may =
     }
 
 pub insert_done : (schema : List Attribute) (rows : List (List Datum)) (at n : ℕ) (values : List Datum)
-    → unplaced_table schema (take at rows ++ (replicate n (completed schema values) ++ drop at rows)) ≡ edited_here (Edit.insert at values n) (unplaced_table schema rows)
-insert_done schema rows at n values = unplaced_table-inserted schema at n (completed schema values) rows (long_enough schema values)
+    → table_without_homes schema (take at rows ++ (replicate n (completed schema values) ++ drop at rows)) ≡ edited_here (Edit.insert at values n) (table_without_homes schema rows)
+insert_done schema rows at n values = table_without_homes-inserted schema at n (completed schema values) rows (long_enough schema values)
 
 -- a value that may be set
 pub record MaySet (schema : List Attribute) (size i k : ℕ) (d : Datum) : Type 0 where
   pub within : i < size
   pub fits : IsOf d (domain_at schema k)
 
-pub may_set : (schema : List Attribute) (rows : List (List Datum)) (i k : ℕ) (prop : List ℕ) (d : Datum) → find schema prop ≡ Some k → due_in (unplaced_table schema rows) [] (Edit.set i prop d) ≡ None → MaySet schema (length rows) i k d
+pub may_set : (schema : List Attribute) (rows : List (List Datum)) (i k : ℕ) (prop : List ℕ) (d : Datum) → find schema prop ≡ Some k → due_in (table_without_homes schema rows) [] (Edit.set i prop d) ≡ None → MaySet schema (length rows) i k d
 may_set schema rows i k prop d found e =
     let parts = none_both _ _ e in
     let fits = passes (is_of d (domain_at schema k)) WrongKind (sym (ap (λ o. value_refusal schema o d) found) ∙ parts.0) in
@@ -121,12 +122,12 @@ set_whole schema rows i k d whole p fits =
     }
 
 pub set_done : (schema : List Attribute) (rows : List (List Datum)) (i k : ℕ) (prop : List ℕ) (d : Datum) → AreRowsOf rows schema → find schema prop ≡ Some k → i < length rows
-    → unplaced_table schema (set rows i (set (get_or rows i []) k d)) ≡ edited_here (Edit.set i prop d) (unplaced_table schema rows)
+    → table_without_homes schema (set rows i (set (get_or rows i []) k d)) ≡ edited_here (Edit.set i prop d) (table_without_homes schema rows)
 set_done schema rows i k prop d whole found p =
     let within = place_within schema prop k found in
     let long = row_long rows schema i whole p in
-    unplaced_table-with_value schema rows i k d p within (omega (arith, long))
-    ∙ ap (λ j. with_value (unplaced_table schema rows) i j d (unplaced_in (domain_at schema j) d)) (sym (place_of-found schema prop k found))
+    table_without_homes-with_value schema rows i k d p within (omega (arith, long))
+    ∙ ap (λ j. with_value (table_without_homes schema rows) i j d (empty_homes_in (domain_at schema j) d)) (sym (place_of_property-found schema prop k found))
 
 pub removed_whole : (schema : List Attribute) (rows : List (List Datum)) (at n : ℕ) → AreRowsOf rows schema → AreRowsOf (take at rows ++ drop (at + n) rows) schema
 removed_whole schema rows at n whole =
@@ -142,19 +143,19 @@ pub ended_well : {X : Type 0} (r : Result X EditError) (f : X → Option EditErr
 ended_well (Ok x) f e = refl
 ended_well (Err x) f e = some_none x e
 
-pub free_schema : (schema : List Attribute) (rows : List (List Datum)) (steps : List Step) (edit : Edit) → due_in (unplaced_table schema rows) steps edit ≡ None → IsOk (schema_at steps schema)
+pub free_schema : (schema : List Attribute) (rows : List (List Datum)) (steps : List Step) (edit : Edit) → due_in (table_without_homes schema rows) steps edit ≡ None → IsOk (schema_at steps schema)
 free_schema schema rows steps edit e = ended_well (schema_at steps schema) (λ s. kind_refusal s edit) (none_both _ _ e).0
 
 row_there : (b : Bool) (x : Result (List (List Datum)) EditError) (size : ℕ) (f : List (List Datum) → Option EditError) → or_at_end (cond b x (Err (OutOfRange size))) f ≡ None → b ≡ true
 row_there true x size f e = refl
 row_there false x size f e = some_none (OutOfRange size) e
 
-pub free_row : (schema : List Attribute) (rows : List (List Datum)) (s : Step) (steps : List Step) (edit : Edit) → due_in (unplaced_table schema rows) (s ∷ steps) edit ≡ None → s.row < length rows
+pub free_row : (schema : List Attribute) (rows : List (List Datum)) (s : Step) (steps : List Step) (edit : Edit) → due_in (table_without_homes schema rows) (s ∷ steps) edit ≡ None → s.row < length rows
 free_row schema rows s steps edit e =
     below _ _ (row_there (ltb s.row (length rows)) _ (length rows) (λ rs. range_refusal (length rs) edit) (none_both _ _ e).1)
 
 pub due_in-step : (s : Step) (steps : List Step) (schema inner : List Attribute) (rows : List (List Datum)) (k : ℕ) (edit : Edit) → find schema s.prop ≡ Some k → domain_at schema k ≡ Domain.relation (heading_of inner) → s.row < length rows
-    → due_in (unplaced_table schema rows) (s ∷ steps) edit ≡ due_in (unplaced_table inner (rows_in (cell rows s.row k))) steps edit
+    → due_in (table_without_homes schema rows) (s ∷ steps) edit ≡ due_in (table_without_homes inner (rows_in (cell rows s.row k))) steps edit
 due_in-step s steps schema inner rows k edit found view p =
     ap (λ r. option_or (or_at_end r (λ s. kind_refusal s edit)) (or_at_end (rows_at (s ∷ steps) schema rows) (λ rs. range_refusal (length rs) edit))) (schema_at-step s steps schema inner k found view)
     ∙ ap (λ r. option_or (or_at_end (schema_at steps inner) (λ s. kind_refusal s edit)) (or_at_end r (λ rs. range_refusal (length rs) edit))) (rows_at-step s steps schema inner rows k found view p)
@@ -162,15 +163,15 @@ due_in-step s steps schema inner rows k edit found view p =
 -- the edit of a view inside, put back in its place
 pub edited-step : (s : Step) (steps : List Step) (schema inner : List Attribute) (rows new : List (List Datum)) (k : ℕ) (edit : Edit) → AreRowsOf rows schema
     → find schema s.prop ≡ Some k → domain_at schema k ≡ Domain.relation (heading_of inner) → s.row < length rows
-    → unplaced_table inner new ≡ edited steps edit (unplaced_table inner (rows_in (cell rows s.row k)))
-    → unplaced_table schema (set rows s.row (set (get_or rows s.row []) k (relation (relation_of new)))) ≡ edited (s ∷ steps) edit (unplaced_table schema rows)
+    → table_without_homes inner new ≡ edited steps edit (table_without_homes inner (rows_in (cell rows s.row k)))
+    → table_without_homes schema (set rows s.row (set (get_or rows s.row []) k (relation (relation_of new)))) ≡ edited (s ∷ steps) edit (table_without_homes schema rows)
 edited-step s steps schema inner rows new k edit whole found view p done =
-    let t = unplaced_table schema rows in
+    let t = table_without_homes schema rows in
     let within = place_within schema s.prop k found in
     let long = row_long rows schema s.row whole p in
-    unplaced_table-with_inner schema inner rows new s.row k p within (omega (arith, long)) view
-    ∙ ap (λ u. with_inner t s.row k u) (done ∙ ap (λ u. edited steps edit u) (sym (inner_table-unplaced schema inner rows s.row k p within view)))
-    ∙ ap (λ j. with_inner t s.row j (edited steps edit (inner_table t s.row j))) (sym (place_of-found schema s.prop k found))
+    table_without_homes-with_inner schema inner rows new s.row k p within (omega (arith, long)) view
+    ∙ ap (λ u. with_inner t s.row k u) (done ∙ ap (λ u. edited steps edit u) (sym (inner_table-empty schema inner rows s.row k p within view)))
+    ∙ ap (λ j. with_inner t s.row j (edited steps edit (inner_table t s.row j))) (sym (place_of_property-found schema s.prop k found))
 
 -- a value taken out and another put in its place
 pub put_back : (rows : List (List Datum)) (i k : ℕ) (x d : Datum) → i < length rows

@@ -15,7 +15,7 @@ use Rattle.mk_value.specs.Data.{Datum, integer, long, text, bytes, relation, Tup
 use Rattle.mk_value.specs.Tables.{domain_at}
 use Rattle.view_store.specs.declared.error.EditError.TheVariants.{WrongKind}
 use Rattle.view_store.specs.Fitting.{is_within, is_of, is_tuple_of, are_tuples_of, are_of}
-use Rattle.view_store.specs.Edits.{completed}
+use Rattle.tables.specs.Rows.{completed}
 use Rattle.view_store.specs.Refusals.{value_refusal}
 
 Decides-leb : (a b : ℕ) → Decides (leb a b) (a ≤ b)

@@ -5,5 +5,5 @@ pub mod Lists
 pub mod Named
 pub mod Resting
 pub mod Roots
-pub mod Unplaced
+pub mod Homeless
 pub mod Walking

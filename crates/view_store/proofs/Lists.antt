@@ -1,8 +1,8 @@
 -- Lists put together from parts, element by element.
 use Rattle.std.proofs.Common.{◌≡◌, ℕ, zero, suc, ◌+◌, List, [], ◌∷◌, ◌++◌, take, drop, map, replicate, refl, ap, sym, ◌∙◌}
 use Rattle.std.proofs.lemmas.List.{map-append, take-map, drop-map}
-use Rattle.view_store.specs.Edits.{inserted, removed}
-use Rattle.view_store.specs.Homes.{Home, columns_of, column_homes, each_of, row_homes}
+use Rattle.tables.specs.Rows.{inserted, removed}
+use Rattle.tables.specs.Homes.{Home, columns_of, column_homes, each_of, row_homes}
 
 pub map-replicate : {X Y : Type 0} (f : X → Y) (n : ℕ) (x : X) → map f (replicate n x) ≡ replicate n (f x)
 map-replicate f zero x = refl

@@ -8,7 +8,7 @@ use Rattle.std.proofs.lemmas.List.Quantifiers.{position-Some}
 use Rattle.std.proofs.lemmas.Bool.Decides.{nat_tests}
 use Rattle.mk_value.specs.Names.{same_bytes}
 use Rattle.mk_value.specs.Paths.{Route}
-use Rattle.view_store.specs.Tables.{Placed}
+use Rattle.tables.specs.Tables.{StoredTable}
 use Rattle.view_store.specs.Edits.{Edit, edited}
 use Rattle.view_store.specs.Views.{NamedTable, view_names, table_of, with_view, without_view, edited_views, named}
 
@@ -68,17 +68,17 @@ table_of-absent (v ∷ rest) name h =
     ∙ table_of-absent rest name (next_absent v.name name (view_names rest) h)
 
 -- a view with another table
-abbrev pub retabled : NamedTable → Placed → NamedTable
+abbrev pub retabled : NamedTable → StoredTable → NamedTable
 retabled v t = record { name = v.name; table = t }
 
-pub with_view-place : (views : List NamedTable) (name : List ℕ) (at : ℕ) (t : Placed) → IsPlace (view_names views) name at → with_view views name t ≡ set views at (retabled (get_or views at no_view) t)
+pub with_view-place : (views : List NamedTable) (name : List ℕ) (at : ℕ) (t : StoredTable) → IsPlace (view_names views) name at → with_view views name t ≡ set views at (retabled (get_or views at no_view) t)
 with_view-place [] name at t h = absurd (let within = h.within in omega arith)
 with_view-place (v ∷ rest) name zero t h = ap (λ b. cond b (retabled v t ∷ rest) (v ∷ with_view rest name t)) h.here
 with_view-place (v ∷ rest) name (suc at) t h =
     ap (λ b. cond b (retabled v t ∷ rest) (v ∷ with_view rest name t)) (h.before 0 (omega arith))
     ∙ ap (λ vs. v ∷ vs) (with_view-place rest name at t (next_place v.name name (view_names rest) at h))
 
-pub with_view-absent : (views : List NamedTable) (name : List ℕ) (t : Placed) → IsAbsent (view_names views) name → with_view views name t ≡ views ++ record { name = name; table = t } ∷ []
+pub with_view-absent : (views : List NamedTable) (name : List ℕ) (t : StoredTable) → IsAbsent (view_names views) name → with_view views name t ≡ views ++ record { name = name; table = t } ∷ []
 with_view-absent [] name t h = refl
 with_view-absent (v ∷ rest) name t h =
     ap (λ b. cond b (retabled v t ∷ rest) (v ∷ with_view rest name t)) (h.other 0 (omega arith))
@@ -100,30 +100,30 @@ edited_views-place (v ∷ rest) route edit (suc at) h =
     ∙ ap (λ vs. v ∷ vs) (edited_views-place rest route edit at (next_place v.name route.name (view_names rest) at h))
 
 -- Names beside their tables.
-pub view_names-named : (names : List (List ℕ)) (tables : List Placed) → length names ≡ length tables → view_names (named names tables) ≡ names
+pub view_names-named : (names : List (List ℕ)) (tables : List StoredTable) → length names ≡ length tables → view_names (named names tables) ≡ names
 view_names-named [] tables e = refl
 view_names-named (n ∷ names) [] e = absurd (omega arith)
 view_names-named (n ∷ names) (t ∷ tables) e = ap (λ ns. n ∷ ns) (view_names-named names tables (omega arith))
 
-pub length-named : (names : List (List ℕ)) (tables : List Placed) → length names ≡ length tables → length (named names tables) ≡ length names
+pub length-named : (names : List (List ℕ)) (tables : List StoredTable) → length names ≡ length tables → length (named names tables) ≡ length names
 length-named [] tables e = refl
 length-named (n ∷ names) [] e = absurd (omega arith)
 length-named (n ∷ names) (t ∷ tables) e = let f = length-named names tables (omega arith) in omega (arith, f)
 
-pub named-set : (names : List (List ℕ)) (tables : List Placed) (at : ℕ) (t : Placed) → length names ≡ length tables → at < length tables
+pub named-set : (names : List (List ℕ)) (tables : List StoredTable) (at : ℕ) (t : StoredTable) → length names ≡ length tables → at < length tables
     → named names (set tables at t) ≡ set (named names tables) at (retabled (get_or (named names tables) at no_view) t)
 named-set [] tables at t e p = absurd (omega arith)
 named-set (n ∷ names) [] at t e p = absurd (omega arith)
 named-set (n ∷ names) (u ∷ tables) zero t e p = refl
 named-set (n ∷ names) (u ∷ tables) (suc at) t e p = ap (λ vs. record { name = n; table = u } ∷ vs) (named-set names tables at t (omega arith) (omega arith))
 
-pub get_or-named : (names : List (List ℕ)) (tables : List Placed) (at : ℕ) (d : Placed) → length names ≡ length tables → at < length tables → (get_or (named names tables) at no_view).table ≡ get_or tables at d
+pub get_or-named : (names : List (List ℕ)) (tables : List StoredTable) (at : ℕ) (d : StoredTable) → length names ≡ length tables → at < length tables → (get_or (named names tables) at no_view).table ≡ get_or tables at d
 get_or-named [] tables at d e p = absurd (omega arith)
 get_or-named (n ∷ names) [] at d e p = absurd (omega arith)
 get_or-named (n ∷ names) (u ∷ tables) zero d e p = refl
 get_or-named (n ∷ names) (u ∷ tables) (suc at) d e p = get_or-named names tables at d (omega arith) (omega arith)
 
-pub named-remove : (names : List (List ℕ)) (tables : List Placed) (at : ℕ) → length names ≡ length tables → named (remove names at) (remove tables at) ≡ remove (named names tables) at
+pub named-remove : (names : List (List ℕ)) (tables : List StoredTable) (at : ℕ) → length names ≡ length tables → named (remove names at) (remove tables at) ≡ remove (named names tables) at
 named-remove [] [] zero e = refl
 named-remove [] [] (suc at) e = refl
 named-remove [] (t ∷ tables) at e = absurd (omega arith)
@@ -131,7 +131,7 @@ named-remove (n ∷ names) [] at e = absurd (omega arith)
 named-remove (n ∷ names) (t ∷ tables) zero e = refl
 named-remove (n ∷ names) (t ∷ tables) (suc at) e = ap (λ vs. record { name = n; table = t } ∷ vs) (named-remove names tables at (omega arith))
 
-pub named-push : (names : List (List ℕ)) (tables : List Placed) (name : List ℕ) (t : Placed) → length names ≡ length tables
+pub named-push : (names : List (List ℕ)) (tables : List StoredTable) (name : List ℕ) (t : StoredTable) → length names ≡ length tables
     → named (names ++ name ∷ []) (tables ++ t ∷ []) ≡ named names tables ++ record { name = name; table = t } ∷ []
 named-push [] [] name t e = refl
 named-push [] (u ∷ tables) name t e = absurd (omega arith)

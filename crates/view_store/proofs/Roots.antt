@@ -17,7 +17,7 @@ use Rattle.mk_value.specs.Paths.{Route}
 use Rattle.view_store.specs.declared.error.EditError.{EditError}
 use Rattle.view_store.specs.declared.error.EditError.TheVariants.{NoView}
 use Rattle.view_store.specs.Refusals.{AnswersDue, at_view, due, due_in, look_due, look_due_in}
-use Rattle.view_store.specs.Tables.{Placed, IsTable, IsUnplaced, unplaced_table}
+use Rattle.tables.specs.Tables.{StoredTable, IsTable, HasNoHomes, table_without_homes}
 use Rattle.view_store.specs.Edits.{Edit, edited, table_at}
 use Rattle.mk_value.specs.Limits.{max_structure, max_views}
 use Rattle.view_store.specs.Views.{NamedTable, IsView, IsPlainRoot, view_names, named, table_of, with_view, without_view, edited_views, view_at, structure_length}
@@ -31,7 +31,7 @@ other_name : (a b : List ℕ) → same_bytes a b ≡ false → a ≢ b
 other_name a b e f = false≢true (sym e ∙ (bytes_decides a b).1 f)
 
 -- an edit keeps the schema
-pub edited-schema : (steps : List Step) (edit : Edit) (t : Placed) → (edited steps edit t).schema ≡ t.schema
+pub edited-schema : (steps : List Step) (edit : Edit) (t : StoredTable) → (edited steps edit t).schema ≡ t.schema
 edited-schema [] (Edit.insert at row zero) t = refl
 edited-schema [] (Edit.insert at row (suc n)) t = refl
 edited-schema [] (Edit.set i prop d) t = refl
@@ -39,11 +39,11 @@ edited-schema [] (Edit.remove at zero) t = refl
 edited-schema [] (Edit.remove at (suc n)) t = refl
 edited-schema (s ∷ steps) edit t = refl
 
-distinct_names : (names : List (List ℕ)) (tables : List Placed) → IsPlainRoot names tables → AllPairs (λ a b. a ≢ b) names
+distinct_names : (names : List (List ℕ)) (tables : List StoredTable) → IsPlainRoot names tables → AllPairs (λ a b. a ≢ b) names
 distinct_names names tables root = subst (AllPairs (λ a b. a ≢ b)) (view_names-named names tables root.paired) root.views.distinct
 
 -- a table given another
-pub root-set : (names : List (List ℕ)) (tables : List Placed) (at : ℕ) (t : Placed) → IsPlainRoot names tables → at < length tables → IsTable t → IsUnplaced t
+pub root-set : (names : List (List ℕ)) (tables : List StoredTable) (at : ℕ) (t : StoredTable) → IsPlainRoot names tables → at < length tables → IsTable t → HasNoHomes t
     → structure_length (get_or (named names tables) at no_view).name t.schema ≤ max_structure → IsPlainRoot names (set tables at t)
 root-set names tables at t root p whole plain short =
     let views = named names tables in
@@ -60,14 +60,14 @@ root-set names tables at t root p whole plain short =
         whole = subst (All IsView) (sym (named-set names tables at t paired p))
             (All-set IsView views at (retabled (get_or views at no_view) t) (record { name = old.name; table = whole; short = short }) root.views.whole);
       };
-      plain = All-set IsUnplaced tables at t plain root.plain;
+      plain = All-set HasNoHomes tables at t plain root.plain;
     }
 
 pub All-remove : {X : Type 0} (P : X → Type 0) (xs : List X) (at : ℕ) → All P xs → All P (remove xs at)
 All-remove P xs at h = All-append P (take at xs) (drop (suc at) xs) (All-take P at xs h) (All-drop P (suc at) xs h)
 
 -- a view removed
-pub root-remove : (names : List (List ℕ)) (tables : List Placed) (at : ℕ) → IsPlainRoot names tables → at < length names → IsPlainRoot (remove names at) (remove tables at)
+pub root-remove : (names : List (List ℕ)) (tables : List StoredTable) (at : ℕ) → IsPlainRoot names tables → at < length names → IsPlainRoot (remove names at) (remove tables at)
 root-remove names tables at root p =
     let paired = root.paired in
     let long = length-named names tables paired in
@@ -82,12 +82,12 @@ root-remove names tables at root p =
             (all_pairs_remove (λ a b. a ≢ b) names at p (distinct_names names tables root));
         whole = subst (All IsView) (sym (named-remove names tables at paired)) (All-remove IsView (named names tables) at root.views.whole);
       };
-      plain = All-remove IsUnplaced tables at root.plain;
+      plain = All-remove HasNoHomes tables at root.plain;
     }
 
 -- a view added last
-pub root-push : (names : List (List ℕ)) (tables : List Placed) (name : List ℕ) (t : Placed) → IsPlainRoot names tables → IsAbsent names name → length (named names tables) < max_views
-    → IsView (record { name = name; table = t }) → IsUnplaced t → IsPlainRoot (names ++ name ∷ []) (tables ++ t ∷ [])
+pub root-push : (names : List (List ℕ)) (tables : List StoredTable) (name : List ℕ) (t : StoredTable) → IsPlainRoot names tables → IsAbsent names name → length (named names tables) < max_views
+    → IsView (record { name = name; table = t }) → HasNoHomes t → IsPlainRoot (names ++ name ∷ []) (tables ++ t ∷ [])
 root-push names tables name t root absent room view plain =
     let paired = root.paired in
     let long = length-named names tables paired in
@@ -102,32 +102,32 @@ root-push names tables name t root absent room view plain =
             (λ k d p. other_name (get_or names k d) name (subst (λ n. same_bytes n name ≡ false) (get_or_default names k [] d p) (absent.other k p))));
         whole = subst (All IsView) (sym (named-push names tables name t paired)) (All-push IsView (named names tables) (record { name = name; table = t }) root.views.whole view);
       };
-      plain = All-push IsUnplaced tables t root.plain plain;
+      plain = All-push HasNoHomes tables t root.plain plain;
     }
 
 -- where the names of the views are those of the list, a place in it is one among the views
-pub place_in_views : (names : List (List ℕ)) (tables : List Placed) (name : List ℕ) (at : ℕ) → length names ≡ length tables → IsPlace names name at → IsPlace (view_names (named names tables)) name at
+pub place_in_views : (names : List (List ℕ)) (tables : List StoredTable) (name : List ℕ) (at : ℕ) → length names ≡ length tables → IsPlace names name at → IsPlace (view_names (named names tables)) name at
 place_in_views names tables name at paired place = subst (λ ns. IsPlace ns name at) (sym (view_names-named names tables paired)) place
 
-pub absent_in_views : (names : List (List ℕ)) (tables : List Placed) (name : List ℕ) → length names ≡ length tables → IsAbsent names name → IsAbsent (view_names (named names tables)) name
+pub absent_in_views : (names : List (List ℕ)) (tables : List StoredTable) (name : List ℕ) → length names ≡ length tables → IsAbsent names name → IsAbsent (view_names (named names tables)) name
 absent_in_views names tables name paired absent = subst (λ ns. IsAbsent ns name) (sym (view_names-named names tables paired)) absent
 
 -- The views of a root by its names and tables.
-pub found_table : (names : List (List ℕ)) (tables : List Placed) (views : List NamedTable) (name : List ℕ) (at : ℕ) (t : Placed) → named names tables ≡ views → length names ≡ length tables
+pub found_table : (names : List (List ℕ)) (tables : List StoredTable) (views : List NamedTable) (name : List ℕ) (at : ℕ) (t : StoredTable) → named names tables ≡ views → length names ≡ length tables
     → IsPlace names name at → at < length tables → t ≡ get_or tables at t → table_of views name ≡ Some t
 found_table names tables views name at t e paired place p read =
     ap (λ vs. table_of vs name) (sym e) ∙ table_of-place (named names tables) name at (place_in_views names tables name at paired place)
     ∙ ap Some (get_or-named names tables at t paired p ∙ sym read)
 
-pub absent_table : (names : List (List ℕ)) (tables : List Placed) (views : List NamedTable) (name : List ℕ) → named names tables ≡ views → length names ≡ length tables → IsAbsent names name → table_of views name ≡ None
+pub absent_table : (names : List (List ℕ)) (tables : List StoredTable) (views : List NamedTable) (name : List ℕ) → named names tables ≡ views → length names ≡ length tables → IsAbsent names name → table_of views name ≡ None
 absent_table names tables views name e paired absent =
     ap (λ vs. table_of vs name) (sym e) ∙ table_of-absent (named names tables) name (absent_in_views names tables name paired absent)
 
 -- an edit answers what its table is due
-pub due-found : (views : List NamedTable) (route : Route) (edit : Edit) (t : Placed) → table_of views route.name ≡ Some t → due views route edit ≡ due_in t route.steps edit
+pub due-found : (views : List NamedTable) (route : Route) (edit : Edit) (t : StoredTable) → table_of views route.name ≡ Some t → due views route edit ≡ due_in t route.steps edit
 due-found views route edit t e = ap (λ o. at_view o (λ t. due_in t route.steps edit)) e
 
-pub look_due-found : (views : List NamedTable) (route : Route) (t : Placed) → table_of views route.name ≡ Some t → look_due views route ≡ look_due_in t route.steps
+pub look_due-found : (views : List NamedTable) (route : Route) (t : StoredTable) → table_of views route.name ≡ Some t → look_due views route ≡ look_due_in t route.steps
 look_due-found views route t e = ap (λ o. at_view o (λ t. look_due_in t route.steps)) e
 
 pub due-absent : {T : Type 0} (views : List NamedTable) (route : Route) (edit : Edit) (r : Result T EditError) → table_of views route.name ≡ None → r ≡ Err NoView → AnswersDue (due views route edit) r
@@ -137,7 +137,7 @@ pub look_due-absent : {T : Type 0} (views : List NamedTable) (route : Route) (r 
 look_due-absent views route r e f = subst (λ o. AnswersDue o r) (sym (ap (λ o. at_view o (λ t. look_due_in t route.steps)) e)) f
 
 -- the views after the table at a place was edited
-pub edited-root : (names : List (List ℕ)) (tables : List Placed) (views : List NamedTable) (route : Route) (edit : Edit) (at : ℕ) (t new : Placed) → named names tables ≡ views → length names ≡ length tables
+pub edited-root : (names : List (List ℕ)) (tables : List StoredTable) (views : List NamedTable) (route : Route) (edit : Edit) (at : ℕ) (t new : StoredTable) → named names tables ≡ views → length names ≡ length tables
     → IsPlace names route.name at → at < length tables → t ≡ get_or tables at t → new ≡ edited route.steps edit t → named names (set tables at new) ≡ edited_views views route edit
 edited-root names tables views route edit at t new e paired place p read done =
     let vs = named names tables in
@@ -148,21 +148,21 @@ edited-root names tables views route edit at t new e paired place p read done =
     ∙ ap (λ ws. edited_views ws route edit) e
 
 -- the views after the table at a place was given another
-pub replaced-root : (names : List (List ℕ)) (tables : List Placed) (views : List NamedTable) (name : List ℕ) (at : ℕ) (t : Placed) → named names tables ≡ views → length names ≡ length tables
+pub replaced-root : (names : List (List ℕ)) (tables : List StoredTable) (views : List NamedTable) (name : List ℕ) (at : ℕ) (t : StoredTable) → named names tables ≡ views → length names ≡ length tables
     → IsPlace names name at → at < length tables → named names (set tables at t) ≡ with_view views name t
 replaced-root names tables views name at t e paired place p =
     named-set names tables at t paired p
     ∙ sym (with_view-place (named names tables) name at t (place_in_views names tables name at paired place))
     ∙ ap (λ vs. with_view vs name t) e
 
-pub added-root : (names : List (List ℕ)) (tables : List Placed) (views : List NamedTable) (name : List ℕ) (t : Placed) → named names tables ≡ views → length names ≡ length tables
+pub added-root : (names : List (List ℕ)) (tables : List StoredTable) (views : List NamedTable) (name : List ℕ) (t : StoredTable) → named names tables ≡ views → length names ≡ length tables
     → IsAbsent names name → named (names ++ name ∷ []) (tables ++ t ∷ []) ≡ with_view views name t
 added-root names tables views name t e paired absent =
     named-push names tables name t paired
     ∙ sym (with_view-absent (named names tables) name t (absent_in_views names tables name paired absent))
     ∙ ap (λ vs. with_view vs name t) e
 
-pub dropped-root : (names : List (List ℕ)) (tables : List Placed) (views : List NamedTable) (name : List ℕ) (at : ℕ) → named names tables ≡ views → length names ≡ length tables
+pub dropped-root : (names : List (List ℕ)) (tables : List StoredTable) (views : List NamedTable) (name : List ℕ) (at : ℕ) → named names tables ≡ views → length names ≡ length tables
     → IsPlace names name at → named (remove names at) (remove tables at) ≡ without_view views name
 dropped-root names tables views name at e paired place =
     named-remove names tables at paired
@@ -170,16 +170,16 @@ dropped-root names tables views name at e paired place =
     ∙ ap (λ vs. without_view vs name) e
 
 -- the structure text stays short where the schema stays
-pub short_at : (names : List (List ℕ)) (tables : List Placed) (at : ℕ) (t : Placed) → IsPlainRoot names tables → at < length tables → t ≡ get_or tables at t
+pub short_at : (names : List (List ℕ)) (tables : List StoredTable) (at : ℕ) (t : StoredTable) → IsPlainRoot names tables → at < length tables → t ≡ get_or tables at t
     → structure_length (get_or (named names tables) at no_view).name t.schema ≤ max_structure
 short_at names tables at t root p read =
     let long = length-named names tables root.paired in
     let paired = root.paired in
     let old : IsView (get_or (named names tables) at no_view) = root.views.whole at no_view (omega arith) in
-    subst (λ (u : Placed). structure_length (get_or (named names tables) at no_view).name u.schema ≤ max_structure) (get_or-named names tables at t paired p ∙ sym read) old.short
+    subst (λ (u : StoredTable). structure_length (get_or (named names tables) at no_view).name u.schema ≤ max_structure) (get_or-named names tables at t paired p ∙ sym read) old.short
 
 -- the name at a place of a name
-pub name_at : (names : List (List ℕ)) (tables : List Placed) (name : List ℕ) (at : ℕ) → length names ≡ length tables → IsPlace names name at → (get_or (named names tables) at no_view).name ≡ name
+pub name_at : (names : List (List ℕ)) (tables : List StoredTable) (name : List ℕ) (at : ℕ) → length names ≡ length tables → IsPlace names name at → (get_or (named names tables) at no_view).name ≡ name
 name_at names tables name at paired place =
     let long = length-named names tables paired in
     let within = place.within in
@@ -187,13 +187,13 @@ name_at names tables name at paired place =
     ∙ ap (λ ns. get_or ns at []) (view_names-named names tables paired) ∙ same_name (get_or names at []) name place.here
 
 -- a root after a view was added last, or memory was wanting
-pub root-pushed : {T E : Type 0} (r : Result T E) (names new_names : List (List ℕ)) (tables new_tables : List Placed) (name : List ℕ) (t : Placed)
+pub root-pushed : {T E : Type 0} (r : Result T E) (names new_names : List (List ℕ)) (tables new_tables : List StoredTable) (name : List ℕ) (t : StoredTable)
     → OnOk r (new_names ≡ names ++ name ∷ []) → OnOk r (new_tables ≡ tables ++ t ∷ []) → OnErr r (new_names ≡ names) → OnErr r (new_tables ≡ tables)
     → IsPlainRoot (names ++ name ∷ []) (tables ++ t ∷ []) → IsPlainRoot names tables → IsPlainRoot new_names new_tables
 root-pushed (Ok x) names new_names tables new_tables name t e f g h more root = subst (λ ns. IsPlainRoot ns new_tables) (sym e) (subst (λ ts. IsPlainRoot (names ++ name ∷ []) ts) (sym f) more)
 root-pushed (Err x) names new_names tables new_tables name t e f g h more root = subst (λ ns. IsPlainRoot ns new_tables) (sym g) (subst (λ ts. IsPlainRoot names ts) (sym h) root)
 
-pub views-pushed : {T E : Type 0} (r : Result T E) (names new_names : List (List ℕ)) (tables new_tables : List Placed) (name : List ℕ) (t : Placed) (views : List NamedTable)
+pub views-pushed : {T E : Type 0} (r : Result T E) (names new_names : List (List ℕ)) (tables new_tables : List StoredTable) (name : List ℕ) (t : StoredTable) (views : List NamedTable)
     → OnOk r (new_names ≡ names ++ name ∷ []) → OnOk r (new_tables ≡ tables ++ t ∷ []) → named (names ++ name ∷ []) (tables ++ t ∷ []) ≡ views → OnOk r (named new_names new_tables ≡ views)
 views-pushed (Ok x) names new_names tables new_tables name t views e f g = ap (λ ns. named ns new_tables) e ∙ ap (λ ts. named (names ++ name ∷ []) ts) f ∙ g
 views-pushed (Err x) names new_names tables new_tables name t views e f g = tt
@@ -203,9 +203,9 @@ pub room_for : (views : List NamedTable) (name : List ℕ) → table_of views na
 room_for views name e h = ⊎_elim (λ (some : IsSome (table_of views name)). absurd (let f : false ≡ true = subst IsSome e some in cc)) (λ p. p) h
 
 -- a table of plain rows is whole, and no column of it has a home
-pub plain_whole : (schema : List Attribute) (rows : List (List Datum)) (t : Placed) → unplaced_table schema rows ≡ t → IsHeading schema → AreRowsOf rows schema → IsTable t × IsUnplaced t
-plain_whole schema rows t e heading whole = (subst IsTable e (record { schema = heading; rows = whole }), subst IsUnplaced e refl)
+pub plain_whole : (schema : List Attribute) (rows : List (List Datum)) (t : StoredTable) → table_without_homes schema rows ≡ t → IsHeading schema → AreRowsOf rows schema → IsTable t × HasNoHomes t
+plain_whole schema rows t e heading whole = (subst IsTable e (record { schema = heading; rows = whole }), subst HasNoHomes e refl)
 
 -- the table to which a route leads, from the table of its name
-pub view_at-found : (views : List NamedTable) (route : Route) (t : Placed) → table_of views route.name ≡ Some t → view_at views route ≡ Some (table_at route.steps t)
+pub view_at-found : (views : List NamedTable) (route : Route) (t : StoredTable) → table_of views route.name ≡ Some t → view_at views route ≡ Some (table_at route.steps t)
 view_at-found views route t e = ap (λ o. option_map (λ t. table_at route.steps t) o) e

@@ -19,10 +19,10 @@ use Rattle.mk_value.specs.Tables.{domain_at}
 use Rattle.mk_value.proofs.Headings.{attributes_of-heading_of, heading_of-attributes_of}
 use Rattle.view_store.specs.declared.error.EditError.{EditError}
 use Rattle.view_store.specs.declared.error.EditError.TheVariants.{OutOfRange}
-use Rattle.view_store.specs.Homes.{rows_in}
-use Rattle.view_store.specs.Tables.{place_of, inner_schema, inner_table, unplaced_table}
+use Rattle.tables.specs.Homes.{rows_in}
+use Rattle.tables.specs.Tables.{place_of_property, inner_schema, inner_table, table_without_homes}
 use Rattle.view_store.specs.Edits.{table_at}
-use Rattle.view_store.proofs.Unplaced.{inner_table-unplaced}
+use Rattle.view_store.proofs.Homeless.{inner_table-empty}
 use Rattle.view_store.specs.Refusals.{in_view, in_property, schema_at, rows_at}
 
 -- one step further in the schema: the property is there and is a view of the inner schema
@@ -31,16 +31,16 @@ pub schema_at-step : (s : Step) (steps : List Step) (schema inner : List Attribu
 schema_at-step s steps schema inner k e f =
     ap (λ o. in_property schema o (λ i. schema_at steps i)) e ∙ ap (λ d. in_view d (λ i. schema_at steps i)) f ∙ ap (λ i. schema_at steps i) (attributes_of-heading_of inner)
 
-pub place_of-found : (schema : List Attribute) (name : List ℕ) (k : ℕ) → find schema name ≡ Some k → place_of schema name ≡ k
-place_of-found schema name k e = ap (λ o. unwrap_or o 0) e
+pub place_of_property-found : (schema : List Attribute) (name : List ℕ) (k : ℕ) → find schema name ≡ Some k → place_of_property schema name ≡ k
+place_of_property-found schema name k e = ap (λ o. unwrap_or o 0) e
 
 -- one step further in the rows: the row is there
 pub rows_at-step : (s : Step) (steps : List Step) (schema inner : List Attribute) (rows : List (List Datum)) (k : ℕ) → find schema s.prop ≡ Some k → domain_at schema k ≡ Domain.relation (heading_of inner) → s.row < length rows
     → rows_at (s ∷ steps) schema rows ≡ rows_at steps inner (rows_in (cell rows s.row k))
 rows_at-step s steps schema inner rows k e f p =
-    let at = place_of-found schema s.prop k e in
+    let at = place_of_property-found schema s.prop k e in
     let attributes : inner_schema (domain_at schema k) ≡ inner = ap inner_schema f ∙ attributes_of-heading_of inner in
-    ap (λ b. cond b (rows_at steps (inner_schema (domain_at schema (place_of schema s.prop))) (rows_in (cell rows s.row (place_of schema s.prop)))) (Err (OutOfRange (length rows)))) ((Decides-ltb s.row (length rows)).1 p)
+    ap (λ b. cond b (rows_at steps (inner_schema (domain_at schema (place_of_property schema s.prop))) (rows_in (cell rows s.row (place_of_property schema s.prop)))) (Err (OutOfRange (length rows)))) ((Decides-ltb s.row (length rows)).1 p)
     ∙ ap (λ j. rows_at steps (inner_schema (domain_at schema j)) (rows_in (cell rows s.row j))) at
     ∙ ap (λ i. rows_at steps i (rows_in (cell rows s.row k))) attributes
 
@@ -50,7 +50,7 @@ not_below i n p = grind (arith, nat_tests)
 -- the row is not there
 pub rows_at-past : (s : Step) (steps : List Step) (schema : List Attribute) (rows : List (List Datum)) → length rows ≤ s.row → rows_at (s ∷ steps) schema rows ≡ Err (OutOfRange (length rows))
 rows_at-past s steps schema rows p =
-    ap (λ b. cond b (rows_at steps (inner_schema (domain_at schema (place_of schema s.prop))) (rows_in (cell rows s.row (place_of schema s.prop)))) (Err (OutOfRange (length rows)))) (not_below s.row (length rows) p)
+    ap (λ b. cond b (rows_at steps (inner_schema (domain_at schema (place_of_property schema s.prop))) (rows_in (cell rows s.row (place_of_property schema s.prop)))) (Err (OutOfRange (length rows)))) (not_below s.row (length rows) p)
 
 -- a property that was read is the schema's at its place, and one that is a view has the schema of its rows as its domain
 pub domain_read : (schema : List Attribute) (k : ℕ) (a : Attribute) (d : Domain) → k < length schema → a ≡ get_or schema k a → d ≡ a.domain → domain_at schema k ≡ d
@@ -154,19 +154,19 @@ below_from true x e found h = refl
 below_from false x e found h = absurd (let f : ◌≡◌ {A = Result (List (List Datum)) EditError} (Err e) (Ok found) = h in cc)
 
 -- the table to which steps lead, where no column has a home
-pub table_at-unplaced : (steps : List Step) (schema target : List Attribute) (rows found : List (List Datum)) → schema_at steps schema ≡ Ok target → rows_at steps schema rows ≡ Ok found
-    → table_at steps (unplaced_table schema rows) ≡ unplaced_table target found
-table_at-unplaced [] schema target rows found e f =
+pub table_at-empty : (steps : List Step) (schema target : List Attribute) (rows found : List (List Datum)) → schema_at steps schema ≡ Ok target → rows_at steps schema rows ≡ Ok found
+    → table_at steps (table_without_homes schema rows) ≡ table_without_homes target found
+table_at-empty [] schema target rows found e f =
     let s : schema ≡ target = let g : ◌≡◌ {A = Result (List Attribute) EditError} (Ok schema) (Ok target) = e in cc in
     let r : rows ≡ found = let g : ◌≡◌ {A = Result (List (List Datum)) EditError} (Ok rows) (Ok found) = f in cc in
-    ap (λ x. unplaced_table x rows) s ∙ ap (λ x. unplaced_table target x) r
-table_at-unplaced (s ∷ steps) schema target rows found e f =
+    ap (λ x. table_without_homes x rows) s ∙ ap (λ x. table_without_homes target x) r
+table_at-empty (s ∷ steps) schema target rows found e f =
     let step = goes_through schema s steps (subst IsOk (sym e) refl) in
     let k = step.place in
     let inner = attributes_of step.inner in
     let view : domain_at schema k ≡ Domain.relation (heading_of inner) = step.view ∙ ap Domain.relation (sym (heading_of-attributes_of step.inner)) in
     let p : s.row < length rows = (Decides-ltb s.row (length rows)).0 (below_from (ltb s.row (length rows)) _ _ found f) in
-    ap (λ j. table_at steps (inner_table (unplaced_table schema rows) s.row j)) (place_of-found schema s.prop k step.found)
-    ∙ ap (λ t. table_at steps t) (inner_table-unplaced schema inner rows s.row k p step.within view)
-    ∙ table_at-unplaced steps inner target (rows_in (cell rows s.row k)) found (sym (schema_at-step s steps schema inner k step.found view) ∙ e)
+    ap (λ j. table_at steps (inner_table (table_without_homes schema rows) s.row j)) (place_of_property-found schema s.prop k step.found)
+    ∙ ap (λ t. table_at steps t) (inner_table-empty schema inner rows s.row k p step.within view)
+    ∙ table_at-empty steps inner target (rows_in (cell rows s.row k)) found (sym (schema_at-step s steps schema inner k step.found view) ∙ e)
     (sym (rows_at-step s steps schema inner rows k step.found view p) ∙ f)

@@ -10,8 +10,8 @@ use Rattle.mk_value.specs.Paths.{Route}
 use Rattle.mk_value.specs.Tables.{domain_at}
 use Rattle.view_store.specs.declared.error.EditError.{EditError}
 use Rattle.view_store.specs.declared.error.EditError.TheVariants.{NoView, NoProp, WrongKind, OutOfRange, TooMany, Memory}
-use Rattle.view_store.specs.Homes.{rows_in}
-use Rattle.view_store.specs.Tables.{Placed, place_of, inner_schema}
+use Rattle.tables.specs.Homes.{rows_in}
+use Rattle.tables.specs.Tables.{StoredTable, place_of_property, inner_schema}
 use Rattle.view_store.specs.Fitting.{is_of, are_of}
 use Rattle.view_store.specs.Edits.{Edit, insert, set, remove}
 use Rattle.view_store.specs.Views.{NamedTable, table_of}
@@ -31,7 +31,7 @@ schema_at [] schema = Ok schema
 schema_at (s ∷ steps) schema = in_property schema (find schema s.prop) (λ inner. schema_at steps inner)
 
 -- the schema of the view that a route names, or the first refusal of its name and properties; no row is looked at
-abbrev pub schema_in : Option Placed → List Step → Result (List Attribute) EditError
+abbrev pub schema_in : Option StoredTable → List Step → Result (List Attribute) EditError
 schema_in None steps = Err NoView
 schema_in (Some t) steps = schema_at steps t.schema
 
@@ -42,7 +42,7 @@ schema_of views route = schema_in (table_of views route.name) route.steps
 abbrev pub rows_at : List Step → List Attribute → List (List Datum) → Result (List (List Datum)) EditError
 rows_at [] schema rows = Ok rows
 rows_at (s ∷ steps) schema rows =
-    let k = place_of schema s.prop in
+    let k = place_of_property schema s.prop in
     if nat_lt s.row (length rows) then rows_at steps (inner_schema (domain_at schema k)) (rows_in (cell rows s.row k))
     else Err (OutOfRange (length rows))
 
@@ -72,17 +72,17 @@ or_at_end (Err e) end = Some e
 or_at_end (Ok x) end = end x
 
 -- the first refusal that an edit in a table is due, if there is one
-abbrev pub due_in : Placed → List Step → Edit → Option EditError
+abbrev pub due_in : StoredTable → List Step → Edit → Option EditError
 due_in t steps edit =
     option_or (or_at_end (schema_at steps t.schema) (λ schema. kind_refusal schema edit))
     (or_at_end (rows_at steps t.schema t.rows) (λ rows. range_refusal (length rows) edit))
 
 -- the first refusal that a look at a table inside another is due
-abbrev pub look_due_in : Placed → List Step → Option EditError
+abbrev pub look_due_in : StoredTable → List Step → Option EditError
 look_due_in t steps =
     option_or (or_at_end (schema_at steps t.schema) (λ _. None)) (or_at_end (rows_at steps t.schema t.rows) (λ _. None))
 
-abbrev pub at_view : Option Placed → (Placed → Option EditError) → Option EditError
+abbrev pub at_view : Option StoredTable → (StoredTable → Option EditError) → Option EditError
 at_view None inside = Some NoView
 at_view (Some t) inside = inside t
 

@@ -6,17 +6,17 @@ use Rattle.mk_value.specs.Limits.{max_structure, max_views}
 use Rattle.mk_value.specs.Names.{IsName, same_bytes}
 use Rattle.mk_value.specs.Heading.{Domain, Heading, no_attributes, attribute, Attribute, heading_of}
 use Rattle.mk_value.specs.Paths.{Route}
-use Rattle.view_store.specs.Tables.{Placed, IsTable, IsUnplaced, placed_code}
+use Rattle.tables.specs.Tables.{StoredTable, IsTable, HasNoHomes, stored_code}
 use Rattle.view_store.specs.Edits.{Edit, edited, table_at}
 
 -- a view: its name and its table
 pub record NamedTable : Type 0 where
   pub name : List ℕ
-  pub table : Placed
+  pub table : StoredTable
 
 abbrev pub views_code : Coded (List NamedTable)
 views_code =
-    coded_list (code_by (List ℕ × Placed) (coded× (coded_list coded_ℕ) placed_code) (λ v. (v.name, v.table)) (λ p. record { name = p.0; table = p.1 }) (λ _. refl))
+    coded_list (code_by (List ℕ × StoredTable) (coded× (coded_list coded_ℕ) stored_code) (λ v. (v.name, v.table)) (λ p. record { name = p.0; table = p.1 }) (λ _. refl))
 
 -- the number of bytes of a structure text: a name, and in brackets the properties, with commas between them.
 -- A plain property is a name, a colon and a letter; a view property is a name and its own properties in brackets.
@@ -49,15 +49,15 @@ pub record AreViews (views : List NamedTable) : Type 0 where
   pub whole : All IsView views
 
 -- the table of a name
-abbrev pub table_of : List NamedTable → List ℕ → Option Placed
+abbrev pub table_of : List NamedTable → List ℕ → Option StoredTable
 table_of views name = option_map (λ v. v.table) (find (λ v. same_bytes v.name name) views)
 
 -- the table to which a route leads
-abbrev pub view_at : List NamedTable → Route → Option Placed
+abbrev pub view_at : List NamedTable → Route → Option StoredTable
 view_at views route = option_map (λ t. table_at route.steps t) (table_of views route.name)
 
 -- the views after the one of a name was given another table, or was added last where there is none
-abbrev pub with_view : List NamedTable → List ℕ → Placed → List NamedTable
+abbrev pub with_view : List NamedTable → List ℕ → StoredTable → List NamedTable
 with_view [] name t = record { name = name; table = t } ∷ []
 with_view (v ∷ rest) name t =
     if same_bytes v.name name then record { name = v.name; table = t } ∷ rest else v ∷ with_view rest name t
@@ -75,12 +75,12 @@ edited_views (v ∷ rest) route edit =
     else v ∷ edited_views rest route edit
 
 -- names beside their tables
-abbrev pub named : List (List ℕ) → List Placed → List NamedTable
+abbrev pub named : List (List ℕ) → List StoredTable → List NamedTable
 named (name ∷ names) (t ∷ rest) = record { name = name; table = t } ∷ named names rest
 named _ _ = []
 
 -- what a root of plain rows keeps: a table for each name, a whole root, and no homes
-pub record IsPlainRoot (names : List (List ℕ)) (tables : List Placed) : Type 0 where
+pub record IsPlainRoot (names : List (List ℕ)) (tables : List StoredTable) : Type 0 where
   pub paired : length names ≡ length tables
   pub views : AreViews (named names tables)
-  pub plain : All IsUnplaced tables
+  pub plain : All HasNoHomes tables

@@ -7,7 +7,7 @@ ghost use Rattle.mk_value.specs.Heading.{find};
 ghost use Rattle.mk_value.specs.Values.{datum_of};
 ghost use Rattle.view_store.specs.Changes.{FitsSizes, edit_of};
 ghost use Rattle.view_store.specs.Fitting.{are_of};
-ghost use Rattle.view_store.specs.Tables.{unplaced_table};
+ghost use Rattle.tables.specs.Tables.{table_without_homes};
 ghost use Rattle.view_store.specs.Refusals.{due_in, kind_refusal, range_refusal, value_refusal};
 
 use crate::EditError;
@@ -24,7 +24,7 @@ pub(crate) fn check(
 ) -> Result<(), EditError>
     requires whole { AreRowsOf rows.now schema.now }
     requires sizes { FitsSizes change }
-    ensures { result_err result ≡ due_in (unplaced_table schema.now rows.now) steps.now (edit_of change.entry) }
+    ensures { result_err result ≡ due_in (table_without_homes schema.now rows.now) steps.now (edit_of change.entry) }
 {
     let target = find_schema(schema, steps)?;
     check_kinds(target, change)?;

@@ -2,8 +2,9 @@
 ghost use Rattle.std.specs.Prelude.{◌≡◌, [], None, IfOk, OnOk, OnErr};
 ghost use Rattle.mk_value.specs.Data.{AreRowsOf};
 ghost use Rattle.view_store.specs.Changes.{edit_of};
-ghost use Rattle.view_store.specs.Tables.{unplaced_table};
-ghost use Rattle.view_store.specs.Edits.{completed, edited, edited_here};
+ghost use Rattle.tables.specs.Tables.{table_without_homes};
+ghost use Rattle.tables.specs.Rows.{completed};
+ghost use Rattle.view_store.specs.Edits.{edited, edited_here};
 ghost use Rattle.view_store.specs.Refusals.{due_in};
 
 use crate::change::Change;
@@ -19,9 +20,9 @@ pub(crate) fn edit(
     change: Change<'_>,
 ) -> Result<(), Memory>
     requires whole { AreRowsOf rows.old schema.now }
-    requires free { due_in (unplaced_table schema.now rows.old) steps.now (edit_of change) ≡ None }
+    requires free { due_in (table_without_homes schema.now rows.old) steps.now (edit_of change) ≡ None }
     ensures whole { AreRowsOf rows.new schema.now }
-    ensures ok { OnOk result (unplaced_table schema.now rows.new ≡ edited steps.now (edit_of change.entry) (unplaced_table schema.now rows.old)) }
+    ensures ok { OnOk result (table_without_homes schema.now rows.new ≡ edited steps.now (edit_of change.entry) (table_without_homes schema.now rows.old)) }
     ensures err { OnErr result (rows.new ≡ rows.old) }
 {
     let Some((step, rest)) = steps.split_first() else {
@@ -49,9 +50,9 @@ fn edit_here(
     change: Change<'_>,
 ) -> Result<(), Memory>
     requires whole { AreRowsOf rows.old schema.now }
-    requires free { due_in (unplaced_table schema.now rows.old) [] (edit_of change) ≡ None }
+    requires free { due_in (table_without_homes schema.now rows.old) [] (edit_of change) ≡ None }
     ensures whole { AreRowsOf rows.new schema.now }
-    ensures ok { OnOk result (unplaced_table schema.now rows.new ≡ edited_here (edit_of change.entry) (unplaced_table schema.now rows.old)) }
+    ensures ok { OnOk result (table_without_homes schema.now rows.new ≡ edited_here (edit_of change.entry) (table_without_homes schema.now rows.old)) }
     ensures err { OnErr result (rows.new ≡ rows.old) }
 {
     match change {

@@ -15,11 +15,11 @@ pub struct Shared {
 }
 
 impl Model for Shared {
-    ghost use Rattle.view_store.specs.Tables.{Placed, placed_code};
+    ghost use Rattle.tables.specs.Tables.{StoredTable, stored_code};
 
-    ghost Value = { Placed };
+    ghost Value = { StoredTable };
 
-    ghost coded = { placed_code };
+    ghost coded = { stored_code };
 
     ghost view = { λ s. s.table.value };
 }

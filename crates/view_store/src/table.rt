@@ -5,7 +5,7 @@ ghost use Rattle.mk_value.specs.Data.{AreRowsOf};
 ghost use Rattle.view_store.specs.Changes.{FitsSizes, edit_of};
 ghost use Rattle.view_store.specs.Edits.{edited, table_at};
 ghost use Rattle.view_store.specs.Refusals.{AnswersDue, due_in, look_due_in, schema_at};
-ghost use Rattle.view_store.specs.Tables.{IsTable, IsUnplaced, unplaced_table};
+ghost use Rattle.tables.specs.Tables.{IsTable, HasNoHomes, table_without_homes};
 
 use crate::change::Change;
 use crate::check::check;
@@ -26,13 +26,13 @@ pub struct Table {
 
 impl Model for Table {
     ghost use Rattle.mk_value.specs.Data.{AreRowsOf};
-    ghost use Rattle.view_store.specs.Tables.{Placed, placed_code, unplaced_table};
+    ghost use Rattle.tables.specs.Tables.{StoredTable, stored_code, table_without_homes};
 
-    ghost Value = { Placed };
+    ghost Value = { StoredTable };
 
-    ghost coded = { placed_code };
+    ghost coded = { stored_code };
 
-    ghost view = { λ t. unplaced_table t.schema t.rows };
+    ghost view = { λ t. table_without_homes t.schema t.rows };
 
     ghost invariant = { λ t. AreRowsOf t.rows t.schema };
 }
@@ -44,7 +44,7 @@ impl Model for Table {
 /// `Memory`.
 pub fn from_rows(schema: Schema, rows: Rows) -> Result<Table, Memory>
     requires { AreRowsOf rows schema }
-    ensures { IfOk result (λ table. table ≡ unplaced_table schema rows) }
+    ensures { IfOk result (λ table. table ≡ table_without_homes schema rows) }
 {
     Ok(Table { schema, rows })
 }
@@ -55,7 +55,7 @@ pub fn from_rows(schema: Schema, rows: Rows) -> Result<Table, Memory>
 ///
 /// `Memory`.
 pub fn empty_table(alloc: Global, schema: &Schema) -> Result<Table, Memory>
-    ensures { IfOk result (λ table. table ≡ unplaced_table schema.now []) }
+    ensures { IfOk result (λ table. table ≡ table_without_homes schema.now []) }
 {
     from_rows(schema.copy()?, Rows::new(alloc))
 }
@@ -65,7 +65,7 @@ impl Table {
     pub fn rows(&self) -> &Rows
         ensures value { result.now ≡ self.now.rows }
         ensures whole { IsTable self.now }
-        ensures plain { IsUnplaced self.now }
+        ensures plain { HasNoHomes self.now }
     {
         let _properties = self.schema.len();
         &self.rows
@@ -83,7 +83,7 @@ impl Table {
         ensures ok { OnOk result (self.new ≡ edited steps.now (edit_of change.entry) self.old) }
         ensures err { OnErr result (self.new ≡ self.old) }
         ensures whole { IsTable self.new }
-        ensures plain { IsUnplaced self.new }
+        ensures plain { HasNoHomes self.new }
     {
         let _properties = self.schema.len();
         check(&self.schema, &self.rows, steps, change)?;

@@ -2,7 +2,7 @@
 ghost use Rattle.std.specs.Prelude.{◌≡◌, ◌<◌, [], length, slice_index_or, Ok, Err, IfOk, MatchResult, IsOk};
 ghost use Rattle.mk_value.specs.Data.{AreRowsOf, cell, rows_of};
 ghost use Rattle.mk_value.specs.Values.{datum_of};
-ghost use Rattle.view_store.specs.Homes.{rows_in};
+ghost use Rattle.tables.specs.Homes.{rows_in};
 ghost use Rattle.view_store.specs.Refusals.{rows_at, schema_at};
 
 use crate::EditError;

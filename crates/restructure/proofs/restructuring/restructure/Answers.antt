@@ -1,23 +1,23 @@
 use Rattle.std.proofs.Common.{◌≡◌, List, refl, ap, sym, subst, ◌∙◌}
 use Rattle.mk_value.specs.Heading.{Attribute}
 use Rattle.mk_value.specs.Data.{Datum}
-use Rattle.view_store.specs.Rests.{placed_columns}
-use Rattle.view_store.specs.Tables.{Placed, IsUnplaced, unplaced_table}
+use Rattle.tables.specs.Rests.{homed_columns}
+use Rattle.tables.specs.Tables.{StoredTable, HasNoHomes, table_without_homes}
 use Rattle.view_store.proofs.Editing.{IfOk-then}
-use Rattle.view_store.proofs.Resting.{placed_columns-unplaced, Rest-none}
+use Rattle.view_store.proofs.Resting.{homed_columns-empty, Rest-none}
 use Rattle.restructure.specs.Restructuring.{restructured_rows}
 use Rattle.restructure.proofs.Plain.{made_plain}
 use Rattle.restructure.proofs.Same.{table_kept}
 use Rattle.restructure.proofs.restructuring.restructure.Goals as goal
 
 -- the table that was made is that of the restructured rows
-made_of : (t made : Placed) (new copy old : List Attribute) (rows source : List (List Datum)) → made ≡ unplaced_table copy rows → copy ≡ new → rows ≡ restructured_rows old new source → source ≡ t.rows → old ≡ t.schema
-    → made ≡ unplaced_table new (restructured_rows t.schema new t.rows)
+made_of : (t made : StoredTable) (new copy old : List Attribute) (rows source : List (List Datum)) → made ≡ table_without_homes copy rows → copy ≡ new → rows ≡ restructured_rows old new source → source ≡ t.rows → old ≡ t.schema
+    → made ≡ table_without_homes new (restructured_rows t.schema new t.rows)
 made_of t made new copy old rows source e f g h i =
-    e ∙ ap (λ s. unplaced_table s rows) f ∙ ap (λ rs. unplaced_table new rs) (g ∙ ap (λ rs. restructured_rows old new rs) h ∙ ap (λ s. restructured_rows s new t.rows) i)
+    e ∙ ap (λ s. table_without_homes s rows) f ∙ ap (λ rs. table_without_homes new rs) (g ∙ ap (λ rs. restructured_rows old new rs) h ∙ ap (λ s. restructured_rows s new t.rows) i)
 
-is_unplaced : (made : Placed) (new : List Attribute) (rows : List (List Datum)) → made ≡ unplaced_table new rows → IsUnplaced made
-is_unplaced made new rows e = subst IsUnplaced (sym e) refl
+is_unplaced : (made : StoredTable) (new : List Attribute) (rows : List (List Datum)) → made ≡ table_without_homes new rows → HasNoHomes made
+is_unplaced made new rows e = subst HasNoHomes (sym e) refl
 
 pub returns-clause-ok : goal.returns-clause-ok
 returns-clause-ok c =
@@ -29,7 +29,7 @@ returns-clause-ok c =
 pub returns-clause-rests : goal.returns-clause-rests
 returns-clause-rests c =
     IfOk-then c.from_rows.result c.from_rows.ensures (λ made e.
-    Rest-none (placed_columns made) (placed_columns c.args.old.now) (placed_columns-unplaced made (is_unplaced made _ _ e)))
+    Rest-none (homed_columns made) (homed_columns c.args.old.now) (homed_columns-empty made (is_unplaced made _ _ e)))
 
 pub returns-clause-same : goal.returns-clause-same
 returns-clause-same c = λ same.

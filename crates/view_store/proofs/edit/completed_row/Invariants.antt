@@ -1,6 +1,6 @@
 use Rattle.std.proofs.Common.{◌≡◌, ◌++◌, map, drop}
 use Rattle.mk_value.specs.Data.{default_of}
-use Rattle.view_store.specs.Edits.{completed}
+use Rattle.tables.specs.Rows.{completed}
 use Rattle.view_store.proofs.edit.completed_row.Given as goal
 
 -- the values so far and the defaults still to come are the whole row

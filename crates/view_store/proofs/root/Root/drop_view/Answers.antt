@@ -1,11 +1,11 @@
 use Rattle.std.proofs.Common.{◌≡◌, ◌<◌, length, get_or, Some, None, All, ap, sym, subst, ◌∙◌, arith, refl}
 use Rattle.std.specs.Prelude.{remove}
 use Rattle.std.proofs.lemmas.List.{get_or_default}
-use Rattle.view_store.specs.Rests.{placed_views}
-use Rattle.view_store.specs.Tables.{IsUnplaced}
+use Rattle.view_store.specs.Rests.{homed_views}
+use Rattle.tables.specs.Tables.{HasNoHomes}
 use Rattle.view_store.specs.Views.{IsPlainRoot, named}
 use Rattle.view_store.proofs.Named.{IsPlace-position, IsAbsent-position, no_view}
-use Rattle.view_store.proofs.Resting.{Rest-none, placed_views-named}
+use Rattle.view_store.proofs.Resting.{Rest-none, homed_views-named}
 use Rattle.view_store.proofs.Roots.{root-remove, All-remove, dropped-root, found_table, absent_table}
 use Rattle.view_store.proofs.root.Root.drop_view.Goals as goal
 
@@ -19,7 +19,7 @@ returns-in_default-clause-no_view c =
 
 pub returns-in_default-clause-rests : goal.returns-in_default-clause-rests
 returns-in_default-clause-rests c =
-    Rest-none _ _ (ap placed_views (sym c.self.view_is) ∙ placed_views-named c.self.inside.names c.self.inside.tables.items c.self.invariant.plain)
+    Rest-none _ _ (ap homed_views (sym c.self.view_is) ∙ homed_views-named c.self.inside.names c.self.inside.tables.items c.self.invariant.plain)
 
 pub invariant_of-self : goal.invariant_of-self
 invariant_of-self c =
@@ -57,5 +57,5 @@ returns-clause-ok c =
 
 pub returns-clause-rests : goal.returns-clause-rests
 returns-clause-rests c =
-    Rest-none _ _ (placed_views-named c.remove-name.new.self c.remove-table.new.self.items
-    (subst (All IsUnplaced) (sym c.remove-table.ensures.items) (All-remove IsUnplaced c.self.inside.tables.items c.in-Some.at c.self.invariant.plain)))
+    Rest-none _ _ (homed_views-named c.remove-name.new.self c.remove-table.new.self.items
+    (subst (All HasNoHomes) (sym c.remove-table.ensures.items) (All-remove HasNoHomes c.self.inside.tables.items c.in-Some.at c.self.invariant.plain)))

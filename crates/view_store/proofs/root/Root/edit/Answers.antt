@@ -4,12 +4,12 @@ use Rattle.mk_value.specs.Names.{same_bytes}
 use Rattle.view_store.specs.Changes.{edit_of}
 use Rattle.view_store.specs.Edits.{edited}
 use Rattle.view_store.specs.Refusals.{AnswersDue, due_in}
-use Rattle.view_store.specs.Tables.{Placed, IsUnplaced}
+use Rattle.tables.specs.Tables.{StoredTable, HasNoHomes}
 use Rattle.mk_value.specs.Limits.{max_structure}
 use Rattle.view_store.specs.Views.{named, structure_length}
 use Rattle.view_store.proofs.Editing.{by_answer, OnOk-then}
 use Rattle.view_store.proofs.Named.{IsPlace-position, IsAbsent-position, no_view}
-use Rattle.view_store.proofs.Resting.{Rest-none, placed_views-named}
+use Rattle.view_store.proofs.Resting.{Rest-none, homed_views-named}
 use Rattle.view_store.proofs.Roots.{root-set, edited-schema, edited-root, short_at, found_table, absent_table, due-found, due-absent}
 use Rattle.view_store.proofs.root.Root.edit.Goals as goal
 
@@ -29,7 +29,7 @@ invariant_of-self c =
     let within : at < length tables = let paired = root.paired in let here = place.within in omega arith in
     let t = c.index_mut-table.result.now in
     let short = short_at names tables at t root within c.index_mut-table.ensures.value in
-    let P = λ (u : Placed). structure_length (get_or (named names tables) at no_view).name u.schema ≤ max_structure in
+    let P = λ (u : StoredTable). structure_length (get_or (named names tables) at no_view).name u.schema ≤ max_structure in
     root-set names tables at c.edit.new.self root within c.edit.ensures.whole c.edit.ensures.plain
     (by_answer P c.edit.result c.edit.new.self t (edited c.steps.result.now (edit_of c.args.change) t) c.edit.ensures.ok c.edit.ensures.err
     (subst (λ s. structure_length (get_or (named names tables) at no_view).name s ≤ max_structure) (sym (edited-schema c.steps.result.now (edit_of c.args.change) t)) short) short)
@@ -63,4 +63,4 @@ returns-clause-ok c =
 pub returns-clause-rests : goal.returns-clause-rests
 returns-clause-rests c =
     let tables = c.self.inside.tables.items in
-    Rest-none _ _ (placed_views-named c.self.inside.names _ (All-set IsUnplaced tables c.in-Some.at c.edit.new.self c.edit.ensures.plain c.self.invariant.plain))
+    Rest-none _ _ (homed_views-named c.self.inside.names _ (All-set HasNoHomes tables c.in-Some.at c.edit.new.self c.edit.ensures.plain c.self.invariant.plain))

@@ -1,10 +1,10 @@
 use Rattle.std.proofs.Common.{◌<◌, ◌≤◌, length, ap, sym, subst, ◌∙◌, arith}
 use Rattle.std.proofs.lemmas.List.Elements.{All-set}
-use Rattle.view_store.specs.Tables.{IsUnplaced}
+use Rattle.tables.specs.Tables.{HasNoHomes}
 use Rattle.mk_value.specs.Limits.{max_structure}
 use Rattle.view_store.specs.Views.{IsView, structure_length}
 use Rattle.view_store.proofs.Named.{IsPlace-position, IsAbsent-position}
-use Rattle.view_store.proofs.Resting.{Rest-none, placed_views-named}
+use Rattle.view_store.proofs.Resting.{Rest-none, homed_views-named}
 use Rattle.view_store.proofs.Roots.{root-set, root-push, root-pushed, views-pushed, replaced-root, added-root, absent_table, name_at, plain_whole, room_for}
 use Rattle.view_store.proofs.root.Root.put_view.Goals as goal
 
@@ -48,7 +48,7 @@ returns-in-Some-clause-ok c =
 pub returns-in-Some-clause-rests : goal.returns-in-Some-clause-rests
 returns-in-Some-clause-rests c =
     let given = plain_whole c.table.inside.schema c.table.inside.rows c.args.table c.table.view_is c.len-properties.ensures.whole c.table.invariant in
-    λ _. Rest-none _ _ (placed_views-named c.self.inside.names _ (All-set IsUnplaced c.self.inside.tables.items c.in-Some.at c.args.table given.1 c.self.invariant.plain))
+    λ _. Rest-none _ _ (homed_views-named c.self.inside.names _ (All-set HasNoHomes c.self.inside.tables.items c.in-Some.at c.args.table given.1 c.self.invariant.plain))
 
 pub returns-in-None-clause-ok : goal.returns-in-None-clause-ok
 returns-in-None-clause-ok c =
@@ -72,4 +72,4 @@ returns-in-None-clause-rests c =
     let view : IsView (record { name = c.args.name.now; table = c.args.table }) = record { name = c.as_bytes-name.ensures.name; table = given.0; short = c.requires.short } in
     let new = root-pushed c.push_view.result names c.push_view.new.names tables c.push_view.new.tables.items c.args.name.now c.args.table c.push_view.ensures.names c.push_view.ensures.tables c.push_view.ensures.err_names c.push_view.ensures.err_tables
     (root-push names tables c.args.name.now c.args.table root absent (omega arith) view given.1) root in
-    λ _. Rest-none _ _ (placed_views-named c.push_view.new.names c.push_view.new.tables.items new.plain)
+    λ _. Rest-none _ _ (homed_views-named c.push_view.new.names c.push_view.new.tables.items new.plain)

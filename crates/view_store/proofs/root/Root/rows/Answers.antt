@@ -3,7 +3,7 @@ use Rattle.std.specs.Option.{option_map}
 use Rattle.mk_value.specs.Names.{same_bytes}
 use Rattle.view_store.specs.Edits.{table_at}
 use Rattle.view_store.specs.Refusals.{at_view, look_due_in}
-use Rattle.view_store.specs.Tables.{Placed}
+use Rattle.tables.specs.Tables.{StoredTable}
 use Rattle.view_store.proofs.Editing.{IfOk-then}
 use Rattle.view_store.proofs.Named.{IsPlace-position, IsAbsent-position}
 use Rattle.view_store.proofs.Roots.{found_table, absent_table, look_due-found, view_at-found}
@@ -38,5 +38,5 @@ returns-clause-ok c =
     let t = c.index.result.now in
     let found = found_table names tables c.args.self.now c.args.path.now.name at t c.self.view_is root.paired place within c.index.ensures in
     IfOk-then c.find_rows.result c.find_rows.ensures.ok
-    (λ rows e. ap (λ o. option_map (λ (t : Placed). t.rows) o) (view_at-found c.args.self.now c.args.path.now t found)
+    (λ rows e. ap (λ o. option_map (λ (t : StoredTable). t.rows) o) (view_at-found c.args.self.now c.args.path.now t found)
     ∙ ap Some (ap (λ ss. (table_at ss t).rows) (sym c.steps.ensures) ∙ e))

@@ -1,7 +1,7 @@
 use Rattle.std.proofs.Common.{◌≡◌, ◌<◌, length, position, Err, ap, sym, ◌∙◌, arith}
 use Rattle.mk_value.specs.Names.{same_bytes}
 use Rattle.view_store.specs.Refusals.{schema_at, schema_in}
-use Rattle.view_store.specs.Tables.{Placed}
+use Rattle.tables.specs.Tables.{StoredTable}
 use Rattle.view_store.proofs.Named.{IsPlace-position, IsAbsent-position}
 use Rattle.view_store.proofs.Roots.{found_table, absent_table}
 use Rattle.view_store.proofs.Walking.{same_answer}

@@ -1,9 +1,9 @@
 use Rattle.std.proofs.Common.{◌≡◌, ℕ, List, [], ◌∷◌, length, map, refl, ap, sym, ◌∙◌, arith}
-use Rattle.view_store.specs.Tables.{Placed}
+use Rattle.tables.specs.Tables.{StoredTable}
 use Rattle.view_store.specs.Views.{NamedTable, named}
 use Rattle.view_store.proofs.root.Root.tables.Goals as goal
 
-tables_named : (names : List (List ℕ)) (tables : List Placed) → length names ≡ length tables → map (λ (v : NamedTable). v.table) (named names tables) ≡ tables
+tables_named : (names : List (List ℕ)) (tables : List StoredTable) → length names ≡ length tables → map (λ (v : NamedTable). v.table) (named names tables) ≡ tables
 tables_named [] [] e = refl
 tables_named [] (t ∷ tables) e = absurd (omega (arith, e))
 tables_named (name ∷ names) [] e = absurd (omega (arith, e))

@@ -4,7 +4,7 @@ use Rattle.std.specs.Coded.{Coded, code_by, coded_list}
 use Rattle.std.proofs.Common.{ap, ◌∙◌}
 use Rattle.mk_value.specs.declared.span.Span.{Span}
 use Rattle.mk_value.specs.Tree.{Tree, leaf, node, tree_code}
-use Rattle.view_store.specs.Homes.{Home, nowhere, numbers, strings, tables, ColumnHomes, no_columns, column, RowHomes, no_rows, row}
+use Rattle.tables.specs.Homes.{Home, no_home, numbers, strings, tables, ColumnHomes, no_columns, column, RowHomes, no_rows, row}
 
 abbrev span_numbers : List Span → List ℕ
 span_numbers [] = []
@@ -21,7 +21,7 @@ number_spans-span_numbers (s ∷ rest) = ap (λ ss. s ∷ ss) (number_spans-span
 
 abbrev mutual
   pub home_tree : Home → Tree
-  home_tree nowhere = leaf []
+  home_tree no_home = leaf []
   home_tree (numbers s) = leaf (0 ∷ s.place ∷ s.len ∷ [])
   home_tree (strings sizes short memos) = leaf (1 ∷ sizes.place ∷ sizes.len ∷ short.place ∷ short.len ∷ span_numbers memos)
   home_tree (tables rows) = node (leaf []) (rows_tree rows)
@@ -37,7 +37,7 @@ abbrev mutual
 abbrev leaf_home : List ℕ → Home
 leaf_home (zero ∷ place ∷ len ∷ _) = numbers (record { place = place; len = len })
 leaf_home (suc _ ∷ a ∷ b ∷ c ∷ d ∷ memos) = strings (record { place = a; len = b }) (record { place = c; len = d }) (number_spans memos)
-leaf_home _ = nowhere
+leaf_home _ = no_home
 
 abbrev mutual
   pub tree_home : Tree → Home
@@ -54,7 +54,7 @@ abbrev mutual
 
 mutual
   pub tree_home-tree : (h : Home) → tree_home (home_tree h) ≡ h
-  tree_home-tree nowhere = refl
+  tree_home-tree no_home = refl
   tree_home-tree (numbers s) = refl
   tree_home-tree (strings sizes short memos) = ap (λ ms. strings sizes short ms) (number_spans-span_numbers memos)
   tree_home-tree (tables rows) = ap tables (tree_rows-tree rows)

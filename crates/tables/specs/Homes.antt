@@ -9,7 +9,7 @@ use Rattle.mk_value.specs.Data.{Datum, integer, relation, rows_of}
 -- the columns of each row's table. Columns and rows are spelled out one by one: the first, and the rest.
 mutual
   pub data Home : Type 0 where
-    nowhere : Home
+    no_home : Home
     numbers : Span → Home
     strings : Span → Span → List Span → Home
     tables : RowHomes → Home
@@ -50,19 +50,19 @@ rows_in _ = []
 
 -- The homes where no column has one: of a column of a domain with these values, and of the columns from the place k on.
 abbrev mutual
-  pub unplaced : Domain → List Datum → Home
-  unplaced (Domain.relation h) values = tables (row_homes (map (λ d. unplaced_from h 0 (rows_in d)) values))
-  unplaced _ values = nowhere
+  pub empty_home : Domain → List Datum → Home
+  empty_home (Domain.relation h) values = tables (row_homes (map (λ d. empty_homes_from h 0 (rows_in d)) values))
+  empty_home _ values = no_home
 
-  pub unplaced_from : Heading → ℕ → List (List Datum) → List Home
-  unplaced_from no_attributes k rows = []
-  unplaced_from (attribute n e rest) k rows = unplaced e (column_of rows k) ∷ unplaced_from rest (k + 1) rows
+  pub empty_homes_from : Heading → ℕ → List (List Datum) → List Home
+  empty_homes_from no_attributes k rows = []
+  empty_homes_from (attribute n e rest) k rows = empty_home e (column_of rows k) ∷ empty_homes_from rest (k + 1) rows
 
 -- the homes of a table where no column has one
-abbrev pub unplaced_homes : List Attribute → List (List Datum) → List Home
-unplaced_homes schema rows = unplaced_from (heading_of schema) 0 rows
+abbrev pub empty_homes : List Attribute → List (List Datum) → List Home
+empty_homes schema rows = empty_homes_from (heading_of schema) 0 rows
 
 -- the homes of the rows in a value of a domain, where no column has one
-abbrev pub unplaced_in : Domain → Datum → List Home
-unplaced_in (Domain.relation h) d = unplaced_from h 0 (rows_in d)
-unplaced_in _ d = []
+abbrev pub empty_homes_in : Domain → Datum → List Home
+empty_homes_in (Domain.relation h) d = empty_homes_from h 0 (rows_in d)
+empty_homes_in _ d = []

@@ -1,0 +1,5 @@
+//! Tables as columns: a schema, a number of rows, and one packed column for each property, each with its home in a file.
+//!
+//! A nested table stands in a row of a view column, and tables that are the same are shared. A caller sees a table as its schema, its
+//! rows and the home of each column. It stands on the two kinds of columns, and knows nothing of names, paths or files.
+#![tactic(auto)]
