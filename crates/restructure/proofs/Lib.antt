@@ -1,4 +1,3 @@
-pub mod Apart
 pub mod Back
 pub mod Placing
 pub mod Plain

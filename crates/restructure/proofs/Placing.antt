@@ -15,10 +15,10 @@ use Rattle.mk_value.proofs.Relations.{rows_of-relation_of}
 use Rattle.tables.specs.Homes.{Home, no_home, tables, ColumnHomes, column_homes, columns_of, RowHomes, no_rows, row, each_of, row_homes, column_of, rows_in, empty_home}
 use Rattle.tables.specs.Rests.{HomedColumn, homed_in, homed_rows, homed_from, homed_columns, Rest, RestsOn}
 use Rattle.tables.specs.Tables.{StoredTable, IsTable}
-use Rattle.view_store.proofs.Resting.{homed_in-empty, Rest-none}
+use Rattle.tables.proofs.Resting.{homed_in-empty, Rest-none}
 use Rattle.view_store.proofs.Walking.{place_within}
 use Rattle.restructure.specs.Restructuring.{restructured_value, row_under, value_under, restructured_rows, zip_with, restructured_home, homes_under, restructured}
-use Rattle.restructure.proofs.Apart.{flat, FromPlace, AreFromPlaces, Differ, Rest-self, Rest-append, Rest-parts}
+use Rattle.tables.proofs.Apart.{flat, FromPlace, AreFromPlaces, Differ, Rest-self, Rest-append, Rest-parts}
 use Rattle.restructure.proofs.Plain.{map-same, map_twice, behind, home_under}
 use Rattle.restructure.proofs.Same.{no_attribute, At, drop_at, value_same}
 use Rattle.restructure.proofs.Whole.{value_is_of, rows_inside}

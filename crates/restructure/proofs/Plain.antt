@@ -8,8 +8,8 @@ use Rattle.mk_value.proofs.Headings.{heading_of-attributes_of}
 use Rattle.mk_value.proofs.Relations.{rows_of-relation_of}
 use Rattle.tables.specs.Homes.{Home, no_home, tables, row_homes, column_of, rows_in, empty_home, empty_homes_from, empty_homes}
 use Rattle.tables.specs.Tables.{StoredTable, HasNoHomes, table_without_homes}
-use Rattle.view_store.proofs.Lists.{each_of-row_homes}
-use Rattle.view_store.proofs.Homeless.{get_or-empty}
+use Rattle.tables.proofs.Lists.{each_of-row_homes}
+use Rattle.tables.proofs.Homeless.{get_or-empty}
 use Rattle.view_store.proofs.Walking.{place_within}
 use Rattle.restructure.specs.Restructuring.{restructured_value, row_under, value_under, restructured_rows, zip_with, restructured_home, homes_under, restructured}
 use Rattle.std.specs.Prelude.{unwrap_or}

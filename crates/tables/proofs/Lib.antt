@@ -1,0 +1,4 @@
+pub mod Apart
+pub mod Homeless
+pub mod Lists
+pub mod Resting

@@ -19,7 +19,7 @@ use Rattle.tables.specs.Rows.{completed}
 use Rattle.view_store.specs.Edits.{Edit, edited, edited_here}
 use Rattle.view_store.specs.Refusals.{schema_at, rows_at, or_at_end, kind_refusal, value_refusal, range_refusal, due_in}
 use Rattle.view_store.proofs.Fitting.{is_of_tells, completed_fits}
-use Rattle.view_store.proofs.Homeless.{table_without_homes-inserted, table_without_homes-with_value, table_without_homes-with_inner, inner_table-empty}
+use Rattle.tables.proofs.Homeless.{table_without_homes-inserted, table_without_homes-with_value, table_without_homes-with_inner, inner_table-empty}
 use Rattle.view_store.proofs.Walking.{schema_at-step, rows_at-step, place_of_property-found, place_within, row_long}
 
 none_both : {X : Type 0} (o p : Option X) → option_or o p ≡ None → (o ≡ None) × (p ≡ None)

@@ -1,9 +1,7 @@
 pub mod Editing
 pub mod Fitting
 pub mod Lengths
-pub mod Lists
 pub mod Named
 pub mod Resting
 pub mod Roots
-pub mod Homeless
 pub mod Walking

@@ -22,7 +22,7 @@ use Rattle.view_store.specs.declared.error.EditError.TheVariants.{OutOfRange}
 use Rattle.tables.specs.Homes.{rows_in}
 use Rattle.tables.specs.Tables.{place_of_property, inner_schema, inner_table, table_without_homes}
 use Rattle.view_store.specs.Edits.{table_at}
-use Rattle.view_store.proofs.Homeless.{inner_table-empty}
+use Rattle.tables.proofs.Homeless.{inner_table-empty}
 use Rattle.view_store.specs.Refusals.{in_view, in_property, schema_at, rows_at}
 
 -- one step further in the schema: the property is there and is a view of the inner schema

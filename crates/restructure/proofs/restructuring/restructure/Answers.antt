@@ -4,7 +4,7 @@ use Rattle.mk_value.specs.Data.{Datum}
 use Rattle.tables.specs.Rests.{homed_columns}
 use Rattle.tables.specs.Tables.{StoredTable, HasNoHomes, table_without_homes}
 use Rattle.view_store.proofs.Editing.{IfOk-then}
-use Rattle.view_store.proofs.Resting.{homed_columns-empty, Rest-none}
+use Rattle.tables.proofs.Resting.{homed_columns-empty, Rest-none}
 use Rattle.restructure.specs.Restructuring.{restructured_rows}
 use Rattle.restructure.proofs.Plain.{made_plain}
 use Rattle.restructure.proofs.Same.{table_kept}

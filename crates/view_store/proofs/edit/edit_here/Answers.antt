@@ -7,7 +7,7 @@ use Rattle.view_store.specs.Edits.{edited_here}
 use Rattle.tables.specs.Tables.{table_without_homes}
 use Rattle.view_store.specs.Refusals.{due_in}
 use Rattle.view_store.proofs.Editing.{may_insert, insert_whole, insert_done, may_set, set_whole, set_done, by_answer, OnOk-then}
-use Rattle.view_store.proofs.Homeless.{table_without_homes-removed}
+use Rattle.tables.proofs.Homeless.{table_without_homes-removed}
 use Rattle.view_store.proofs.Walking.{place_within, row_long}
 use Rattle.view_store.proofs.edit.edit_here.Goals as goal
 

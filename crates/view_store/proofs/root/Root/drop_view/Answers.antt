@@ -5,7 +5,8 @@ use Rattle.view_store.specs.Rests.{homed_views}
 use Rattle.tables.specs.Tables.{HasNoHomes}
 use Rattle.view_store.specs.Views.{IsPlainRoot, named}
 use Rattle.view_store.proofs.Named.{IsPlace-position, IsAbsent-position, no_view}
-use Rattle.view_store.proofs.Resting.{Rest-none, homed_views-named}
+use Rattle.tables.proofs.Resting.{Rest-none}
+use Rattle.view_store.proofs.Resting.{homed_views-named}
 use Rattle.view_store.proofs.Roots.{root-remove, All-remove, dropped-root, found_table, absent_table}
 use Rattle.view_store.proofs.root.Root.drop_view.Goals as goal
 

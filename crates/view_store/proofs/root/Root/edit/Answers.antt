@@ -9,7 +9,8 @@ use Rattle.mk_value.specs.Limits.{max_structure}
 use Rattle.view_store.specs.Views.{named, structure_length}
 use Rattle.view_store.proofs.Editing.{by_answer, OnOk-then}
 use Rattle.view_store.proofs.Named.{IsPlace-position, IsAbsent-position, no_view}
-use Rattle.view_store.proofs.Resting.{Rest-none, homed_views-named}
+use Rattle.tables.proofs.Resting.{Rest-none}
+use Rattle.view_store.proofs.Resting.{homed_views-named}
 use Rattle.view_store.proofs.Roots.{root-set, edited-schema, edited-root, short_at, found_table, absent_table, due-found, due-absent}
 use Rattle.view_store.proofs.root.Root.edit.Goals as goal
 

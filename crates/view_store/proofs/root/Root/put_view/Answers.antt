@@ -4,7 +4,8 @@ use Rattle.tables.specs.Tables.{HasNoHomes}
 use Rattle.mk_value.specs.Limits.{max_structure}
 use Rattle.view_store.specs.Views.{IsView, structure_length}
 use Rattle.view_store.proofs.Named.{IsPlace-position, IsAbsent-position}
-use Rattle.view_store.proofs.Resting.{Rest-none, homed_views-named}
+use Rattle.tables.proofs.Resting.{Rest-none}
+use Rattle.view_store.proofs.Resting.{homed_views-named}
 use Rattle.view_store.proofs.Roots.{root-set, root-push, root-pushed, views-pushed, replaced-root, added-root, absent_table, name_at, plain_whole, room_for}
 use Rattle.view_store.proofs.root.Root.put_view.Goals as goal
 

@@ -10,7 +10,7 @@ use Rattle.mk_value.proofs.Relations.{rows_of-relation_of}
 use Rattle.tables.specs.Homes.{Home, no_home, tables, row_homes, column_of, rows_in, empty_home, empty_homes_from, empty_homes, empty_homes_in}
 use Rattle.tables.specs.Tables.{StoredTable, inner_schema, inner_table, home_with, with_value, with_inner, table_without_homes, homes_in}
 use Rattle.tables.specs.Rows.{inserted, removed, home_inserted, homes_inserted, home_removed, with_rows_inserted, with_rows_removed}
-use Rattle.view_store.proofs.Lists.{map-inserted, map-removed, each_of-row_homes}
+use Rattle.tables.proofs.Lists.{map-inserted, map-removed, each_of-row_homes}
 
 same_or_not : (m k : ℕ) → (m ≡ k) ⊎ (m ≢ k)
 same_or_not m k = ⊎_elim (λ h. inr (λ e. absurd (omega arith))) (λ h. ⊎_elim (λ g. inr (λ e. absurd (omega arith))) (λ g. inl (omega arith)) (cases_lt k m)) (cases_lt m k)

@@ -1,4 +1,4 @@
--- Lists of placed columns that are put together from parts: one rests on another where its parts rest on different parts of the other.
+-- Lists of homed columns that are put together from parts: one rests on another where its parts rest on different parts of the other.
 use Rattle.std.proofs.Common.{◌≡◌, ◌≢◌, ℕ, zero, suc, ◌<◌, ◌⊎◌, ⊎_elim, inl, inr, List, [], ◌∷◌, ◌++◌, length, get_or, All, Option, Some, None, refl, ap, sym, subst, ◌∙◌, arith}
 use Rattle.std.specs.Prelude.{Contains, AllPairs}
 use Rattle.std.proofs.lemmas.Grind.{flat_map-append}
