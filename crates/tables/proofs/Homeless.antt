@@ -12,7 +12,7 @@ use Rattle.tables.specs.Tables.{StoredTable, inner_schema, inner_table, home_wit
 use Rattle.tables.specs.Rows.{inserted, removed, home_inserted, homes_inserted, home_removed, with_rows_inserted, with_rows_removed}
 use Rattle.tables.proofs.Lists.{map-inserted, map-removed, each_of-row_homes}
 
-same_or_not : (m k : ℕ) → (m ≡ k) ⊎ (m ≢ k)
+pub same_or_not : (m k : ℕ) → (m ≡ k) ⊎ (m ≢ k)
 same_or_not m k = ⊎_elim (λ h. inr (λ e. absurd (omega arith))) (λ h. ⊎_elim (λ g. inr (λ e. absurd (omega arith))) (λ g. inl (omega arith)) (cases_lt k m)) (cases_lt m k)
 
 -- the value of a row at a place
@@ -96,7 +96,7 @@ get_or-empty_homes_from (a ∷ schema) k (suc m) rows d p =
 pub get_or-empty : (schema : List Attribute) (m : ℕ) (rows : List (List Datum)) (d : Home) → m < length schema → get_or (empty_homes schema rows) m d ≡ empty_home (domain_at schema m) (column_of rows m)
 get_or-empty schema m rows d p = get_or-empty_homes_from schema 0 m rows d p ∙ ap (λ j. empty_home (domain_at schema m) (column_of rows j)) (zero-add m)
 
-column-set : (rows : List (List Datum)) (i j m : ℕ) (d : Datum) → i < length rows → m ≢ j → column_of (set rows i (set (get_or rows i []) j d)) m ≡ column_of rows m
+pub column-set : (rows : List (List Datum)) (i j m : ℕ) (d : Datum) → i < length rows → m ≢ j → column_of (set rows i (set (get_or rows i []) j d)) m ≡ column_of rows m
 column-set rows i j m d p ne =
     let value = λ (r : List Datum). value_at r m in
     let row = get_or rows i [] in
@@ -104,7 +104,7 @@ column-set rows i j m d p ne =
     ∙ ap (λ v. set (column_of rows m) i v) (get_or-set_other row j m d (integer (pos 0)) ne ∙ sym (get_or-map value rows i [] (integer (pos 0)) p))
     ∙ set-get_or (column_of rows m) i (integer (pos 0))
 
-column-set_same : (rows : List (List Datum)) (i j : ℕ) (d : Datum) → j < length (get_or rows i []) → column_of (set rows i (set (get_or rows i []) j d)) j ≡ set (column_of rows j) i d
+pub column-set_same : (rows : List (List Datum)) (i j : ℕ) (d : Datum) → j < length (get_or rows i []) → column_of (set rows i (set (get_or rows i []) j d)) j ≡ set (column_of rows j) i d
 column-set_same rows i j d p =
     let row = get_or rows i [] in
     map-set (λ (r : List Datum). value_at r j) rows i (set row j d) ∙ ap (λ v. set (column_of rows j) i v) (get_or-set_same row j d (integer (pos 0)) p)

@@ -23,7 +23,7 @@ mutual
   homed_in-empty (Domain.relation h) values e column =
       homed_rows-none (λ d. empty_homes_from h 0 (rows_in d)) (λ d schema k rows. homed_from-empty h 0 (rows_in d) schema k rows) values e column
 
-  homed_from-empty : (h : Heading) (j : ℕ) (old : List (List Datum)) (schema : List Attribute) (k : ℕ) (rows : List (List Datum)) → homed_from (column_homes (empty_homes_from h j old)) schema k rows ≡ []
+  pub homed_from-empty : (h : Heading) (j : ℕ) (old : List (List Datum)) (schema : List Attribute) (k : ℕ) (rows : List (List Datum)) → homed_from (column_homes (empty_homes_from h j old)) schema k rows ≡ []
   homed_from-empty no_attributes j old schema k rows = refl
   homed_from-empty (attribute n d rest) j old schema k rows =
       ap (λ cs. cs ++ homed_from (column_homes (empty_homes_from rest (j + 1) old)) schema (k + 1) rows) (homed_in-empty d (column_of old j) _ _)
