@@ -12,19 +12,20 @@ use Rattle.mk_value.specs.Data.{Datum, integer, relation, relation_of, IsOf, IsR
 use Rattle.mk_value.specs.Tables.{domain_at}
 use Rattle.mk_value.proofs.Headings.{AreAttributes-heading_of, attributes_of-heading_of}
 use Rattle.mk_value.proofs.Relations.{rows_of-relation_of}
-use Rattle.tables.specs.Homes.{Home, no_home, tables, ColumnHomes, column_homes, columns_of, RowHomes, no_rows, row, each_of, row_homes, column_of, rows_in, empty_home}
-use Rattle.tables.specs.Rests.{HomedColumn, homed_in, homed_rows, homed_from, homed_columns, Rest, RestsOn}
+use Rattle.tables.specs.Homes.{PlainColumn, Home, no_home, tables, ColumnHomes, column_homes, columns_of, RowHomes, no_rows, row, each_of, row_homes, column_of, rows_in, empty_home}
+use Rattle.tables.specs.Rests.{homed_in, homed_rows, homed_from, homed_columns, Rest, RestsOn}
 use Rattle.tables.specs.Tables.{StoredTable, IsTable}
 use Rattle.tables.proofs.Resting.{homed_in-empty, Rest-none}
 use Rattle.view_store.proofs.Walking.{place_within}
 use Rattle.restructure.specs.Restructuring.{restructured_value, row_under, value_under, restructured_rows, zip_with, restructured_home, homes_under, restructured}
 use Rattle.tables.proofs.Apart.{flat, FromPlace, AreFromPlaces, Differ, Rest-self, Rest-append, Rest-parts}
 use Rattle.restructure.proofs.Plain.{map-same, map_twice, behind, home_under}
-use Rattle.restructure.proofs.Same.{no_attribute, At, drop_at, value_same}
+use Rattle.tables.proofs.Lists.{At, drop_at}
+use Rattle.restructure.proofs.Same.{no_attribute, value_same}
 use Rattle.restructure.proofs.Whole.{value_is_of, rows_inside}
 
 -- the placed columns of each column of a table, from the place k on
-abbrev parts : List Home → List Attribute → ℕ → List (List Datum) → List (List HomedColumn)
+abbrev parts : List Home → List Attribute → ℕ → List (List Datum) → List (List PlainColumn)
 parts [] schema k rows = []
 parts (h ∷ homes) schema k rows = homed_in h (domain_at schema k) (column_of rows k) ∷ parts homes schema (k + 1) rows
 
@@ -52,7 +53,7 @@ column_kept : (e : Domain) (h : Home) (values : List Datum) → IsDomain e → A
 column_kept e h values whole fits =
     subst (λ vs. Rest (homed_in h e vs) (homed_in h e values)) (sym (values_kept (restructured_value e e) e (λ d. value_same e d whole) values fits)) (Rest-self (homed_in h e values))
 
-empty_rests : (new : Domain) (values more : List Datum) (old : List HomedColumn) → Rest (homed_in (empty_home new values) new more) old
+empty_rests : (new : Domain) (values more : List Datum) (old : List PlainColumn) → Rest (homed_in (empty_home new values) new more) old
 empty_rests new values more old = Rest-none _ old (homed_in-empty new values new more)
 
 -- the rows of a view, each on its own

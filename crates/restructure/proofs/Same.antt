@@ -12,6 +12,7 @@ use Rattle.mk_value.specs.Tables.{domain_at}
 use Rattle.mk_value.proofs.Converting.{relation_of-rows_of}
 use Rattle.mk_value.proofs.Headings.{AreAttributes-heading_of, attributes_of-heading_of}
 use Rattle.mk_value.proofs.Relations.{row_fits_length}
+use Rattle.tables.proofs.Lists.{At, drop_at}
 use Rattle.tables.specs.Tables.{StoredTable, IsTable, HasNoHomes, table_without_homes}
 use Rattle.restructure.specs.Restructuring.{restructured_value, row_under, value_under, restructured_row, restructured_rows}
 use Rattle.restructure.proofs.Whole.{rows_inside, value_is_of}
@@ -50,20 +51,6 @@ drop_none [] (y ∷ ys) k e f = absurd (omega arith)
 drop_none (x ∷ xs) [] k e f = absurd (omega arith)
 drop_none (x ∷ xs) (y ∷ ys) zero e f = absurd (let g : ◌≡◌ {A = List _} (x ∷ xs) [] = f in cc)
 drop_none (x ∷ xs) (y ∷ ys) (suc k) e f = drop_none xs ys k (omega arith) f
-
--- what stands at a place, where the rest from there on is known
-pub record At {X : Type 0} (xs : List X) (k : ℕ) (x : X) (rest : List X) (d : X) : Type 0 where
-  pub within : k < length xs
-  pub here : get_or xs k d ≡ x
-  pub next : drop (k + 1) xs ≡ rest
-
-pub drop_at : {X : Type 0} (xs : List X) (k : ℕ) (x : X) (rest : List X) (d : X) → drop k xs ≡ x ∷ rest → At xs k x rest d
-drop_at [] zero x rest d e = absurd (let g : ◌≡◌ {A = List _} [] (x ∷ rest) = e in cc)
-drop_at [] (suc k) x rest d e = absurd (let g : ◌≡◌ {A = List _} [] (x ∷ rest) = e in cc)
-drop_at (y ∷ ys) zero x rest d e = let g : ◌≡◌ {A = List _} (y ∷ ys) (x ∷ rest) = e in record { within = omega arith; here = cc; next = cc }
-drop_at (y ∷ ys) (suc k) x rest d e =
-    let found = drop_at ys k x rest d e in
-    record { within = let p = found.within in omega arith; here = found.here; next = subst (λ m. drop m (y ∷ ys) ≡ rest) (let n : suc (k + 1) ≡ suc k + 1 = omega arith in n) found.next }
 
 mutual
   pub value_same : (e : Domain) (d : Datum) → IsDomain e → IsOf d e → restructured_value e e d ≡ d

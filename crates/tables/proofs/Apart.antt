@@ -6,7 +6,8 @@ use Rattle.std.proofs.lemmas.List.Elements.{All-contains, All-head, All-tail, Al
 use Rattle.std.proofs.lemmas.List.Kept.{AllPairs-cons}
 use Rattle.mk_value.specs.declared.span.Span.{Span}
 use Rattle.free_space.specs.Extents.{AreApart, Meets}
-use Rattle.tables.specs.Rests.{HomedColumn, blocks_of, blocks, Rest}
+use Rattle.tables.specs.Homes.{PlainColumn}
+use Rattle.tables.specs.Rests.{blocks_of, blocks, Rest}
 
 none_in : {X : Type 0} (x : X) → Contains [] x → ⊥
 none_in x h = let p = h.1 in absurd (omega arith)
@@ -66,14 +67,14 @@ apart_join (x ∷ xs) ys h g clear =
     (All-append (Misses x) xs ys (pairs_head Misses x xs h) (λ k d p. clear x (get_or ys k d) (first_in x xs x refl) (All-contains_itself ys k d p)))
     (apart_join xs ys (pairs_tail Misses x xs h) g (λ a b in_a in_b. clear a b (later_in x xs a in_a) in_b))
 
-abbrev its_blocks : HomedColumn → List Span
+abbrev its_blocks : PlainColumn → List Span
 its_blocks c = blocks_of c.home
 
-blocks-append : (xs ys : List HomedColumn) → blocks (xs ++ ys) ≡ blocks xs ++ blocks ys
+blocks-append : (xs ys : List PlainColumn) → blocks (xs ++ ys) ≡ blocks xs ++ blocks ys
 blocks-append xs ys = flat_map-append its_blocks xs ys
 
 -- the blocks of columns that stand in a list stand in the list's blocks
-its_blocks_in : (cs : List HomedColumn) (c : HomedColumn) (a : Span) → Contains cs c → Contains (its_blocks c) a → Contains (blocks cs) a
+its_blocks_in : (cs : List PlainColumn) (c : PlainColumn) (a : Span) → Contains cs c → Contains (its_blocks c) a → Contains (blocks cs) a
 its_blocks_in [] c a h g = absurd (none_in c h)
 its_blocks_in (x ∷ xs) c a h g =
     ⊎_elim
@@ -81,7 +82,7 @@ its_blocks_in (x ∷ xs) c a h g =
     (λ (rest : Contains xs c). Contains-append_right (its_blocks x) (blocks xs) a (its_blocks_in xs c a rest g))
     (in_cons x xs c h)
 
-pub blocks_within : (new old : List HomedColumn) (a : Span) → All (Contains old) new → Contains (blocks new) a → Contains (blocks old) a
+pub blocks_within : (new old : List PlainColumn) (a : Span) → All (Contains old) new → Contains (blocks new) a → Contains (blocks old) a
 blocks_within [] old a h g = absurd (none_in a g)
 blocks_within (c ∷ cs) old a h g =
     ⊎_elim
@@ -89,11 +90,11 @@ blocks_within (c ∷ cs) old a h g =
     (λ (rest : Contains (blocks cs) a). blocks_within cs old a (All-tail (Contains old) c cs h) rest)
     (Contains-append_cases (its_blocks c) (blocks cs) a g)
 
-pub Rest-self : (cs : List HomedColumn) → Rest cs cs
+pub Rest-self : (cs : List PlainColumn) → Rest cs cs
 Rest-self cs = record { kept = All-contains_itself cs; apart = λ h. h }
 
 -- two parts side by side, each on its own
-pub Rest-append : (new more old rest : List HomedColumn) → Rest new old → Rest more rest → Rest (new ++ more) (old ++ rest)
+pub Rest-append : (new more old rest : List PlainColumn) → Rest new old → Rest more rest → Rest (new ++ more) (old ++ rest)
 Rest-append new more old rest one two = record {
   kept = All-append (Contains (old ++ rest)) new more
       (All-weaker (Contains old) (Contains (old ++ rest)) (λ c h. Contains-append_left old rest c h) new one.kept)
@@ -105,25 +106,25 @@ Rest-append new more old rest one two = record {
       (λ a b in_a in_b. apart_clear (blocks old) (blocks rest) both a b (blocks_within new old a one.kept in_a) (blocks_within more rest b two.kept in_b)));
 }
 
-abbrev pub flat : List (List HomedColumn) → List HomedColumn
+abbrev pub flat : List (List PlainColumn) → List PlainColumn
 flat [] = []
 flat (cs ∷ rest) = cs ++ flat rest
 
-part_in : (parts : List (List HomedColumn)) (j : ℕ) (c : HomedColumn) → Contains (get_or parts j []) c → Contains (flat parts) c
+part_in : (parts : List (List PlainColumn)) (j : ℕ) (c : PlainColumn) → Contains (get_or parts j []) c → Contains (flat parts) c
 part_in [] j c h = absurd (none_in c h)
 part_in (cs ∷ rest) zero c h = Contains-append_left cs (flat rest) c h
 part_in (cs ∷ rest) (suc j) c h = Contains-append_right cs (flat rest) c (part_in rest j c h)
 
-part_blocks_in : (parts : List (List HomedColumn)) (j : ℕ) (a : Span) → Contains (blocks (get_or parts j [])) a → Contains (blocks (flat parts)) a
+part_blocks_in : (parts : List (List PlainColumn)) (j : ℕ) (a : Span) → Contains (blocks (get_or parts j [])) a → Contains (blocks (flat parts)) a
 part_blocks_in parts j a h = blocks_within (get_or parts j []) (flat parts) a (λ k d p. part_in parts j (get_or (get_or parts j []) k d) (All-contains_itself (get_or parts j []) k d p)) h
 
-part_apart : (parts : List (List HomedColumn)) (j : ℕ) → AreApart (blocks (flat parts)) → AreApart (blocks (get_or parts j []))
+part_apart : (parts : List (List PlainColumn)) (j : ℕ) → AreApart (blocks (flat parts)) → AreApart (blocks (get_or parts j []))
 part_apart [] j h = λ i k d p q. absurd (omega arith)
 part_apart (cs ∷ rest) zero h = apart_left (blocks cs) (blocks (flat rest)) (subst AreApart (blocks-append cs (flat rest)) h)
 part_apart (cs ∷ rest) (suc j) h = part_apart rest j (apart_right (blocks cs) (blocks (flat rest)) (subst AreApart (blocks-append cs (flat rest)) h))
 
 -- blocks of two different parts do not meet
-parts_clear : (parts : List (List HomedColumn)) (i j : ℕ) → AreApart (blocks (flat parts)) → i ≢ j → Clear (blocks (get_or parts i [])) (blocks (get_or parts j []))
+parts_clear : (parts : List (List PlainColumn)) (i j : ℕ) → AreApart (blocks (flat parts)) → i ≢ j → Clear (blocks (get_or parts i [])) (blocks (get_or parts j []))
 parts_clear [] i j h ne a b in_a in_b = absurd (none_in a in_a)
 parts_clear (cs ∷ rest) zero zero h ne a b in_a in_b = absurd (ne refl)
 parts_clear (cs ∷ rest) zero (suc j) h ne a b in_a in_b =
@@ -134,11 +135,11 @@ parts_clear (cs ∷ rest) (suc i) (suc j) h ne a b in_a in_b =
     parts_clear rest i j (apart_right (blocks cs) (blocks (flat rest)) (subst AreApart (blocks-append cs (flat rest)) h)) (λ e. ne (ap suc e)) a b in_a in_b
 
 -- a part that rests on the part at a place of the others, or has no columns where it has no place
-abbrev pub FromPlace : List (List HomedColumn) → Option ℕ → List HomedColumn → Type 0
+abbrev pub FromPlace : List (List PlainColumn) → Option ℕ → List PlainColumn → Type 0
 FromPlace olds None new = new ≡ []
 FromPlace olds (Some j) new = Rest new (get_or olds j [])
 
-abbrev pub AreFromPlaces : List (List HomedColumn) → List (Option ℕ) → List (List HomedColumn) → Type 0
+abbrev pub AreFromPlaces : List (List PlainColumn) → List (Option ℕ) → List (List PlainColumn) → Type 0
 AreFromPlaces olds [] [] = Unit {0}
 AreFromPlaces olds (o ∷ places) (new ∷ news) = FromPlace olds o new × AreFromPlaces olds places news
 AreFromPlaces olds _ _ = ⊥
@@ -147,26 +148,26 @@ AreFromPlaces olds _ _ = ⊥
 abbrev pub Differ : Option ℕ → Option ℕ → Type 0
 Differ o p = (j : ℕ) → o ≡ Some j → p ≡ Some j → ⊥
 
-kept_from : (olds : List (List HomedColumn)) (o : Option ℕ) (new : List HomedColumn) → FromPlace olds o new → All (Contains (flat olds)) new
+kept_from : (olds : List (List PlainColumn)) (o : Option ℕ) (new : List PlainColumn) → FromPlace olds o new → All (Contains (flat olds)) new
 kept_from olds None new h = subst (All (Contains (flat olds))) (sym h) (λ k d p. absurd (omega arith))
 kept_from olds (Some j) new h = All-weaker (Contains (get_or olds j [])) (Contains (flat olds)) (λ c g. part_in olds j c g) new h.kept
 
-kept_all : (olds : List (List HomedColumn)) (places : List (Option ℕ)) (news : List (List HomedColumn)) → AreFromPlaces olds places news → All (Contains (flat olds)) (flat news)
+kept_all : (olds : List (List PlainColumn)) (places : List (Option ℕ)) (news : List (List PlainColumn)) → AreFromPlaces olds places news → All (Contains (flat olds)) (flat news)
 kept_all olds [] [] h = λ k d p. absurd (omega arith)
 kept_all olds [] (new ∷ news) h = absurd h
 kept_all olds (o ∷ places) [] h = absurd h
 kept_all olds (o ∷ places) (new ∷ news) h = All-append (Contains (flat olds)) new (flat news) (kept_from olds o new h.0) (kept_all olds places news h.1)
 
 -- a block of a part that rests on the part at a place is one of that part
-placed_block : (olds : List (List HomedColumn)) (o : Option ℕ) (new : List HomedColumn) (a : Span) → FromPlace olds o new → Contains (blocks new) a → (j : ℕ) × (o ≡ Some j) × Contains (blocks (get_or olds j [])) a
+placed_block : (olds : List (List PlainColumn)) (o : Option ℕ) (new : List PlainColumn) (a : Span) → FromPlace olds o new → Contains (blocks new) a → (j : ℕ) × (o ≡ Some j) × Contains (blocks (get_or olds j [])) a
 placed_block olds None new a h g = absurd (none_in a (subst (λ cs. Contains (blocks cs) a) h g))
 placed_block olds (Some j) new a h g = (j, refl, blocks_within new (get_or olds j []) a h.kept g)
 
-apart_from : (olds : List (List HomedColumn)) (o : Option ℕ) (new : List HomedColumn) → FromPlace olds o new → AreApart (blocks (flat olds)) → AreApart (blocks new)
+apart_from : (olds : List (List PlainColumn)) (o : Option ℕ) (new : List PlainColumn) → FromPlace olds o new → AreApart (blocks (flat olds)) → AreApart (blocks new)
 apart_from olds None new h g = subst (λ cs. AreApart (blocks cs)) (sym h) (λ i k d p q. absurd (omega arith))
 apart_from olds (Some j) new h g = h.apart (part_apart olds j g)
 
-clear_from : (olds : List (List HomedColumn)) (i : ℕ) (a : Span) (places : List (Option ℕ)) (news : List (List HomedColumn)) → AreApart (blocks (flat olds)) → AreFromPlaces olds places news → All (Differ (Some i)) places
+clear_from : (olds : List (List PlainColumn)) (i : ℕ) (a : Span) (places : List (Option ℕ)) (news : List (List PlainColumn)) → AreApart (blocks (flat olds)) → AreFromPlaces olds places news → All (Differ (Some i)) places
     → Contains (blocks (get_or olds i [])) a → (b : Span) → Contains (blocks (flat news)) b → Meets a b → ⊥
 clear_from olds i a [] [] apart h differ in_a b in_b = absurd (none_in b in_b)
 clear_from olds i a [] (new ∷ news) apart h differ in_a b in_b = absurd h
@@ -179,7 +180,7 @@ clear_from olds i a (o ∷ places) (new ∷ news) apart h differ in_a b in_b =
     (λ (rest : Contains (blocks (flat news)) b). clear_from olds i a places news apart h.1 (All-tail (Differ (Some i)) o places differ) in_a b rest)
     (Contains-append_cases (blocks new) (blocks (flat news)) b (subst (λ bs. Contains bs b) (blocks-append new (flat news)) in_b))
 
-apart_all : (olds : List (List HomedColumn)) (places : List (Option ℕ)) (news : List (List HomedColumn)) → AreFromPlaces olds places news → AllPairs Differ places → AreApart (blocks (flat olds)) → AreApart (blocks (flat news))
+apart_all : (olds : List (List PlainColumn)) (places : List (Option ℕ)) (news : List (List PlainColumn)) → AreFromPlaces olds places news → AllPairs Differ places → AreApart (blocks (flat olds)) → AreApart (blocks (flat news))
 apart_all olds [] [] h differ apart = λ i k d p q. absurd (omega arith)
 apart_all olds [] (new ∷ news) h differ apart = absurd h
 apart_all olds (o ∷ places) [] h differ apart = absurd h
@@ -191,5 +192,5 @@ apart_all olds (o ∷ places) (new ∷ news) h differ apart =
     clear_from olds found.0 a places news apart h.1 (subst (λ p. All (Differ p) places) found.1 (pairs_head Differ o places differ)) found.2 b in_b))
 
 -- parts from different places, side by side
-pub Rest-parts : (olds : List (List HomedColumn)) (places : List (Option ℕ)) (news : List (List HomedColumn)) → AreFromPlaces olds places news → AllPairs Differ places → Rest (flat news) (flat olds)
+pub Rest-parts : (olds : List (List PlainColumn)) (places : List (Option ℕ)) (news : List (List PlainColumn)) → AreFromPlaces olds places news → AllPairs Differ places → Rest (flat news) (flat olds)
 Rest-parts olds places news h differ = record { kept = kept_all olds places news h; apart = apart_all olds places news h differ }

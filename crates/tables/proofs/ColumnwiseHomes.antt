@@ -3,8 +3,8 @@ use Rattle.std.proofs.Common.{◌≡◌, ℕ, zero, suc, ◌+◌, ◌<◌, List,
 use Rattle.mk_value.specs.Heading.{Domain, Heading, Attribute, heading_of}
 use Rattle.mk_value.specs.Data.{Datum, integer}
 use Rattle.mk_value.specs.Tables.{domain_at}
-use Rattle.tables.specs.Homes.{Home, no_home, ColumnHomes, no_columns, column, columns_of, column_homes, RowHomes, no_rows, row, each_of, row_homes, column_of, rows_in}
-use Rattle.tables.specs.Rests.{HomedColumn, homed_in, homed_rows, homed_from, Rest}
+use Rattle.tables.specs.Homes.{PlainColumn, Home, no_home, ColumnHomes, no_columns, column, columns_of, column_homes, RowHomes, no_rows, row, each_of, row_homes, column_of, rows_in}
+use Rattle.tables.specs.Rests.{homed_in, homed_rows, homed_from, Rest}
 use Rattle.tables.specs.Shapes.{IsHomeOf, AreRowHomesOf, AreHomesOf}
 use Rattle.tables.proofs.Apart.{Rest-append}
 use Rattle.tables.proofs.Resting.{Rest-none}

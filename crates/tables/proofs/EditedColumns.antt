@@ -3,10 +3,10 @@ use Rattle.std.proofs.Common.{◌≡◌, ℕ, zero, suc, ◌+◌, ◌<◌, List,
 use Rattle.std.proofs.lemmas.List.{take-append-drop, drop-drop}
 use Rattle.mk_value.specs.Heading.{Domain, Heading, no_attributes, attribute, Attribute, attributes_of}
 use Rattle.mk_value.specs.Data.{Datum, integer}
-use Rattle.tables.specs.Homes.{Home, no_home, tables, column_homes, each_of, row_homes, column_of, rows_in, empty_home, empty_homes_from, empty_homes_in}
+use Rattle.tables.specs.Homes.{PlainColumn, Home, no_home, tables, column_homes, each_of, row_homes, column_of, rows_in, empty_home, empty_homes_from, empty_homes_in}
 use Rattle.tables.specs.Tables.{inner_schema, homes_in, home_with}
 use Rattle.tables.specs.Rows.{inserted, removed, home_inserted, home_removed}
-use Rattle.tables.specs.Rests.{HomedColumn, homed_in, homed_rows, homed_from, Rest}
+use Rattle.tables.specs.Rests.{homed_in, homed_rows, homed_from, Rest}
 use Rattle.tables.specs.Shapes.{IsHomeOf, AreRowHomesOf, AreHomesOf}
 use Rattle.tables.proofs.Apart.{Rest-self, Rest-append}
 use Rattle.tables.proofs.Resting.{Rest-none, homed_from-empty}
@@ -99,7 +99,7 @@ home_removed-shape (Domain.relation g) at n values (tables rows) s =
 home_removed-shape (Domain.relation g) at n values _ s = absurd s
 
 -- what stands last in a list rests on the list
-last_rests : (front back : List HomedColumn) → Rest back (front ++ back)
+last_rests : (front back : List PlainColumn) → Rest back (front ++ back)
 last_rests front back = Rest-append [] back front back (Rest-none [] front refl) (Rest-self back)
 
 removed_rests : (g : Heading) (at n : ℕ) (values : List Datum) (rows : List (List Home)) → AreEach rows g values

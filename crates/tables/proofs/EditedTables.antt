@@ -6,10 +6,10 @@ use Rattle.mk_value.specs.Data.{Datum, integer, relation, relation_of, cell}
 use Rattle.mk_value.specs.Tables.{domain_at}
 use Rattle.mk_value.proofs.Headings.{heading_of-attributes_of}
 use Rattle.mk_value.proofs.Relations.{rows_of-relation_of}
-use Rattle.tables.specs.Homes.{Home, no_home, tables, column_homes, each_of, column_of, rows_in, empty_homes_from, empty_homes_in}
+use Rattle.tables.specs.Homes.{PlainColumn, Home, no_home, tables, column_homes, each_of, column_of, rows_in, empty_homes_from, empty_homes_in}
 use Rattle.tables.specs.Tables.{StoredTable, inner_schema, inner_table, homes_in, home_with, with_value, with_inner, table_without_homes}
 use Rattle.tables.specs.Rows.{inserted, removed, home_inserted, homes_inserted, home_removed, with_rows_inserted, with_rows_removed}
-use Rattle.tables.specs.Rests.{HomedColumn, homed_in, homed_from, Rest, RestsOn}
+use Rattle.tables.specs.Rests.{homed_in, homed_from, Rest, RestsOn}
 use Rattle.tables.specs.Shapes.{IsHomeOf, AreRowHomesOf, AreHomesOf, HasHomes}
 use Rattle.tables.proofs.Apart.{Rest-self}
 use Rattle.tables.proofs.Homeless.{same_or_not, column-set, column-set_same}

@@ -4,5 +4,6 @@ pub mod EditedColumns
 pub mod EditedTables
 pub mod Homeless
 pub mod Lists
+pub mod PlainColumns
 pub mod Resting
 pub mod RowHomes

@@ -4,9 +4,9 @@ use Rattle.std.specs.Prelude.{Contains}
 use Rattle.std.proofs.lemmas.List.Elements.{All-nil}
 use Rattle.mk_value.specs.Heading.{Domain, Heading, no_attributes, attribute, Attribute, heading_of}
 use Rattle.mk_value.specs.Data.{Datum}
-use Rattle.tables.specs.Homes.{Home, column_homes, row_homes, column_of, rows_in, empty_home, empty_homes_from}
+use Rattle.tables.specs.Homes.{PlainColumn, Home, column_homes, row_homes, column_of, rows_in, empty_home, empty_homes_from}
 use Rattle.tables.specs.Tables.{StoredTable, HasNoHomes}
-use Rattle.tables.specs.Rests.{HomedColumn, homed_in, homed_rows, homed_from, homed_columns, Rest}
+use Rattle.tables.specs.Rests.{homed_in, homed_rows, homed_from, homed_columns, Rest}
 
 homed_rows-none : (f : Datum → List Home) → ((d : Datum) (schema : List Attribute) (k : ℕ) (rows : List (List Datum)) → homed_from (column_homes (f d)) schema k rows ≡ [])
     → (values : List Datum) (e : Domain) (column : List Datum) → homed_rows (row_homes (map f values)) e column ≡ []
@@ -32,8 +32,8 @@ mutual
 pub homed_columns-empty : (t : StoredTable) → HasNoHomes t → homed_columns t ≡ []
 homed_columns-empty t e = ap homed_columns e ∙ homed_from-empty (heading_of t.schema) 0 t.rows t.schema 0 t.rows
 
-no_columns_rest : (old : List HomedColumn) → Rest [] old
+no_columns_rest : (old : List PlainColumn) → Rest [] old
 no_columns_rest old = record { kept = All-nil (Contains old); apart = λ _. λ i j d p q. absurd (omega arith) }
 
-pub Rest-none : (new old : List HomedColumn) → new ≡ [] → Rest new old
+pub Rest-none : (new old : List PlainColumn) → new ≡ [] → Rest new old
 Rest-none new old e = subst (λ cs. Rest cs old) (sym e) (no_columns_rest old)

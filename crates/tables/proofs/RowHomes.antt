@@ -2,9 +2,9 @@
 use Rattle.std.proofs.Common.{◌≡◌, ℕ, zero, suc, ◌+◌, ◌<◌, List, [], ◌∷◌, ◌++◌, length, get_or, set, take, drop, replicate, pos, refl, ap, sym, subst, ◌∙◌, arith, append_assoc}
 use Rattle.mk_value.specs.Heading.{Domain, Heading, attributes_of}
 use Rattle.mk_value.specs.Data.{Datum, integer}
-use Rattle.tables.specs.Homes.{Home, column_homes, row_homes, rows_in}
+use Rattle.tables.specs.Homes.{PlainColumn, Home, column_homes, row_homes, rows_in}
 use Rattle.tables.specs.Tables.{inner_schema}
-use Rattle.tables.specs.Rests.{HomedColumn, homed_rows, homed_from, Rest}
+use Rattle.tables.specs.Rests.{homed_rows, homed_from, Rest}
 use Rattle.tables.specs.Shapes.{AreRowHomesOf, AreHomesOf}
 use Rattle.tables.proofs.Apart.{Rest-self, Rest-append}
 use Rattle.tables.proofs.Resting.{Rest-none}
@@ -60,7 +60,7 @@ each-at (r ∷ rows) zero h (d ∷ values) p s = s.0
 each-at (r ∷ rows) (suc i) h (d ∷ values) p s = each-at rows i h values (omega arith) s.1
 
 -- the homed columns in the rows of a view column
-abbrev pub homed_each : List (List Home) → Domain → List Datum → List HomedColumn
+abbrev pub homed_each : List (List Home) → Domain → List Datum → List PlainColumn
 homed_each rows e values = homed_rows (row_homes rows) e values
 
 pub homed_each-append : (xs ys : List (List Home)) (e : Domain) (us vs : List Datum) → length xs ≡ length us → homed_each (xs ++ ys) e (us ++ vs) ≡ homed_each xs e us ++ homed_each ys e vs

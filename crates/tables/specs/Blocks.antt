@@ -1,20 +1,14 @@
 -- The plain columns of a table in the order in which a directory names them, and the blocks of each as bytes.
-use Rattle.std.specs.Prelude.{ℕ, ◌+◌, List, [], ◌∷◌, ◌++◌, map, drop, slice_index_or, pos}
+use Rattle.std.specs.Prelude.{ℕ, ◌+◌, Bool, true, false, List, [], ◌∷◌, ◌++◌, map, drop, slice_index_or, pos}
 use Rattle.std.specs.List.{flat_map}
 use Rattle.mk_value.specs.Heading.{Domain, Heading, no_attributes, attribute, Attribute, heading_of}
 use Rattle.mk_value.specs.Data.{Datum, integer}
 use Rattle.mk_value.specs.Tables.{number_in}
 use Rattle.bit_pack.specs.Packed.{packed}
 use Rattle.bytes_col.specs.Strings.{string_blocks}
-use Rattle.tables.specs.Homes.{Home, no_home, tables, ColumnHomes, no_columns, column, RowHomes, no_rows, row, column_homes, column_of, rows_in}
+use Rattle.tables.specs.Homes.{Home, no_home, numbers, strings, tables, PlainColumn, ColumnHomes, no_columns, column, RowHomes, no_rows, row, column_homes, column_of, rows_in}
 use Rattle.tables.specs.Shapes.{bytes_in}
 use Rattle.tables.specs.Tables.{StoredTable}
-
--- a plain column: its domain, its values, and its home, which may be none
-pub record PlainColumn : Type 0 where
-  pub domain : Domain
-  pub values : List Datum
-  pub home : Home
 
 -- The plain columns, nested ones too: of a column of a domain with these values, of the tables in the rows of a view column, and of
 -- the columns of a table from the place k on.
@@ -34,8 +28,16 @@ abbrev mutual
       plain_in home e (column_of rows k) ++ plain_from rest others (k + 1) rows
   plain_from _ _ _ _ = []
 
+abbrev pub has_home : Home → Bool
+has_home no_home = false
+has_home _ = true
+
 abbrev pub plain_columns : StoredTable → List PlainColumn
 plain_columns t = plain_from (column_homes t.homes) (heading_of t.schema) 0 t.rows
+
+-- the column has a home, as a test
+abbrev pub is_homed : PlainColumn → Bool
+is_homed c = has_home c.home
 
 -- the blocks of a plain column of the domain with these values, as bytes, in the order of its home
 abbrev pub blocks_of_values : Domain → List Datum → List (List ℕ)

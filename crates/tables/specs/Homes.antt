@@ -22,6 +22,12 @@ mutual
     no_rows : RowHomes
     row : ColumnHomes → RowHomes → RowHomes
 
+-- a plain column: its domain, its values, and its home, which may be none
+pub record PlainColumn : Type 0 where
+  pub domain : Domain
+  pub values : List Datum
+  pub home : Home
+
 -- the same homes as lists, and back
 abbrev pub columns_of : ColumnHomes → List Home
 columns_of no_columns = []

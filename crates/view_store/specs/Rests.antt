@@ -2,10 +2,11 @@
 use Rattle.std.specs.Prelude.{◌≡◌, List, [], Option, None, Some, ◌⊎◌}
 use Rattle.std.specs.List.{flat_map}
 use Rattle.tables.specs.Tables.{StoredTable}
-use Rattle.tables.specs.Rests.{HomedColumn, homed_columns, Rest, RestsOn}
+use Rattle.tables.specs.Homes.{PlainColumn}
+use Rattle.tables.specs.Rests.{homed_columns, Rest, RestsOn}
 use Rattle.view_store.specs.Views.{NamedTable}
 
-abbrev pub homed_views : List NamedTable → List HomedColumn
+abbrev pub homed_views : List NamedTable → List PlainColumn
 homed_views views = flat_map (λ v. homed_columns v.table) views
 
 abbrev pub ViewsRestOn : List NamedTable → List NamedTable → Type 0
