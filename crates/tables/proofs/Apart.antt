@@ -9,7 +9,7 @@ use Rattle.free_space.specs.Extents.{AreApart, Meets}
 use Rattle.tables.specs.Homes.{PlainColumn}
 use Rattle.tables.specs.Rests.{blocks_of, blocks, Rest}
 
-none_in : {X : Type 0} (x : X) → Contains [] x → ⊥
+pub none_in : {X : Type 0} (x : X) → Contains [] x → ⊥
 none_in x h = let p = h.1 in absurd (omega arith)
 
 first_in : {X : Type 0} (x : X) (xs : List X) (y : X) → x ≡ y → Contains (x ∷ xs) y
@@ -19,7 +19,7 @@ later_in : {X : Type 0} (x : X) (xs : List X) (y : X) → Contains xs y → Cont
 later_in x xs y h = (suc h.0, let p = h.1 in omega arith, h.2)
 
 -- no span of one list meets one of the other
-abbrev Clear : List Span → List Span → Type 0
+abbrev pub Clear : List Span → List Span → Type 0
 Clear xs ys = (a b : Span) → Contains xs a → Contains ys b → Meets a b → ⊥
 
 turned : (a b : Span) → Meets a b → Meets b a
@@ -34,25 +34,25 @@ pairs_tail R x xs h i j d p q = h (suc i) (suc j) d (omega arith) (omega arith)
 abbrev Misses : Span → Span → Type 0
 Misses a b = Meets a b → ⊥
 
-apart_right : (xs ys : List Span) → AreApart (xs ++ ys) → AreApart ys
+pub apart_right : (xs ys : List Span) → AreApart (xs ++ ys) → AreApart ys
 apart_right [] ys h = h
 apart_right (x ∷ xs) ys h = apart_right xs ys (pairs_tail Misses x (xs ++ ys) h)
 
-apart_left : (xs ys : List Span) → AreApart (xs ++ ys) → AreApart xs
+pub apart_left : (xs ys : List Span) → AreApart (xs ++ ys) → AreApart xs
 apart_left [] ys h = λ i j d p q. absurd (omega arith)
 apart_left (x ∷ xs) ys h =
     AllPairs-cons Misses x xs
     (λ k d p. let held = Contains-append_left xs ys (get_or xs k d) (All-contains_itself xs k d p) in All-contains (Misses x) (xs ++ ys) (get_or xs k d) (pairs_head Misses x (xs ++ ys) h) held)
     (apart_left xs ys (pairs_tail Misses x (xs ++ ys) h))
 
-in_cons : {X : Type 0} (x : X) (xs : List X) (y : X) → Contains (x ∷ xs) y → (x ≡ y) ⊎ Contains xs y
+pub in_cons : {X : Type 0} (x : X) (xs : List X) (y : X) → Contains (x ∷ xs) y → (x ≡ y) ⊎ Contains xs y
 in_cons x xs y h = place h.0 h.1 h.2
   where
     place : (k : ℕ) → k < length (x ∷ xs) → get_or (x ∷ xs) k y ≡ y → (x ≡ y) ⊎ Contains xs y
     place zero p e = inl e
     place (suc k) p e = inr (k, omega arith, e)
 
-apart_clear : (xs ys : List Span) → AreApart (xs ++ ys) → Clear xs ys
+pub apart_clear : (xs ys : List Span) → AreApart (xs ++ ys) → Clear xs ys
 apart_clear [] ys h a b in_a in_b = absurd (none_in a in_a)
 apart_clear (x ∷ xs) ys h a b in_a in_b =
     ⊎_elim
@@ -70,7 +70,7 @@ apart_join (x ∷ xs) ys h g clear =
 abbrev its_blocks : PlainColumn → List Span
 its_blocks c = blocks_of c.home
 
-blocks-append : (xs ys : List PlainColumn) → blocks (xs ++ ys) ≡ blocks xs ++ blocks ys
+pub blocks-append : (xs ys : List PlainColumn) → blocks (xs ++ ys) ≡ blocks xs ++ blocks ys
 blocks-append xs ys = flat_map-append its_blocks xs ys
 
 -- the blocks of columns that stand in a list stand in the list's blocks
