@@ -11,7 +11,7 @@ use Rattle.free_space.proofs.EndLemmas.{extents-le-end_of, floor-le-end_of}
 use Rattle.free_space.proofs.ExtentLemmas.{apart_from_end, extent_len-aligned}
 use Rattle.free_space.proofs.PlaceLemmas.{least_place_unique}
 
-extent_of_none : extent_len 0 ≡ 0
+pub extent_of_none : extent_len 0 ≡ 0
 unfolding extent_len
 extent_of_none = refl
 
@@ -66,7 +66,7 @@ pub AreAligned : List Span → Type 0
 AreAligned used = All (λ span. IsAligned span.place) used
 
 -- the end of what is used, the extents of which stand at multiples of 16
-end_aligned : (floor : ℕ) (used : List Span) → IsAligned floor → All (λ span. IsAligned span.place) used → IsAligned (end_of floor used)
+pub end_aligned : (floor : ℕ) (used : List Span) → IsAligned floor → All (λ span. IsAligned span.place) used → IsAligned (end_of floor used)
 end_aligned floor [] aligned all = aligned
 end_aligned floor (span ∷ used) aligned all =
     let first : IsAligned span.place = All-head (λ span. IsAligned span.place) span used all in
