@@ -1,11 +1,17 @@
+pub mod Ascii
 pub mod Going
+pub mod BodyLists
+pub mod ColumnLists
 pub mod ColumnParts
 pub mod Fits
 pub mod MemoLists
 pub mod NoteLists
 pub mod NoteParts
+pub mod OneColumn
 pub mod OneRow
 pub mod Reading
 pub mod Spelled
 pub mod TextColumns
 pub mod Whole
+pub mod ViewLists
+pub mod ViewParts

@@ -7,6 +7,8 @@ mod error;
 mod fields;
 mod laws;
 mod notes;
+mod tables;
+mod views;
 
 pub use dir::{
     Dir, DirBodies, DirBody, DirCol, DirCols, DirView, DirViews, Memo, Memos, Note, Notes,
