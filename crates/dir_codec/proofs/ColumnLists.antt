@@ -1,11 +1,11 @@
 -- The columns of a table read one after another.
-use Rattle.std.proofs.Common.{◌≡◌, ℕ, ◌+◌, ◌<◌, ◌≤◌, List, [], ◌∷◌, ◌++◌, length, take, drop, get_or, refl, sym, ◌∙◌, ap, subst, arith}
+use Rattle.std.proofs.Common.{◌≡◌, ℕ, ◌+◌, ◌<◌, ◌≤◌, List, [], ◌∷◌, ◌++◌, length, take, drop, get_or, sym, ◌∙◌, ap, subst, arith}
 use Rattle.std.proofs.lemmas.List.{append-nil, append_assoc, take_more, take_all, drop_all}
 use Rattle.mk_value.specs.Heading.{Attribute, heading_of}
 use Rattle.mk_value.proofs.Walks.{drop_read}
 use Rattle.dir_codec.specs.declared.error.DirError.{DirError}
 use Rattle.dir_codec.specs.Dir.{AreEntries, Entry, entries_from, IsEntry, spelled_entries, spelled_entry}
-use Rattle.dir_codec.specs.Fields.{Due, column_due, columns_due}
+use Rattle.dir_codec.specs.Fields.{column_due, columns_due}
 use Rattle.dir_codec.specs.Reads.{Flaws, Leads, Reads}
 use Rattle.dir_codec.proofs.Reading.{flaws_first, flaws_leads, leads_joins, leads_more, leads_none}
 

@@ -15,3 +15,5 @@ pub mod TextColumns
 pub mod Whole
 pub mod ViewLists
 pub mod ViewParts
+pub mod WholeRead
+pub mod Written

@@ -1,5 +1,5 @@
 -- A column of a domain, from what is read of its numbers, its texts or its tables.
-use Rattle.std.proofs.Common.{◌≡◌, ℕ, List, refl, subst, Result}
+use Rattle.std.proofs.Common.{ℕ, List, Result}
 use Rattle.std.proofs.lemmas.Result.{MatchResult-weaker}
 use Rattle.mk_value.specs.Heading.{Domain}
 use Rattle.dir_codec.specs.declared.dir.DirCol.{DirCol}
@@ -7,18 +7,18 @@ use Rattle.dir_codec.specs.declared.error.DirError.{DirError}
 use Rattle.dir_codec.specs.Dir.{Entry, numbers, strings, tables, IsEntry, spelled_entry}
 use Rattle.dir_codec.specs.Fields.{Due}
 use Rattle.dir_codec.specs.Parts.{AreNumbers, numbers_due, strings_due}
-use Rattle.dir_codec.specs.Reads.{Flaws, GivesPart, Reads}
+use Rattle.dir_codec.specs.Reads.{GivesPart}
 use Rattle.dir_codec.specs.Values.{entry_of}
 
 are_integers : (end rows : ℕ) (e : Entry) → AreNumbers end rows 32 e → IsEntry end rows Domain.integer e
 are_integers end rows (numbers w block) are = are
 are_integers end rows (strings w sizes short memos) are = absurd are
-are_integers end rows (tables bodies) are = absurd are
+are_integers end rows (tables held) are = absurd are
 
 are_longs : (end rows : ℕ) (e : Entry) → AreNumbers end rows 64 e → IsEntry end rows Domain.long e
 are_longs end rows (numbers w block) are = are
 are_longs end rows (strings w sizes short memos) are = absurd are
-are_longs end rows (tables bodies) are = absurd are
+are_longs end rows (tables held) are = absurd are
 
 abbrev Gives : ℕ → ℕ → List Due → List ℕ → ℕ → (Entry → Type 0) → Result (DirCol × ℕ) DirError → Type 0
 Gives number end due bytes at P result = GivesPart number end due bytes at (λ (column : DirCol). P (entry_of column)) (λ (column : DirCol). spelled_entry (entry_of column)) result

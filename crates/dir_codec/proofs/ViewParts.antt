@@ -1,15 +1,15 @@
 -- A view, field by field.
-use Rattle.std.proofs.Common.{◌≡◌, ℕ, ◌+◌, ◌<◌, ◌≤◌, ◌⊎◌, inl, inr, ⊎_elim, List, [], ◌∷◌, ◌++◌, length, length-take, length-drop, drop, refl, sym, ◌∙◌, ap, subst, arith, Contains}
+use Rattle.std.proofs.Common.{◌≡◌, ℕ, ◌+◌, ◌<◌, ◌≤◌, ◌⊎◌, inl, inr, ⊎_elim, List, [], ◌∷◌, ◌++◌, length, length-drop, drop, refl, sym, ◌∙◌, ap, subst, arith, Contains}
 use Rattle.std.proofs.lemmas.List.{append_assoc, length-take-le}
 use Rattle.byteorder.specs.Endian.{little_bytes}
-use Rattle.mk_value.specs.Heading.{Attribute, Heading, heading_of}
+use Rattle.mk_value.specs.Heading.{Attribute, heading_of}
 use Rattle.mk_value.specs.Limits.{max_rows, max_structure}
 use Rattle.struct_text.specs.Spelling.{spelling, Spells}
 use Rattle.struct_text.proofs.Unique.{one_structure}
 use Rattle.dir_codec.specs.declared.dir.DirView.{DirView}
 use Rattle.dir_codec.specs.declared.error.DirError.{DirError}
 use Rattle.dir_codec.specs.declared.error.DirError.TheVariants.{At, Memory}
-use Rattle.dir_codec.specs.Dir.{AreEntries, Entry, entries_from, IsViewEntry, spelled_entries, spelled_view, ViewEntry}
+use Rattle.dir_codec.specs.Dir.{AreEntries, Entry, entries_from, IsViewEntry, spelled_entries, spelled_view}
 use Rattle.dir_codec.specs.Fields.{Due, number_of_field, row_count, structure, text_length, views_due}
 use Rattle.dir_codec.specs.Parts.{IsNewStructure, names_before, spelled_structure}
 use Rattle.dir_codec.specs.Reads.{bytes_at, Flaws, Leads, Reads}

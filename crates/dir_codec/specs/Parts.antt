@@ -1,5 +1,5 @@
 -- What is due for the parts of a directory, and how they are spelled.
-use Rattle.std.specs.Prelude.{◌≢◌, ℕ, ◌+◌, ◌<◌, ◌≤◌, List, [], ◌∷◌, ◌++◌, length, map, reverse, All, AllPairs, Contains}
+use Rattle.std.specs.Prelude.{◌≢◌, ◌==◌, if◌then◌else◌, ℕ, ◌+◌, ◌<◌, ◌≤◌, List, [], ◌∷◌, ◌++◌, length, map, reverse, All, AllPairs, Contains}
 use Rattle.std.specs.List.{flat_map}
 use Rattle.bit_pack.specs.declared.widths.Width.{Width}
 use Rattle.bit_pack.specs.Width.{bit_count}
@@ -13,7 +13,7 @@ use Rattle.struct_text.specs.Spelling.{spelling}
 use Rattle.dir_codec.specs.declared.dir.DirView.{DirView}
 use Rattle.dir_codec.specs.declared.dir.Memo.{Memo}
 use Rattle.dir_codec.specs.Dir.{Entry, numbers, IsNumbers, IsViewEntry, NoteEntry, spelled_memo, spelled_span, spelled_view}
-use Rattle.dir_codec.specs.Fields.{Due, sizes_width, width}
+use Rattle.dir_codec.specs.Fields.{Due, note_count, sizes_width, width}
 use Rattle.dir_codec.specs.Values.{view_of}
 
 abbrev pub numbers_due : ℕ → ℕ → List Due
@@ -69,3 +69,7 @@ pub record AreViews (end : ℕ) (views : List DirView) : Type 0 where
 
 abbrev pub spelled_views : List DirView → List ℕ
 spelled_views views = little_bytes 4 (length views) ++ flat_map spelled_view (map view_of views)
+
+-- what is due behind the views, under a mark of this version
+abbrev pub notes_behind : ℕ → List Due
+notes_behind version = if version == 2 then note_count ∷ [] else []

@@ -1,5 +1,5 @@
 -- What is due of a table is read column by column, and of a view column table by table.
-use Rattle.std.proofs.Common.{ℕ, ◌+◌, ◌<◌, List, ap, subst, sym, arith}
+use Rattle.std.proofs.Common.{ap, subst, arith}
 use Rattle.std.proofs.lemmas.Result.{err_from_is_err_and}
 use Rattle.mk_value.specs.Heading.{Attribute, heading_of, domain_weight, attributes_weight}
 use Rattle.mk_value.specs.Kinds.{domain_of}

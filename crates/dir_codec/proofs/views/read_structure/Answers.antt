@@ -1,4 +1,4 @@
-use Rattle.std.proofs.Common.{◌≡◌, ◌+◌, true, false, sym, ◌∙◌, Contains}
+use Rattle.std.proofs.Common.{◌+◌, sym, ◌∙◌, Contains}
 use Rattle.std.proofs.lemmas.Result.{err_from_is_err_and}
 use Rattle.dir_codec.specs.Parts.{names_before}
 use Rattle.dir_codec.proofs.ViewLists.{any-Contains, Contains-any}
