@@ -1,7 +1,7 @@
 -- A whole directory, from its views and its notes.
 use Rattle.std.proofs.Common.{◌≡◌, ℕ, ◌<◌, ◌≤◌, ◌^◌, ◌⊎◌, inl, inr, ⊎_elim, List, [], ◌∷◌, ◌++◌, length, length-drop, map, drop, refl, sym, ◌∙◌, ap, subst, arith, Result, Ok, Err}
 use Rattle.std.specs.List.{flat_map}
-use Rattle.std.specs.Result.{IfErr, IfOk}
+use Rattle.std.specs.Result.{IfErr, IfOk, MatchResult}
 use Rattle.std.proofs.lemmas.Result.{MatchResult-weaker}
 use Rattle.std.proofs.lemmas.List.{append-nil, drop_all, length-map}
 use Rattle.byteorder.specs.Endian.{little_bytes}
@@ -17,6 +17,7 @@ use Rattle.dir_codec.specs.Reads.{Flaws, GivesPart, IsRefused, Reads}
 use Rattle.dir_codec.specs.Values.{dir_of, note_of, view_of}
 use Rattle.dir_codec.proofs.Going.{one_first_flaw}
 use Rattle.dir_codec.proofs.Reading.{flaws_first, flaws_then, reads_joins, reads_none}
+use Rattle.dir_codec.proofs.Spelled.{one_dir}
 use Rattle.dir_codec.proofs.Whole.{no_flaw}
 
 module _ (version number end : ℕ) (bytes : List ℕ) where
@@ -72,9 +73,11 @@ module _ (version number end : ℕ) (bytes : List ℕ) (number_fits : number < 2
   not_refused d (At place) is spells refused =
       absurd (no_flaw version number end d place number_fits end_fits is (subst (λ (l : List ℕ). IsFirstFlaw version number end l place) spells refused))
 
-  pub accepts : (d : Dir) (result : Result Found DirError) → IsDir version number end d → bytes ≡ spelled d → IfErr result (IsRefused version number end bytes) → IfErr result (λ e. e ≡ Memory)
-  accepts d (Ok found) is spells refused = tt
-  accepts d (Err e) is spells refused = not_refused d e is spells refused
+  pub accepts : (d : Dir) (result : Result Found DirError) → IsDir version number end d → bytes ≡ spelled d
+      → IfOk result (λ found. IsDir version number end (dir_of found) × (bytes ≡ spelled (dir_of found))) → IfErr result (IsRefused version number end bytes)
+      → MatchResult result (λ found. dir_of found ≡ d) (λ e. e ≡ Memory)
+  accepts d (Ok found) is spells read refused = one_dir version number end (dir_of found) d number_fits end_fits read.0 is (sym read.1 ∙ spells)
+  accepts d (Err e) is spells read refused = not_refused d e is spells refused
 
   the_flaw : (place : ℕ) (e : DirError) → IsFirstFlaw version number end bytes place → IsRefused version number end bytes e → (e ≡ At place) ⊎ (e ≡ Memory)
   the_flaw place Memory flaw refused = inr refl

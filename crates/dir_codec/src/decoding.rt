@@ -1,5 +1,5 @@
 // The bytes of a directory read as a whole.
-ghost use Rattle.std.specs.Prelude.{◌≡◌, ◌≤◌, ◌⊎◌, ℕ, length, map, IfErr, IfOk, Err};
+ghost use Rattle.std.specs.Prelude.{◌≡◌, ◌≤◌, ◌⊎◌, ℕ, length, map, IfErr, IfOk, MatchResult, Err};
 ghost use Rattle.dir_codec.specs.declared.error.DirError.TheVariants as dir_error;
 ghost use Rattle.dir_codec.specs.Dir.{AreNotes, Dir as Directory, IsDir, spelled, spelled_notes};
 ghost use Rattle.dir_codec.specs.Fields.{IsFirstFlaw};
@@ -51,7 +51,7 @@ pub fn decode(
     // What is read, the bytes spell; what the bytes spell is read.
     ensures found { IfOk result (λ dir. IsDir version number end (dir_of dir) × (bytes.now ≡ spelled (dir_of dir))) }
     ensures accepted { (d : Directory) → IsDir version number end d → bytes.now ≡ spelled d
-        → IfErr result (λ e. e ≡ dir_error.Memory) }
+        → MatchResult result (λ dir. dir_of dir ≡ d) (λ e. e ≡ dir_error.Memory) }
 
     // What refuses them is their first flaw; their first flaw refuses them.
     ensures refused { IfErr result (IsRefused version number end bytes.now) }
