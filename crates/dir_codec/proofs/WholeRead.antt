@@ -62,8 +62,8 @@ module _ (version number end : ℕ) (bytes : List ℕ) where
       let few = are_views.few in (
         record { few = omega (arith, long, few); distinct = are_views.distinct; each = are_views.each; notes = are_notes },
         both.spells ∙ ap (λ (l : List ℕ). (spelled_views views ++ spelled_notes (map note_of notes)) ++ l) (drop_all to bytes past)
-        ∙ append-nil (spelled_views views ++ spelled_notes (map note_of notes))
-        ∙ ap (λ (n : ℕ). (little_bytes 4 n ++ flat_map spelled_view (map view_of views)) ++ spelled_notes (map note_of notes)) (sym long),
+            ∙ append-nil (spelled_views views ++ spelled_notes (map note_of notes))
+            ∙ ap (λ (n : ℕ). (little_bytes 4 n ++ flat_map spelled_view (map view_of views)) ++ spelled_notes (map note_of notes)) (sym long),
       )
 
 -- bytes that are refused spell no directory, and a flaw is the one that is named
@@ -114,5 +114,5 @@ module _ (version number end : ℕ) (bytes : List ℕ) (at : ℕ) where
   pub no_notes : at ≤ length bytes → (version ≡ 1) ⊎ (version ≡ 2) → (version ≡ 2 → ⊥) → AreNotes version number [] × Reads number end (notes_behind version) bytes at at []
   no_notes within known not_two = ⊎_elim
       (λ one. subst (λ (v : ℕ). AreNotes v number [] × Reads number end (notes_behind v) bytes at at []) (sym one)
-          (record { each = tt; few = omega arith; counted = inl (refl, refl) }, reads_none number end bytes at within))
+      (record { each = tt; few = omega arith; counted = inl (refl, refl) }, reads_none number end bytes at within))
       (λ two. absurd (not_two two)) known

@@ -34,8 +34,7 @@ fn read_column(
     match kind {
         Kind::I => read_numbers(bytes, at, end, rows, 32),
         Kind::L => read_numbers(bytes, at, end, rows, 64),
-        Kind::S => read_strings(alloc, bytes, at, end, rows),
-        Kind::B => read_strings(alloc, bytes, at, end, rows),
+        Kind::S | Kind::B => read_strings(alloc, bytes, at, end, rows),
         Kind::V(schema) => {
             let (bodies, next) = read_bodies(alloc, bytes, at, end, rows, schema)?;
             Ok((DirCol::Views(bodies), next))

@@ -1,5 +1,5 @@
 -- What is due of a table is read column by column, and of a view column table by table.
-use Rattle.std.proofs.Common.{ap, subst, arith}
+use Rattle.std.proofs.Common.{ap, subst, arith, inl, inr}
 use Rattle.std.proofs.lemmas.Result.{err_from_is_err_and}
 use Rattle.mk_value.specs.Heading.{Attribute, heading_of, domain_weight, attributes_weight}
 use Rattle.mk_value.specs.Kinds.{domain_of}
@@ -70,10 +70,10 @@ pub read_column-returns-in-L : goal.read_column-returns-in-L
 read_column-returns-in-L t c = λ number. rw c.in-L.is (longs number c.args.end c.args.rows c.args.bytes.now c.args.at c.read_numbers-in-L.result (c.read_numbers-in-L.ensures number))
 
 pub read_column-returns-in-S : goal.read_column-returns-in-S
-read_column-returns-in-S t c = λ number. rw c.in-S.is (texts number c.args.end c.args.rows c.args.bytes.now c.args.at c.read_strings.result (c.read_strings.ensures number))
-
-pub read_column-returns-in-B : goal.read_column-returns-in-B
-read_column-returns-in-B t c = λ number. rw c.in-B.is (byte_strings number c.args.end c.args.rows c.args.bytes.now c.args.at c.read_strings-in-B.result (c.read_strings-in-B.ensures number))
+read_column-returns-in-S t c = λ number. elim c.in-S.is [
+  | inl is_text ↦ rw is_text (texts number c.args.end c.args.rows c.args.bytes.now c.args.at c.read_strings.result (c.read_strings.ensures number))
+  | inr is_bytes ↦ rw is_bytes (byte_strings number c.args.end c.args.rows c.args.bytes.now c.args.at c.read_strings.result (c.read_strings.ensures number))
+]
 
 pub read_column-returns-in_ok-bodies-in-V : goal.read_column-returns-in_ok-bodies-in-V
 read_column-returns-in_ok-bodies-in-V t c = λ number. rw c.in-V.is (c.in_ok-bodies-in-V.ensures number)
