@@ -141,16 +141,16 @@ module _ (number end : ℕ) (high : end < 2 ^ 64) where
         goes_joins (steps {number = number} {end = end} (width rows 64) due (block (packed_len w rows) ∷ []) (bit_count w ∷ []) (spelled_span s ++ rest) refl (w, refl, is.narrow, refl)) (goes_block (packed_len w rows) s due rest is.span is.len)
     goes_entry rows Domain.text (strings w sizes short memos) due rest few is = goes_strings rows w sizes short memos due rest few is
     goes_entry rows Domain.bytes (strings w sizes short memos) due rest few is = goes_strings rows w sizes short memos due rest few is
-    goes_entry rows (Domain.relation h) (tables bodies) due rest few is =
-        subst (λ (n : ℕ). Goes number end (replicate n (row_count h) ++ due) (spelled_bodies bodies ++ rest) due rest) is.0 (goes_bodies h bodies due rest is.1)
+    goes_entry rows (Domain.relation h) (tables held) due rest few is =
+        subst (λ (n : ℕ). Goes number end (replicate n (row_count h) ++ due) (spelled_bodies held ++ rest) due rest) is.0 (goes_bodies h held due rest is.1)
     goes_entry rows Domain.integer (strings w sizes short memos) due rest few is = absurd is
-    goes_entry rows Domain.integer (tables bodies) due rest few is = absurd is
+    goes_entry rows Domain.integer (tables held) due rest few is = absurd is
     goes_entry rows Domain.long (strings w sizes short memos) due rest few is = absurd is
-    goes_entry rows Domain.long (tables bodies) due rest few is = absurd is
+    goes_entry rows Domain.long (tables held) due rest few is = absurd is
     goes_entry rows Domain.text (numbers w s) due rest few is = absurd is
-    goes_entry rows Domain.text (tables bodies) due rest few is = absurd is
+    goes_entry rows Domain.text (tables held) due rest few is = absurd is
     goes_entry rows Domain.bytes (numbers w s) due rest few is = absurd is
-    goes_entry rows Domain.bytes (tables bodies) due rest few is = absurd is
+    goes_entry rows Domain.bytes (tables held) due rest few is = absurd is
     goes_entry rows (Domain.relation h) (numbers w s) due rest few is = absurd is
     goes_entry rows (Domain.relation h) (strings w sizes short memos) due rest few is = absurd is
 

@@ -2,7 +2,7 @@
 use Rattle.std.specs.Prelude.{◌≡◌, ℕ, ◌+◌, ◌<◌, ◌≤◌, ◌⊎◌, List, [], ◌++◌, length, take, drop, Result, MatchResult}
 use Rattle.dir_codec.specs.declared.error.DirError.{DirError}
 use Rattle.dir_codec.specs.declared.error.DirError.TheVariants.{At, Memory}
-use Rattle.dir_codec.specs.Fields.{Due, Goes, IsFlawed}
+use Rattle.dir_codec.specs.Fields.{Due, Goes, IsFirstFlaw, IsFlawed}
 
 -- so many bytes from a place on
 abbrev pub bytes_at : ℕ → ℕ → List ℕ → List ℕ
@@ -38,3 +38,8 @@ GivesField bytes at len P Q result = MatchResult result (λ x. (at + len ≤ len
 abbrev pub GivesPart : {X : Type 0} → ℕ → ℕ → List Due → List ℕ → ℕ → (X → Type 0) → (X → List ℕ) → Result (X × ℕ) DirError → Type 0
 GivesPart number end due bytes at P spelled result =
     MatchResult result (λ r. P r.0 × Reads number end due bytes at r.1 (spelled r.0)) (Flaws number end due bytes at)
+
+-- the error names the first flaw of the bytes, under a mark with this version, number and end
+abbrev pub IsRefused : ℕ → ℕ → ℕ → List ℕ → DirError → Type 0
+IsRefused version number end bytes (At place) = IsFirstFlaw version number end bytes place
+IsRefused version number end bytes Memory = Unit {0}

@@ -7,7 +7,7 @@ ghost use Rattle.dir_codec.specs.Dir.{IsEntry, spelled_entry};
 ghost use Rattle.dir_codec.specs.Values.{entry_of};
 ghost use Rattle.dir_codec.specs.Fields.{Due, memo_count, memo_row, memos_due, short_block, span_of_field};
 ghost use Rattle.dir_codec.specs.Reads.{Flaws, GivesField, GivesPart, Leads, bytes_at};
-ghost use Rattle.dir_codec.specs.Parts.{numbers_due, spelled_memos, spelled_numbers, strings_due};
+ghost use Rattle.dir_codec.specs.Parts.{AreNumbers, numbers_due, spelled_memos, spelled_numbers, strings_due};
 ghost use Rattle.mk_value.specs.Heading.{Domain};
 
 use crate::dir::{DirCol, Memo, Memos};
@@ -20,25 +20,25 @@ use std::alloc::Global;
 /// The most bytes of a value that stands among the short ones.
 const SHORT: u64 = 512;
 
-/// The width and the block of so many numbers of at most so many bits.
+/// A column of so many numbers of at most so many bits.
 pub(crate) fn read_numbers(
     bytes: &[u8],
     at: usize,
     end: u64,
     rows: u32,
     most: u8,
-) -> Result<((Width, Span), usize), DirError>
+) -> Result<(DirCol, usize), DirError>
     requires within { at ≤ length bytes.now }
     requires few { rows ≤ max_rows }
     ensures { (number : ℕ) → GivesPart number end (numbers_due rows most) bytes.now at
-        (λ x. IsNumbers end rows most x.0 x.1) spelled_numbers result }
+        (λ column. AreNumbers end rows most (entry_of column)) (λ column. spelled_entry (entry_of column)) result }
 {
     let width = read_width(bytes, at, most)?;
     let span = read_block(bytes, at + 1, end)?;
     if span.len != width.packed_len(rows as usize) as u64 {
         return Err(DirError::At(at as u64 + 1));
     }
-    Ok(((width, span), at + 17))
+    Ok((DirCol::Ints { width, span }, at + 17))
 }
 
 /// The span of a long value.

@@ -18,7 +18,7 @@ use mk_value::{Span, Text, is_text};
 use std::alloc::Global;
 
 /// The bytes of a field.
-fn field(bytes: &[u8], at: usize, len: usize) -> Result<&[u8], DirError>
+pub(crate) fn field(bytes: &[u8], at: usize, len: usize) -> Result<&[u8], DirError>
     requires { at ≤ length bytes.now }
     ensures { GivesField bytes.now at len (λ field. field.now ≡ bytes_at at len bytes.now) ⊥ result }
 {
