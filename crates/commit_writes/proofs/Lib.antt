@@ -1,0 +1,5 @@
+mod Filling
+pub mod Frames
+pub mod Phases
+mod Steps
+pub mod Writers
