@@ -1,0 +1,2 @@
+pub mod Footprints
+mod OneRow

@@ -1,0 +1,4 @@
+pub mod Commits
+pub mod Standing
+pub mod Reading
+pub mod Refusals

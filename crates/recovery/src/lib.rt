@@ -1,0 +1,2 @@
+//! What a file stands for.
+#![tactic(auto)]

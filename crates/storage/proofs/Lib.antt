@@ -1,0 +1,6 @@
+mod Columns
+mod Followed
+mod Noted
+mod PutBlocks
+mod SameRows
+mod Settling

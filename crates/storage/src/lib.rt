@@ -1,0 +1,2 @@
+//! A store over a file.
+#![tactic(auto)]
