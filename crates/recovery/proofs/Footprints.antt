@@ -1,5 +1,5 @@
 -- What a whole commit has in a file is a whole footprint.
-use Rattle.std.proofs.Common.{◌≡◌, ℕ, ◌+◌, ◌<◌, ◌≤◌, ◌^◌, ◌⊎◌, inl, inr, List, [], ◌∷◌, ◌++◌, length, map, refl, ap, sym, subst, ◌∙◌, arith}
+use Rattle.std.proofs.Common.{◌≡◌, ℕ, ◌+◌, ◌<◌, ◌≤◌, ◌^◌, ◌⊎◌, inl, inr, ⊎_elim, Some, List, [], ◌∷◌, ◌++◌, length, map, refl, ap, sym, subst, ◌∙◌, arith}
 use Rattle.std.specs.Prelude.{Contains}
 use Rattle.std.specs.List.{flat_map}
 use Rattle.std.proofs.lemmas.List.{map-append}
@@ -8,11 +8,13 @@ use Rattle.mk_value.specs.declared.span.Span.{Span}
 use Rattle.free_space.specs.Extents.{extent_end, extent_len}
 use Rattle.free_space.specs.Sites.{IsSite}
 use Rattle.free_space.proofs.ExtentLemmas.{le-extent_len}
-use Rattle.commit_marks.specs.Marks.{IsMark}
+use Rattle.commit_marks.specs.Marks.{Chooses, IsMark}
 use Rattle.commit_writes.specs.Blocks.{spans_of}
-use Rattle.commit_writes.specs.Footprints.{IsFootprint}
+use Rattle.commit_writes.specs.Footprints.{HasBefore, IsFootprint, StandsFor as PrintStandsFor, MayStand as PrintMayStand}
 use Rattle.dir_codec.specs.Dir.{NoteEntry}
 use Rattle.recovery.specs.Commits.{Commit, IsCommit, column_blocks, commit_blocks, dir_block, footprint_of, mark_of, plain_views, version_of}
+use Rattle.recovery.specs.Standing.{StandsFor}
+use Rattle.recovery.specs.Refusals.{IsBefore, MayStand, Older}
 
 version_is : (notes : List NoteEntry) → (version_of notes ≡ 1) ⊎ (version_of notes ≡ 2)
 version_is [] = inl refl
@@ -41,3 +43,18 @@ footprint_whole c h =
       apart = h.apart;
       dir = dir_among c;
     }
+
+-- What a footprint stands for, its commit stands for.
+pub stands_for : (c : Commit) (image : List ℕ) → IsCommit c → PrintStandsFor image (footprint_of c) → StandsFor image c
+stands_for c image whole h = (h.0, mark_of c, h.1, h.2, record { whole = whole; mark = refl; holds = h.3 })
+
+pub has_before : (c : Commit) (image : List ℕ) → IsCommit c → HasBefore image (footprint_of c) → IsBefore image (Older.whole c)
+has_before c image whole h = (h.0, h.1, Some (mark_of c), h.2, record { whole = whole; mark = refl; holds = h.3 })
+
+pub may_stand : (kept next : Commit) (image : List ℕ) → IsCommit kept → IsCommit next → PrintMayStand (footprint_of kept) (footprint_of next) image → MayStand kept next image
+may_stand kept next image one two h =
+    ⊎_elim (λ old. inl (stands_for kept image one old)) (λ both. inr (stands_for next image two both.0, has_before kept image one both.1)) h
+
+-- and back
+pub print_stands : (c : Commit) (image : List ℕ) → StandsFor image c → PrintStandsFor image (footprint_of c)
+print_stands c image h = (h.0, h.2, subst (λ m. Chooses image h.0 m h.2) h.4.mark h.3, h.4.holds)

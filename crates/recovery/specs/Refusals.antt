@@ -13,7 +13,7 @@ use Rattle.dir_codec.specs.Dir.{Dir, IsDir, spelled}
 use Rattle.dir_codec.specs.Columns.{PlainEntry, dir_columns}
 use Rattle.dir_codec.specs.Fields.{IsFirstFlaw}
 use Rattle.recovery.specs.Commits.{Commit}
-use Rattle.recovery.specs.Standing.{Stands}
+use Rattle.recovery.specs.Standing.{Stands, StandsFor}
 use Rattle.recovery.specs.Reading.{IsFirstUnreadable, all_spans}
 
 -- the mark fits the file, and this directory stands where it says
@@ -78,3 +78,18 @@ IsOlder image slot (Some m) (broken place) = IsRefusedAt image slot m place
 abbrev pub IsBefore : List ℕ → Older → Type 0
 IsBefore image older =
     (slot : ℕ) × (m : Mark) × (other : Option Mark) × Chooses image slot m other × IsOlder image (other_slot slot) other older
+
+-- While a commit is made, and after one that failed: the image stands for the old commit, or for the next one with the old one before it.
+abbrev pub MayStand : Commit → Commit → List ℕ → Type 0
+MayStand kept next image = StandsFor image kept ⊎ (StandsFor image next × IsBefore image (whole kept))
+
+-- what a file stands for: one commit, or the cause why there is none
+pub data Found : Type 0 where
+  commit : Commit → Found
+  no_store : Found
+  damaged : ℕ → Found
+
+abbrev pub Finds : List ℕ → Found → Type 0
+Finds image (commit c) = StandsFor image c
+Finds image no_store = IsNoStore image
+Finds image (damaged place) = IsDamagedAt image place
