@@ -22,7 +22,7 @@ use Rattle.tables.proofs.Apart.{flat, FromPlace, AreFromPlaces, Differ, Rest-sel
 use Rattle.restructure.proofs.Plain.{map-same, map_twice, behind, home_under}
 use Rattle.tables.proofs.Lists.{At, drop_at}
 use Rattle.restructure.proofs.Same.{no_attribute, value_same}
-use Rattle.restructure.proofs.Whole.{value_is_of, rows_inside}
+use Rattle.tables.proofs.Values.{column_fits, rows_inside}
 
 -- the placed columns of each column of a table, from the place k on
 abbrev parts : List Home → List Attribute → ℕ → List (List Datum) → List (List PlainColumn)
@@ -67,14 +67,6 @@ rows_rest new old homes_of value each (row homes rest) [] fits = Rest-none [] _ 
 rows_rest new old homes_of value each (row homes rest) (d ∷ ds) fits =
     Rest-append _ _ _ _ (each homes d (All-head (λ x. IsOf x (Domain.relation old)) d ds fits))
     (rows_rest new old homes_of value each rest ds (All-tail (λ x. IsOf x (Domain.relation old)) d ds fits))
-
--- the values of a column of whole rows are of its domain
-column_fits : (schema : List Attribute) (k : ℕ) → k < length schema → (rows : List (List Datum)) → All (λ r. IsRowOf r schema) rows → All (λ d. IsOf d (domain_at schema k)) (column_of rows k)
-column_fits schema k p [] h = λ i d q. absurd (omega arith)
-column_fits schema k p (r ∷ rows) h =
-    All-cons (λ d. IsOf d (domain_at schema k)) (get_or r k (integer (pos 0))) (column_of rows k)
-    (value_is_of r schema k (All-head (λ x. IsRowOf x schema) r rows h) p)
-    (column_fits schema k p rows (All-tail (λ x. IsRowOf x schema) r rows h))
 
 -- no two properties of distinct names have the same place in the old schema
 apart_places : (old : List Attribute) (one other : List ℕ) → one ≢ other → Differ (find old one) (find old other)

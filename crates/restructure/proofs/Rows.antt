@@ -11,7 +11,8 @@ use Rattle.mk_value.proofs.Relations.{rows_of-relation_of, row_fits_length}
 use Rattle.mk_value.proofs.Walks.{map_read, same_default}
 use Rattle.view_store.proofs.Walking.{domain_read}
 use Rattle.restructure.specs.Restructuring.{restructured_value, row_under, restructured_row, restructured_rows}
-use Rattle.restructure.proofs.Whole.{value_is_of, rows_whole}
+use Rattle.tables.proofs.Values.{value_is_of}
+use Rattle.restructure.proofs.Whole.{rows_whole}
 
 -- a value that was read is the row's at its place
 pub value_read : (values : List Value) (row : List Datum) (k : ℕ) (v : Value) → map datum_of values ≡ row → k < length values → v ≡ get_or values k v → datum_of v ≡ get_or row k (integer (pos 0))

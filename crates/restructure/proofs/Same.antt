@@ -15,7 +15,7 @@ use Rattle.mk_value.proofs.Relations.{row_fits_length}
 use Rattle.tables.proofs.Lists.{At, drop_at}
 use Rattle.tables.specs.Tables.{StoredTable, IsTable, HasNoHomes, table_without_homes}
 use Rattle.restructure.specs.Restructuring.{restructured_value, row_under, value_under, restructured_row, restructured_rows}
-use Rattle.restructure.proofs.Whole.{rows_inside, value_is_of}
+use Rattle.tables.proofs.Values.{rows_inside, value_is_of}
 
 abbrev pub no_attribute : Attribute
 no_attribute = record { name = []; domain = Domain.integer }

@@ -16,6 +16,7 @@ use Rattle.tables.specs.Tables.{inner_schema}
 use Rattle.view_store.specs.Fitting.{is_within}
 use Rattle.view_store.proofs.Fitting.{is_of_tells}
 use Rattle.view_store.proofs.Walking.{place_within}
+use Rattle.tables.proofs.Values.{rows_inside, value_is_of}
 use Rattle.restructure.specs.Restructuring.{narrowed, text_or_empty, converted, restructured_value, row_under, value_under, restructured_row, restructured_rows}
 
 -- a value is of some domain: what that says of the value alone
@@ -66,32 +67,6 @@ converted_fits Domain.integer (long z) h = narrowed_fits z
 converted_fits Domain.bytes (text content) h = h.1
 converted_fits Domain.text (bytes content) h = text_fits content h
 converted_fits e d h = default_is_of e
-
--- the value of a row at a place is of the property there
-pub value_is_of : (row : List Datum) (schema : List Attribute) (k : ℕ) → IsRowOf row schema → k < length schema → IsOf (get_or row k (integer (pos 0))) (domain_at schema k)
-value_is_of [] [] k h p = absurd (omega arith)
-value_is_of [] (a ∷ schema) k h p = absurd h
-value_is_of (d ∷ row) [] k h p = absurd h
-value_is_of (d ∷ row) (a ∷ schema) zero h p = h.0
-value_is_of (d ∷ row) (a ∷ schema) (suc k) h p = value_is_of row schema k h.1 (omega arith)
-
-no_rows : (schema : List Attribute) → AreRowsOf [] schema
-no_rows schema = record { few = omega arith; whole = All-nil (λ row. IsRowOf row schema) }
-
--- the rows in a value are of the schema inside its domain
-pub rows_inside : (d : Datum) (e : Domain) → IsOf d e → AreRowsOf (rows_in d) (inner_schema e)
-rows_inside (relation r) (Domain.relation h) whole =
-    (IsOf-relation (rows_of r) (attributes_of h)).1
-    (subst (λ g. IsOf (relation (relation_of (rows_of r))) (Domain.relation g)) (sym (heading_of-attributes_of h))
-    (subst (λ s. IsOf (relation s) (Domain.relation h)) (sym (relation_of-rows_of r)) whole))
-rows_inside (relation r) Domain.integer whole = absurd whole
-rows_inside (relation r) Domain.long whole = absurd whole
-rows_inside (relation r) Domain.text whole = absurd whole
-rows_inside (relation r) Domain.bytes whole = absurd whole
-rows_inside (integer z) e whole = no_rows (inner_schema e)
-rows_inside (long z) e whole = no_rows (inner_schema e)
-rows_inside (text content) e whole = no_rows (inner_schema e)
-rows_inside (bytes content) e whole = no_rows (inner_schema e)
 
 tuples_fit : (f : List Datum → List Datum) (old : List Attribute) (g : Heading) → ((row : List Datum) → IsRowOf row old → IsTupleOf (tuple_of (f row)) g)
     → (rows : List (List Datum)) → All (λ row. IsRowOf row old) rows → AreTuplesOf (relation_of (map f rows)) g

@@ -7,3 +7,4 @@ pub mod Lists
 pub mod PlainColumns
 pub mod Resting
 pub mod RowHomes
+pub mod Values
