@@ -1,2 +1,5 @@
+mod Directories
 pub mod Footprints
+mod Memos
 mod OneRow
+mod Widths
