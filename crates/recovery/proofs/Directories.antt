@@ -5,7 +5,7 @@ use Rattle.std.specs.List.{flat_map}
 use Rattle.std.proofs.lemmas.List.{length-map}
 use Rattle.std.proofs.lemmas.List.Elements.{All-head, All-tail, All-cons, All-nil}
 use Rattle.mk_value.specs.declared.span.Span.{Span}
-use Rattle.mk_value.specs.Limits.{max_bytes, max_rows}
+use Rattle.mk_value.specs.Limits.{max_bytes, max_rows, max_structure}
 use Rattle.mk_value.specs.Heading.{Domain, Heading, no_attributes, attribute, Attribute, attributes_of, heading_of}
 use Rattle.mk_value.specs.Data.{Datum, integer, long, text, bytes, relation, rows_of, IsOf, IsRowOf, AreRowsOf}
 use Rattle.mk_value.specs.Tables.{domain_at, number_in}
@@ -17,14 +17,16 @@ use Rattle.bit_pack.proofs.LeastWidth.{HoldsAll-wider}
 use Rattle.bytes_col.specs.Strings.{long_values, memo_rows, short_bytes, sizes_of}
 use Rattle.free_space.specs.Sites.{IsSite, no_span}
 use Rattle.commit_writes.specs.Blocks.{Block, IsBlockWithin, IsSited, no_block}
-use Rattle.dir_codec.specs.Dir.{AreBodies, AreEntries, AreMemos, Bodies, Entries, Entry, IsEntry, IsNumbers, IsSpan, IsStrings, count_bodies}
-use Rattle.tables.specs.Homes.{Home, no_home, numbers, strings, tables, PlainColumn, ColumnHomes, no_columns, column, RowHomes, no_rows, row, column_of, rows_in}
+use Rattle.dir_codec.specs.Dir.{AreBodies, AreEntries, AreMemos, Bodies, Entries, Entry, IsEntry, IsNumbers, IsSpan, IsStrings, IsDir, IsViewEntry, ViewEntry, count_bodies}
+use Rattle.tables.specs.Homes.{Home, no_home, numbers, strings, tables, PlainColumn, ColumnHomes, no_columns, column, column_homes, RowHomes, no_rows, row, column_of, rows_in}
 use Rattle.tables.specs.Tables.{inner_schema}
-use Rattle.tables.specs.Shapes.{AreHomesOf, AreRowHomesOf, IsHomeOf, bytes_in}
-use Rattle.tables.specs.Blocks.{plain_from, plain_in, plain_rows}
+use Rattle.tables.specs.Shapes.{AreHomesOf, AreRowHomesOf, HasHomes, IsHomeOf, bytes_in}
+use Rattle.tables.specs.Blocks.{plain_columns, plain_from, plain_in, plain_rows}
 use Rattle.tables.proofs.Lists.{At, drop_at}
 use Rattle.tables.proofs.Values.{column_fits, rows_inside}
-use Rattle.recovery.specs.Commits.{IsHomed, blocks_at, bodies_of, column_blocks, entries_of, entry_of, memos_at}
+use Rattle.struct_text.proofs.Lengths.{structure_is}
+use Rattle.view_store.specs.Views.{IsView, NamedTable, view_names}
+use Rattle.recovery.specs.Commits.{Commit, IsCommit, IsHomed, blocks_at, bodies_of, column_blocks, dir_block, directory, entries_of, entry_of, memos_at, plain_views, version_of, view_entry}
 use Rattle.recovery.proofs.Memos.{memo_rows-from, memos_fit, rows_from}
 use Rattle.recovery.proofs.Widths.{integers_held, least_at_most, longs_held, packed_long, sizes_held}
 
@@ -89,11 +91,11 @@ strings_are end values rows sizes short memos count fit same sited =
     }
 
 -- each column of rows from a place on is of its property
-abbrev ColumnsFit : Heading → ℕ → List (List Datum) → Type 0
+abbrev pub ColumnsFit : Heading → ℕ → List (List Datum) → Type 0
 ColumnsFit no_attributes k rows = Unit {0}
 ColumnsFit (attribute n e rest) k rows = All (λ d. IsOf d e) (column_of rows k) × ColumnsFit rest (k + 1) rows
 
-columns_fit : (g : Heading) (schema : List Attribute) (k : ℕ) (rows : List (List Datum)) → drop k schema ≡ attributes_of g → All (λ r. IsRowOf r schema) rows → ColumnsFit g k rows
+pub columns_fit : (g : Heading) (schema : List Attribute) (k : ℕ) (rows : List (List Datum)) → drop k schema ≡ attributes_of g → All (λ r. IsRowOf r schema) rows → ColumnsFit g k rows
 columns_fit no_attributes schema k rows at h = tt
 columns_fit (attribute n e rest) schema k rows at h =
     let found = drop_at schema k (record { name = n; domain = e }) (attributes_of rest) (record { name = []; domain = Domain.integer }) at in
@@ -103,7 +105,7 @@ columns_fit (attribute n e rest) schema k rows at h =
 one_of : (end : ℕ) (c : PlainColumn) → All (IsPlacedBelow end) (c ∷ []) → IsPlacedBelow end c
 one_of end c h = All-head (IsPlacedBelow end) c [] h
 
-split_all : {X : Type 0} (P : X → Type 0) (xs ys : List X) → All P (xs ++ ys) → All P xs × All P ys
+pub split_all : {X : Type 0} (P : X → Type 0) (xs ys : List X) → All P (xs ++ ys) → All P xs × All P ys
 split_all P [] ys h = (All-nil P, h)
 split_all P (x ∷ xs) ys h = let rest = split_all P xs ys (All-tail P x (xs ++ ys) h) in (All-cons P x xs (All-head P x (xs ++ ys) h) rest.0, rest.1)
 
@@ -159,3 +161,58 @@ mutual
       let parts = split_all (IsPlacedBelow end) (plain_in h e (column_of rows k)) (plain_from rest others (k + 1) rows) placed in
       (subst (λ m. IsEntry end m e (entry_of h e (column_of rows k))) (length-map rows (λ (r : List Datum). get_or r k (integer (pos 0)))) (entry_fits end h e (column_of rows k) s.0 fit.0 parts.0),
       entries_fit end rest others (k + 1) rows s.1 fit.1 parts.1)
+
+pub each_part : {X Y : Type 0} (P : Y → Type 0) (f : X → List Y) (xs : List X) → All P (flat_map f xs) → All (λ x. All P (f x)) xs
+each_part P f [] h = All-nil (λ x. All P (f x))
+each_part P f (x ∷ xs) h =
+    let parts = split_all P (f x) (flat_map f xs) h in
+    All-cons (λ x. All P (f x)) x xs parts.0 (each_part P f xs parts.1)
+
+placed_below : (end : ℕ) (columns : List PlainColumn) → All IsHomed columns → All (λ c. All (IsSited end) (column_blocks c)) columns → All (IsPlacedBelow end) columns
+placed_below end [] h s = All-nil (IsPlacedBelow end)
+placed_below end (c ∷ columns) h s =
+    All-cons (IsPlacedBelow end) c columns (record { homed = All-head IsHomed c columns h; sited = All-head (λ c. All (IsSited end) (column_blocks c)) c columns s })
+    (placed_below end columns (All-tail IsHomed c columns h) (All-tail (λ c. All (IsSited end) (column_blocks c)) c columns s))
+
+view_fits : (end : ℕ) (v : NamedTable) → IsView v → HasHomes v.table → All (IsPlacedBelow end) (plain_columns v.table) → IsViewEntry end (view_entry v)
+view_fits end v is shaped placed =
+    let schema = v.table.schema in
+    record {
+      named = is.name;
+      whole = is.table.schema;
+      short = subst (λ n. n ≤ max_structure) (structure_is v.name schema is.table.schema) is.short;
+      few = is.table.rows.few;
+      entries = entries_fit end (column_homes v.table.homes) (heading_of schema) 0 v.table.rows shaped
+          (columns_fit (heading_of schema) schema 0 v.table.rows (sym (attributes_of-heading_of schema)) is.table.rows.whole) placed;
+    }
+
+views_fit : (end : ℕ) (views : List NamedTable) → All IsView views → All (λ v. HasHomes v.table) views → All (IsPlacedBelow end) (plain_views views) → All (IsViewEntry end) (map view_entry views)
+views_fit end [] is shaped placed = All-nil (IsViewEntry end)
+views_fit end (v ∷ views) is shaped placed =
+    let parts = split_all (IsPlacedBelow end) (plain_columns v.table) (plain_views views) placed in
+    All-cons (IsViewEntry end) (view_entry v) (map view_entry views)
+    (view_fits end v (All-head IsView v views is) (All-head (λ v. HasHomes v.table) v views shaped) parts.0)
+    (views_fit end views (All-tail IsView v views is) (All-tail (λ v. HasHomes v.table) v views shaped) parts.1)
+
+names_differ : (views : List NamedTable) → AllPairs (λ a b. a ≢ b) (view_names views) → AllPairs (λ v w. v.name ≢ w.name) (map view_entry views)
+names_differ views h i j d p q same =
+    let one = length-map views view_entry in
+    let other = length-map views (λ (v : NamedTable). v.name) in
+    h i j d.name p (omega (arith, q, one, other))
+    (name_at views i d (omega (arith, p, q, one)) ∙ same ∙ sym (name_at views j d (omega (arith, q, one))))
+  where
+    name_at : (vs : List NamedTable) (k : ℕ) (d : ViewEntry) → k < length vs → get_or (view_names vs) k d.name ≡ (get_or (map view_entry vs) k d).name
+    name_at [] k d p = refl
+    name_at (v ∷ vs) zero d p = refl
+    name_at (v ∷ vs) (suc k) d p = name_at vs k d (omega arith)
+
+pub dir_of_commit : (c : Commit) → IsCommit c → IsDir (version_of c.notes) c.number c.end (directory c.views c.notes)
+dir_of_commit c whole =
+    let columns = split_all (IsSited c.end) (flat_map column_blocks (plain_views c.views)) (dir_block c ∷ []) whole.sited in
+    let placed = placed_below c.end (plain_views c.views) whole.homed (each_part (IsSited c.end) column_blocks (plain_views c.views) columns.0) in
+    record {
+      few = let p = whole.views.few in let e = length-map c.views view_entry in omega (arith, p, e);
+      distinct = names_differ c.views whole.views.distinct;
+      each = views_fit c.end c.views whole.views.whole whole.shaped placed;
+      notes = whole.notes;
+    }
