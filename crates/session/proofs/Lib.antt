@@ -1,6 +1,5 @@
 pub mod Dues
 pub mod Fitted
-pub mod Lengths
 pub mod Readings
 pub mod Ready
 pub mod Stepped

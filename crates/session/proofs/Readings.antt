@@ -28,7 +28,7 @@ use Rattle.struct_text.specs.Spelling.{spelling}
 use Rattle.struct_text.proofs.Moves.{run-yes}
 use Rattle.session.specs.Lines.{IsOfLine, is_blank, is_quit}
 use Rattle.session.proofs.Fitted.{both_true}
-use Rattle.session.proofs.Lengths.{spelling_some}
+use Rattle.struct_text.proofs.Lengths.{spelling_some}
 
 -- bytes that are all spaces
 abbrev Blank : List ℕ → Type 0

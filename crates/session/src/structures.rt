@@ -3,7 +3,8 @@ ghost use Rattle.std.specs.Prelude.{◌≡◌, ◌⊎◌, ◌<◌, ◌≤◌, []
 ghost use Rattle.restructure.specs.Restructuring.{restructured};
 ghost use Rattle.struct_text.specs.Spelling.{spelling};
 ghost use Rattle.mk_value.specs.Limits.{max_structure, max_views};
-ghost use Rattle.view_store.specs.Views.{structure_length, table_of, without_view, with_view};
+ghost use Rattle.struct_text.specs.Lengths.{structure_length};
+ghost use Rattle.view_store.specs.Views.{table_of, without_view, with_view};
 ghost use Rattle.tables.specs.Tables.{table_without_homes};
 ghost use Rattle.session.specs.Refusals.{AnswersDue, drop_due, getas_due};
 ghost use Rattle.session.specs.Structures.{structured};

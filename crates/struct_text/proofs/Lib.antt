@@ -12,3 +12,4 @@ pub mod Unique
 pub mod Strict
 pub mod Whole
 pub mod PrintParts
+pub mod Lengths

@@ -1,5 +1,6 @@
 pub mod Bytes
 pub mod Grammar
+pub mod Lengths
 pub mod Offences
 pub mod Spelling
 pub mod Walk

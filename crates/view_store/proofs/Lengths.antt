@@ -2,7 +2,7 @@
 use Rattle.std.proofs.Common.{◌≡◌, ℕ, ◌+◌, ◌<◌, ◌≤◌, List, [], ◌∷◌, length, get_or, drop, ap, arith, codes, refl}
 use Rattle.mk_value.specs.Heading.{Domain, Heading, no_attributes, attribute, Attribute, heading_of}
 use Rattle.mk_value.proofs.Walks.{drop_read}
-use Rattle.view_store.specs.Views.{domain_length, properties_length, structure_length}
+use Rattle.struct_text.specs.Lengths.{domain_length, properties_length, structure_length}
 
 pub properties_length-some : (h : Heading) → 1 ≤ properties_length h
 properties_length-some no_attributes = omega arith

@@ -20,7 +20,8 @@ use Rattle.view_store.specs.Refusals.{AnswersDue, at_view, due, due_in, look_due
 use Rattle.tables.specs.Tables.{StoredTable, IsTable, HasNoHomes, table_without_homes}
 use Rattle.view_store.specs.Edits.{Edit, edited, table_at}
 use Rattle.mk_value.specs.Limits.{max_structure, max_views}
-use Rattle.view_store.specs.Views.{NamedTable, IsView, IsPlainRoot, view_names, named, table_of, with_view, without_view, edited_views, view_at, structure_length}
+use Rattle.struct_text.specs.Lengths.{structure_length}
+use Rattle.view_store.specs.Views.{NamedTable, IsView, IsPlainRoot, view_names, named, table_of, with_view, without_view, edited_views, view_at}
 use Rattle.view_store.proofs.Named.{IsPlace, IsAbsent, no_view, retabled, table_of-place, table_of-absent, with_view-place, with_view-absent, without_view-place, edited_views-place, view_names-named, length-named, named-set, named-remove, named-push, get_or-named}
 
 -- names with the same bytes are one

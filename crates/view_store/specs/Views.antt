@@ -4,8 +4,8 @@ use Rattle.std.specs.Coded.{Coded, code_by, coded_ℕ, coded_list, coded×}
 use Rattle.std.specs.Option.{option_map}
 use Rattle.mk_value.specs.Limits.{max_structure, max_views}
 use Rattle.mk_value.specs.Names.{IsName, same_bytes}
-use Rattle.mk_value.specs.Heading.{Domain, Heading, no_attributes, attribute, Attribute, heading_of}
 use Rattle.mk_value.specs.Paths.{Route}
+use Rattle.struct_text.specs.Lengths.{structure_length}
 use Rattle.tables.specs.Tables.{StoredTable, IsTable, HasNoHomes, stored_code}
 use Rattle.view_store.specs.Edits.{Edit, edited, table_at}
 
@@ -17,20 +17,6 @@ pub record NamedTable : Type 0 where
 abbrev pub views_code : Coded (List NamedTable)
 views_code =
     coded_list (code_by (List ℕ × StoredTable) (coded× (coded_list coded_ℕ) stored_code) (λ v. (v.name, v.table)) (λ p. record { name = p.0; table = p.1 }) (λ _. refl))
-
--- the number of bytes of a structure text: a name, and in brackets the properties, with commas between them.
--- A plain property is a name, a colon and a letter; a view property is a name and its own properties in brackets.
-abbrev mutual
-  pub domain_length : Domain → ℕ
-  domain_length (Domain.relation h) = properties_length h
-  domain_length _ = 2
-
-  pub properties_length : Heading → ℕ
-  properties_length no_attributes = 1
-  properties_length (attribute name e rest) = length name + domain_length e + 1 + properties_length rest
-
-abbrev pub structure_length : List ℕ → List Attribute → ℕ
-structure_length name schema = length name + properties_length (heading_of schema)
 
 -- the names of the views, in order
 abbrev pub view_names : List NamedTable → List (List ℕ)

@@ -10,7 +10,8 @@ ghost use Rattle.view_store.specs.Changes.{FitsSizes, edit_of};
 ghost use Rattle.view_store.specs.Edits.{Edit, table_at};
 ghost use Rattle.view_store.specs.Refusals.{AnswersDue, due, look_due, schema_of};
 ghost use Rattle.view_store.specs.Rests.{MayReplace, ViewsRestOn};
-ghost use Rattle.view_store.specs.Views.{AreViews, edited_views, structure_length, table_of, view_at, view_names, with_view, without_view};
+ghost use Rattle.struct_text.specs.Lengths.{structure_length};
+ghost use Rattle.view_store.specs.Views.{AreViews, edited_views, table_of, view_at, view_names, with_view, without_view};
 ghost use Rattle.view_store.specs.declared.error.EditError.TheVariants as edit_error;
 
 use crate::change::Change;

@@ -3,7 +3,7 @@ ghost use Rattle.std.specs.Prelude.{◌≡◌, ◌↔◌, ◌+◌, ◌<◌, ◌�
 ghost use Rattle.mk_value.specs.Heading.{heading_of};
 ghost use Rattle.mk_value.specs.Kinds.{domain_of};
 ghost use Rattle.mk_value.specs.Limits.{max_structure};
-ghost use Rattle.view_store.specs.Views.{domain_length, properties_length, structure_length};
+ghost use Rattle.struct_text.specs.Lengths.{domain_length, properties_length, structure_length};
 
 use mk_value::{Kind, MAX_STRUCTURE, Name, Schema};
 

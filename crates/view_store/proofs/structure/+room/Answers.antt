@@ -2,7 +2,7 @@ use Rattle.std.proofs.Common.{◌≡◌, ◌+◌, ◌<◌, length, MatchOption, 
 use Rattle.mk_value.specs.Heading.{Attribute, heading_of, domain_weight, attributes_weight}
 use Rattle.mk_value.specs.Kinds.{domain_of}
 use Rattle.mk_value.proofs.Headings.{weight_read, heading_weight-heading_of}
-use Rattle.view_store.specs.Views.{domain_length, properties_length}
+use Rattle.struct_text.specs.Lengths.{domain_length, properties_length}
 use Rattle.view_store.proofs.Lengths.{properties_length-next, properties_length-some}
 use Rattle.view_store.proofs.structure.+room.Goals as goal
 

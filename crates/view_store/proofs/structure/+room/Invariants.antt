@@ -1,7 +1,7 @@
 use Rattle.std.proofs.Common.{◌≡◌, ◌+◌, drop}
 use Rattle.mk_value.specs.Heading.{heading_of, attributes_weight, domain_weight}
 use Rattle.mk_value.specs.Kinds.{domain_of}
-use Rattle.view_store.specs.Views.{properties_length}
+use Rattle.struct_text.specs.Lengths.{properties_length}
 use Rattle.view_store.proofs.structure.+room.Given as goal
 
 abbrev pub decreases-room_after : goal.decreases-room_after

@@ -1,5 +1,5 @@
 use Rattle.std.proofs.Common.{arith}
-use Rattle.session.proofs.Lengths.{structure_is}
+use Rattle.struct_text.proofs.Lengths.{structure_is}
 use Rattle.session.proofs.session.Session.getas.Goals as goal
 
 pub declare-requires : goal.declare-requires

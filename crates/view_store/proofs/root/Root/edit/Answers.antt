@@ -6,7 +6,8 @@ use Rattle.view_store.specs.Edits.{edited}
 use Rattle.view_store.specs.Refusals.{AnswersDue, due_in}
 use Rattle.tables.specs.Tables.{StoredTable, HasNoHomes}
 use Rattle.mk_value.specs.Limits.{max_structure}
-use Rattle.view_store.specs.Views.{named, structure_length}
+use Rattle.struct_text.specs.Lengths.{structure_length}
+use Rattle.view_store.specs.Views.{named}
 use Rattle.view_store.proofs.Editing.{by_answer, OnOk-then}
 use Rattle.view_store.proofs.Named.{IsPlace-position, IsAbsent-position, no_view}
 use Rattle.tables.proofs.Resting.{Rest-none}

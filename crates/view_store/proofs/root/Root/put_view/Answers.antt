@@ -2,7 +2,8 @@ use Rattle.std.proofs.Common.{◌<◌, ◌≤◌, length, ap, sym, subst, ◌∙
 use Rattle.std.proofs.lemmas.List.Elements.{All-set}
 use Rattle.tables.specs.Tables.{HasNoHomes}
 use Rattle.mk_value.specs.Limits.{max_structure}
-use Rattle.view_store.specs.Views.{IsView, structure_length}
+use Rattle.struct_text.specs.Lengths.{structure_length}
+use Rattle.view_store.specs.Views.{IsView}
 use Rattle.view_store.proofs.Named.{IsPlace-position, IsAbsent-position}
 use Rattle.tables.proofs.Resting.{Rest-none}
 use Rattle.view_store.proofs.Resting.{homed_views-named}

@@ -5,7 +5,7 @@ use Rattle.mk_value.specs.Heading.{Domain, Heading, no_attributes, attribute, At
 use Rattle.mk_value.proofs.Headings.{AreAttributes-heading_of, attributes_of-heading_of}
 use Rattle.struct_text.specs.Bytes.{open_bracket, close_bracket, comma}
 use Rattle.struct_text.specs.Spelling.{spelled_domain, spelled_properties, spelling}
-use Rattle.view_store.specs.Views.{domain_length, properties_length, structure_length}
+use Rattle.struct_text.specs.Lengths.{domain_length, properties_length, structure_length}
 
 brackets : (inside : List ℕ) → length (open_bracket ∷ (inside ++ close_bracket ∷ [])) ≡ length inside + 2
 brackets inside = let e = length-append inside (close_bracket ∷ []) in omega (arith, e)
@@ -44,7 +44,7 @@ mutual
       let others = properties_are rest whole.2 in
       let joined = properties_cons n d rest in omega (arith, first, others, joined)
 
--- what view_store takes for the length of a structure text is the length of its spelling
+-- the length of a structure text is that of its spelling
 pub structure_is : (name : List ℕ) (schema : List Attribute) → IsHeading schema → structure_length name schema ≡ length (spelling name schema)
 structure_is name schema whole =
     let h = heading_of schema in
