@@ -1,7 +1,8 @@
-mod Directories
-mod EntriesOf
+pub mod Directories
+pub mod EntriesOf
+pub mod Exact
 pub mod Footprints
 mod Memos
 mod OneRow
-mod PlainParts
-mod Widths
+pub mod PlainParts
+pub mod Widths

@@ -79,3 +79,18 @@ memos_fit end (v ∷ values) k rows memos e fit long sited = by_size (is_short v
             (omega arith, omega (arith, e), site.site, omega (arith, n, big), omega (arith, n, size),
             rest ms (omega (arith, l)) (All-tail (IsSited end) (block m v) (blocks_at ms (long_values values)) s)))
             (All-head (IsSited end) (block m v) (blocks_at ms (long_values values)) s)
+
+-- there are as many rows of memos as memos
+pub rows_long : (k : ℕ) (values : List (List ℕ)) → length (rows_from k values) ≡ length (long_values values)
+unfolding rows_from
+rows_long k [] = refl
+rows_long k (v ∷ values) = by_size (is_short v) refl (rows_long (k + 1) values)
+  where
+    by_size : (b : Bool) → is_short v ≡ b → length (rows_from (k + 1) values) ≡ length (long_values values)
+        → length (cond (is_short v) (rows_from (k + 1) values) (k ∷ rows_from (k + 1) values)) ≡ length (cond (not (is_short v)) (v ∷ long_values values) (long_values values))
+    by_size true e rest =
+        ap (λ (t : Bool). length (cond t (rows_from (k + 1) values) (k ∷ rows_from (k + 1) values))) e ∙ rest
+        ∙ sym (ap (λ (t : Bool). length (cond (not t) (v ∷ long_values values) (long_values values))) e)
+    by_size false e rest =
+        ap (λ (t : Bool). length (cond t (rows_from (k + 1) values) (k ∷ rows_from (k + 1) values))) e ∙ ap suc rest
+        ∙ sym (ap (λ (t : Bool). length (cond (not t) (v ∷ long_values values) (long_values values))) e)

@@ -25,7 +25,7 @@ use Rattle.view_store.specs.Rests.{homed_views}
 use Rattle.recovery.specs.Commits.{Commit, IsCommit, IsHomed, blocks_at, column_blocks, commit_blocks, dir_block, directory, footprint_of, mark_of, plain_views, version_of}
 use Rattle.recovery.proofs.Footprints.{footprint_whole}
 use Rattle.storage.specs.Following.{FollowsAt, MayFollow, blocks_due, commit_spans, is_some, last_end, noted, settled_at, writes_at}
-use Rattle.storage.proofs.Columns.{IsPlain, blocks_at-append, columns_spans, plain_views-are, spans_of-blocks_at}
+use Rattle.recovery.proofs.PlainParts.{IsPlainPart, blocks_at-append, columns_spans, spans_of-blocks_at, views_parts}
 use Rattle.storage.proofs.Settling.{AreSettled, homed, new_blocks, old_blocks, settle_all}
 use Rattle.storage.proofs.SameRows.{out_of_map, same_rows_whole}
 use Rattle.storage.proofs.Noted.{noted_are}
@@ -126,8 +126,8 @@ module _ (floor : ℕ) (kept : Commit) (views : List NamedTable) (note : List �
   abbrev all : List Span
   all = spans ++ next.dir ∷ []
 
-  plain : All IsPlain columns
-  plain = plain_views-are views may.shaped
+  plain : All IsPlainPart columns
+  plain = views_parts views may.views_are.whole may.shaped
 
   lens_are : map length (blocks_due columns) ++ next.dir.len ∷ [] ≡ map length bytes
   lens_are = ap (λ n. map length (blocks_due columns) ++ n ∷ []) f.dir ∙ sym (map-append length (blocks_due columns) (spelled (directory next.views next.notes) ∷ []))
@@ -172,8 +172,8 @@ module _ (floor : ℕ) (kept : Commit) (views : List NamedTable) (note : List �
   put_split : blocks_at all bytes ≡ new_blocks columns spans ++ dir_block next ∷ []
   put_split = blocks_at-append spans (next.dir ∷ []) (blocks_due columns) (spelled (directory next.views next.notes) ∷ []) long
 
-  kept_plain : All IsPlain (plain_views kept.views)
-  kept_plain = plain_views-are kept.views whole.shaped
+  kept_plain : All IsPlainPart (plain_views kept.views)
+  kept_plain = views_parts kept.views whole.views.whole whole.shaped
 
   rests : Rest (homed columns) (plain_views kept.views)
   rests =
@@ -210,7 +210,7 @@ module _ (floor : ℕ) (kept : Commit) (views : List NamedTable) (note : List �
   next_spans : commit_spans next ≡ blocks (settled_at columns spans) ++ next.dir ∷ []
   next_spans =
       map-append (λ b. b.span) (flat_map column_blocks (plain_views next.views)) (dir_block next ∷ [])
-      ∙ ap (λ ss. ss ++ next.dir ∷ []) (columns_spans (plain_views next.views) (plain_views-are next.views f.shaped) ∙ ap blocks f.settled_columns)
+      ∙ ap (λ ss. ss ++ next.dir ∷ []) (columns_spans (plain_views next.views) (views_parts next.views (same_rows_whole next.views views f.same_rows may.views_are).whole f.shaped) ∙ ap blocks f.settled_columns)
 
   old_in : (b : Block) → Contains (old_blocks columns) b → Contains (commit_blocks kept) b
   old_in b h =

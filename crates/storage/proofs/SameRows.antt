@@ -8,7 +8,8 @@ use Rattle.mk_value.specs.Names.{IsName}
 use Rattle.mk_value.specs.Heading.{IsHeading}
 use Rattle.mk_value.specs.Data.{AreRowsOf}
 use Rattle.tables.specs.Tables.{IsTable}
-use Rattle.view_store.specs.Views.{AreViews, IsView, NamedTable, structure_length, view_names}
+use Rattle.struct_text.specs.Lengths.{structure_length}
+use Rattle.view_store.specs.Views.{AreViews, IsView, NamedTable, view_names}
 use Rattle.storage.specs.Following.{NamedRows, rows_of_views}
 
 -- a whole view, its homes left out

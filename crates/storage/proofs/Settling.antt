@@ -13,7 +13,8 @@ use Rattle.tables.specs.Blocks.{is_homed}
 use Rattle.tables.proofs.Apart.{Clear, apart_clear, apart_join, apart_left, apart_right}
 use Rattle.recovery.specs.Commits.{blocks_at, column_blocks}
 use Rattle.storage.specs.Following.{blocks_due, due_of, home_at, settled, settled_at}
-use Rattle.storage.proofs.Columns.{IsPlain, IsSettledColumn, kept, placed, settled-is, blocks_at-append}
+use Rattle.recovery.proofs.PlainParts.{IsPlainPart, blocks_at-append}
+use Rattle.storage.proofs.Columns.{IsSettledColumn, kept, placed, settled-is}
 
 abbrev pub homed : List PlainColumn → List PlainColumn
 homed columns = filter is_homed columns
@@ -33,7 +34,7 @@ IsOldOrNewSpan old new s = Contains old s ⊎ Contains new s
 
 -- what holds of columns after they were settled at these spans
 pub record AreSettled (columns : List PlainColumn) (spans : List Span) : Type 0 where
-  pub plain : All IsPlain (settled_at columns spans)
+  pub plain : All IsPlainPart (settled_at columns spans)
   pub homes : All (λ c. is_homed c ≡ true) (settled_at columns spans)
   pub among : All (IsOldOrNew (old_blocks columns) (new_blocks columns spans)) (flat_map column_blocks (settled_at columns spans))
   pub spans_among : All (IsOldOrNewSpan (blocks (homed columns)) spans) (blocks (settled_at columns spans))
@@ -49,7 +50,7 @@ filter-left_out : (c : PlainColumn) (columns : List PlainColumn) → is_homed c 
 filter-left_out c columns e = ap (λ (b : Bool). cond b (c ∷ homed columns) (homed columns)) e
 
 -- a column that has a home, before others that are settled
-settle_kept : (c : PlainColumn) (columns : List PlainColumn) (spans : List Span) → IsPlain c → is_homed c ≡ true → due_of c ≡ [] → ((s : List Span) → settled c s ≡ c) → AreSettled columns spans → AreSettled (c ∷ columns) spans
+settle_kept : (c : PlainColumn) (columns : List PlainColumn) (spans : List Span) → IsPlainPart c → is_homed c ≡ true → due_of c ≡ [] → ((s : List Span) → settled c s ≡ c) → AreSettled columns spans → AreSettled (c ∷ columns) spans
 settle_kept c columns spans plain e due same rest =
     let n : length (due_of c) ≡ 0 = ap length due in
     let now : settled_at (c ∷ columns) spans ≡ c ∷ settled_at columns spans =
@@ -58,7 +59,7 @@ settle_kept c columns spans plain e due same rest =
     let wanted : blocks_due (c ∷ columns) ≡ blocks_due columns = ap (λ bs. bs ++ blocks_due columns) due in
     let one = column_blocks c in
     record {
-      plain = subst (All IsPlain) (sym now) (All-cons IsPlain c (settled_at columns spans) plain rest.plain);
+      plain = subst (All IsPlainPart) (sym now) (All-cons IsPlainPart c (settled_at columns spans) plain rest.plain);
       homes = subst (All (λ d. is_homed d ≡ true)) (sym now) (All-cons (λ d. is_homed d ≡ true) c (settled_at columns spans) e rest.homes);
       among =
           subst (λ cs. All (IsOldOrNew (flat_map column_blocks cs) (new_blocks (c ∷ columns) spans)) (flat_map column_blocks (settled_at (c ∷ columns) spans))) (sym had)
@@ -89,7 +90,7 @@ settle_kept c columns spans plain e due same rest =
 
 -- a column that gets these spans, before others that are settled
 settle_placed : (c : PlainColumn) (columns : List PlainColumn) (front back : List Span) → is_homed c ≡ false → length front ≡ length (due_of c)
-    → column_blocks (settled c front) ≡ blocks_at front (due_of c) → blocks_of (settled c front).home ≡ front → is_homed (settled c front) ≡ true → IsPlain (settled c front)
+    → column_blocks (settled c front) ≡ blocks_at front (due_of c) → blocks_of (settled c front).home ≡ front → is_homed (settled c front) ≡ true → IsPlainPart (settled c front)
     → settled_at (c ∷ columns) (front ++ back) ≡ settled c front ∷ settled_at columns back
     → AreSettled columns back → AreSettled (c ∷ columns) (front ++ back)
 settle_placed c columns front back e long its at has plain now rest =
@@ -98,7 +99,7 @@ settle_placed c columns front back e long its at has plain now rest =
     let new : new_blocks (c ∷ columns) (front ++ back) ≡ one ++ new_blocks columns back = blocks_at-append front back (due_of c) (blocks_due columns) long in
     let others = settled_at columns back in
     record {
-      plain = subst (All IsPlain) (sym now) (All-cons IsPlain (settled c front) others plain rest.plain);
+      plain = subst (All IsPlainPart) (sym now) (All-cons IsPlainPart (settled c front) others plain rest.plain);
       homes = subst (All (λ d. is_homed d ≡ true)) (sym now) (All-cons (λ d. is_homed d ≡ true) (settled c front) others has rest.homes);
       among =
           subst (λ cs. All (IsOldOrNew (flat_map column_blocks cs) (new_blocks (c ∷ columns) (front ++ back))) (flat_map column_blocks (settled_at (c ∷ columns) (front ++ back)))) (sym left)
@@ -131,15 +132,15 @@ settle_placed c columns front back e long its at has plain now rest =
     }
 
 -- all columns, at as many spans as they are due blocks
-pub settle_all : (columns : List PlainColumn) (spans : List Span) → All IsPlain columns → length spans ≡ length (blocks_due columns) → AreSettled columns spans
+pub settle_all : (columns : List PlainColumn) (spans : List Span) → All IsPlainPart columns → length spans ≡ length (blocks_due columns) → AreSettled columns spans
 settle_all [] spans plain long = record {
-  plain = All-nil IsPlain;
+  plain = All-nil IsPlainPart;
   homes = All-nil (λ c. is_homed c ≡ true);
   among = All-nil (IsOldOrNew [] (blocks_at spans []));
   spans_among = All-nil (IsOldOrNewSpan [] spans);
   apart = λ old new clear. old;
 }
-settle_all (c ∷ columns) spans plain long = by_column (λ s e. settle_all columns s (All-tail IsPlain c columns plain) e) (settled-is c (take (length (due_of c)) spans) (All-head IsPlain c columns plain) front_long)
+settle_all (c ∷ columns) spans plain long = by_column (λ s e. settle_all columns s (All-tail IsPlainPart c columns plain) e) (settled-is c (take (length (due_of c)) spans) (All-head IsPlainPart c columns plain) front_long)
   where
     made : List Span → PlainColumn
     made s = record { domain = c.domain; values = c.values; home = home_at c.domain s }
@@ -151,7 +152,7 @@ settle_all (c ∷ columns) spans plain long = by_column (λ s e. settle_all colu
     back_long = let e = ap length (take-append-drop (length (due_of c)) spans) in let f = length-append (take (length (due_of c)) spans) (drop (length (due_of c)) spans) in let g = front_long in omega (arith, e, f, g, long, whole)
     by_column : ((s : List Span) → length s ≡ length (blocks_due columns) → AreSettled columns s) → IsSettledColumn c (take (length (due_of c)) spans) → AreSettled (c ∷ columns) spans
     by_column rest (kept e due same) =
-        settle_kept c columns spans (All-head IsPlain c columns plain) e due (λ s. ap (λ (b : Bool). cond b c (made s)) e)
+        settle_kept c columns spans (All-head IsPlainPart c columns plain) e due (λ s. ap (λ (b : Bool). cond b c (made s)) e)
         (rest spans (long ∙ ap (λ bs. length (bs ++ blocks_due columns)) due))
     by_column rest (placed e wanted none its at has is) =
         subst (AreSettled (c ∷ columns)) (take-append-drop (length (due_of c)) spans)
