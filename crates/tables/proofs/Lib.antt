@@ -2,6 +2,7 @@ pub mod Apart
 pub mod ColumnwiseHomes
 pub mod EditedColumns
 pub mod EditedTables
+pub mod Gathering
 pub mod Homeless
 pub mod Lists
 pub mod PlainColumns

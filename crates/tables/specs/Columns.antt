@@ -21,6 +21,10 @@ pub data StoredColumn : Type 0 where
   texts : Strings → StoredColumn
   views : List StoredTable → StoredColumn
 
+-- what stands for a column where there is none
+abbrev pub no_column : StoredColumn
+no_column = views []
+
 -- the home of a column
 abbrev pub home_of_numbers : Option Span → Home
 home_of_numbers None = no_home
