@@ -4,6 +4,7 @@ pub mod Falls
 pub mod HomeCode
 pub mod Homes
 pub mod Lists
+pub mod Read
 pub mod Rests
 pub mod Rows
 pub mod Shapes

@@ -5,6 +5,7 @@
 #![tactic(auto)]
 
 mod cols;
+mod column;
 mod shared;
 mod table;
 mod tables;

@@ -1,10 +1,18 @@
 //! A table.
-ghost use Rattle.std.specs.Prelude.{◌≡◌, IfOk};
+ghost use Rattle.std.specs.Prelude.{◌≡◌, ◌<◌, length, IfOk};
+ghost use Rattle.mk_value.specs.Kinds.{domain_of};
+ghost use Rattle.mk_value.specs.Tables.{domain_at};
 ghost use Rattle.tables.specs.Columns.{AreColumnsOf, table_of_columns};
+ghost use Rattle.tables.specs.Homes.{column_of};
+ghost use Rattle.tables.specs.Read.{IsWhole, values_read};
+ghost use Rattle.tables.specs.Shapes.{HasHomes};
+ghost use Rattle.tables.specs.Tables.{IsTable};
 
 use crate::Cols;
-use mk_value::{Memory, Schema};
+use crate::column::Column;
+use mk_value::{Lent, Memory, Schema, TableRead, Value};
 use std::alloc::Global;
+use std::cmp::Ordering;
 use std::marker::Model;
 
 /// A table: a schema, a number of rows, and a column for each property.
@@ -34,4 +42,54 @@ impl Model for Table {
     ghost use Rattle.tables.specs.Falls.{table_falls};
 
     ghost size_decreases = { λ t h. table_falls t h };
+}
+
+/// The table of these columns, with their homes.
+///
+/// # Errors
+///
+/// `Memory`.
+pub fn from_cols(alloc: Global, schema: Schema, rows: u32, cols: Cols) -> Result<Table, Memory>
+    requires { AreColumnsOf rows schema cols }
+    ensures { IfOk result (λ table. table ≡ table_of_columns rows schema cols) }
+{
+    Ok(Table {
+        schema: segments::Shared::of(alloc, schema)?,
+        rows,
+        cols,
+    })
+}
+
+impl Table {
+    /// How many rows there are, at most 16,777,216.
+    pub fn len(&self) -> usize
+        ensures value { result ≡ length self.now.rows }
+        ensures whole { IsTable self.now }
+        ensures homes { HasHomes self.now }
+    {
+        let _properties = self.schema.get().len();
+        self.rows as usize
+    }
+
+    /// The columns, one for each property, each with its home.
+    pub fn cols(&self) -> &Cols
+        ensures value { self.now ≡ table_of_columns (length self.now.rows) self.now.schema result.now }
+        ensures whole { AreColumnsOf (length self.now.rows) self.now.schema result.now }
+    {
+        &self.cols
+    }
+
+    /// A column, beside the kind of its values.
+    pub(crate) fn column(&self, col: usize) -> Column<'_>
+        requires { col < length self.now.schema }
+        ensures values { values_read result ≡ column_of self.now.rows col }
+        ensures whole { IsWhole result }
+        ensures kind { domain_of result.kind.now ≡ domain_at self.now.schema col }
+    {
+        let prop = &self.schema.get().as_slice()[col];
+        Column {
+            kind: &prop.kind,
+            col: &self.cols.as_slice()[col],
+        }
+    }
 }

@@ -78,4 +78,15 @@ impl Tables {
             kind: Kind::Empty(alloc),
         }
     }
+
+    /// The table at a place.
+    pub fn get(&self, at: usize) -> &Shared
+        requires { at < length self.now }
+        ensures { slice_get self.now at ≡ Some result.now }
+    {
+        match &self.kind {
+            Kind::Empty(_) => unreachable!(),
+            Kind::Many(list) => &list.items[at],
+        }
+    }
 }

@@ -1,0 +1,129 @@
+//! A column of a table as it is read.
+ghost use Rattle.std.specs.Prelude.{◌≡◌, ◌+◌, ◌<◌, ◌≤◌, length, map, take, drop, slice_index_or, pos, IfOk};
+ghost use Rattle.std.specs.Str.{IsUtf8};
+ghost use Rattle.mk_value.specs.Data.{Datum, integer};
+ghost use Rattle.mk_value.specs.Kinds.{domain_of};
+ghost use Rattle.mk_value.specs.Lending.{Lends};
+ghost use Rattle.mk_value.specs.Order.{value_cmp};
+ghost use Rattle.mk_value.specs.Tables.{AreNumbers, IsComparable, IsPlainDomain, number_in};
+ghost use Rattle.mk_value.specs.Values.{datum_of};
+ghost use Rattle.tables.specs.Columns.{integers, texts, views};
+ghost use Rattle.tables.specs.Stored.{stored_of};
+ghost use Rattle.tables.specs.Read.{IsIntegers, IsTexts, AreViews, IsWhole, values_read};
+
+use crate::cols::Col;
+use crate::tables::Tables;
+use bytes_col::BytesCol;
+use int_col::IntCol;
+use mk_value::{Kind, Lent, Memory, Text, Value};
+use std::alloc::Global;
+use std::cmp::Ordering;
+
+/// A column, beside the kind of its values.
+#[derive(Clone, Copy)]
+pub(crate) struct Column<'a> {
+    pub(crate) kind: &'a Kind,
+    pub(crate) col: &'a Col,
+}
+
+impl<'a> Column<'a> {
+    /// The numbers of a column that keeps numbers.
+    fn ints(&self) -> &'a IntCol
+        requires { IsIntegers (stored_of self.now.col.now) }
+        ensures { stored_of self.now.col.now ≡ integers result.now }
+    {
+        match self.col {
+            Col::Ints(column) => column,
+            _ => unreachable!(),
+        }
+    }
+
+    /// The byte strings of a column that keeps texts or byte strings.
+    fn blobs(&self) -> &'a BytesCol
+        requires { IsTexts (stored_of self.now.col.now) }
+        ensures { stored_of self.now.col.now ≡ texts result.now }
+    {
+        match self.col {
+            Col::Blobs(column) => column,
+            _ => unreachable!(),
+        }
+    }
+
+    /// The tables of a column that keeps tables.
+    pub(crate) fn views(&self) -> &'a Tables
+        requires { AreViews (stored_of self.now.col.now) }
+        ensures { stored_of self.now.col.now ≡ views result.now }
+    {
+        match self.col {
+            Col::Views(tables) => tables,
+            _ => unreachable!(),
+        }
+    }
+
+    /// The value at a row, lent.
+    pub(crate) fn lend(&self, row: usize) -> Lent<'a>
+        requires whole { IsWhole self.now }
+        requires row_in { row < length (values_read self.now) }
+        ensures { Lends result (slice_index_or (values_read self.now) row (integer (pos 0))) }
+    {
+        match self.kind {
+            Kind::I => Lent::I(self.ints().get(row) as i32),
+            Kind::L => Lent::L(self.ints().get(row)),
+            Kind::S => Lent::S(self.blobs().value(row)),
+            Kind::B => Lent::B(self.blobs().value(row)),
+            Kind::V(_) => Lent::V(self.views().get(row).table().len()),
+        }
+    }
+
+    /// The numbers from a row on, as many as there is place for.
+    pub(crate) fn fill(&self, from: usize, into: &mut [i64])
+        requires whole { IsWhole self.now }
+        requires numbers { AreNumbers (domain_of self.now.kind.now) }
+        requires within { from + length into.old ≤ length (values_read self.now) }
+        ensures { into.new ≡ take (length into.old) (drop from (map number_in (values_read self.now))) }
+    {
+        self.ints().read(from, into);
+    }
+
+    /// How the value at a row compares with another of its kind.
+    pub(crate) fn cmp_with(&self, row: usize, with: &Value) -> Ordering
+        requires whole { IsWhole self.now }
+        requires row_in { row < length (values_read self.now) }
+        requires comparable { IsComparable (datum_of with.now) (domain_of self.now.kind.now) }
+        ensures { result ≡ value_cmp (slice_index_or (values_read self.now) row (integer (pos 0))) (datum_of with.now) }
+    {
+        match with {
+            Value::I(number) => self.ints().get(row).cmp(&i64::from(*number)),
+            Value::L(number) => self.ints().get(row).cmp(number),
+            Value::S(text) => self.blobs().cmp_with(row, text.as_str().as_bytes()),
+            Value::B(bytes) => self.blobs().cmp_with(row, bytes.as_slice()),
+            Value::V(_) => unreachable!(),
+        }
+    }
+
+    /// How the values at two rows compare.
+    pub(crate) fn cmp_at(&self, a: usize, b: usize) -> Ordering
+        requires whole { IsWhole self.now }
+        requires first_in { a < length (values_read self.now) }
+        requires second_in { b < length (values_read self.now) }
+        requires plain { IsPlainDomain (domain_of self.now.kind.now) }
+        ensures { result ≡ value_cmp (slice_index_or (values_read self.now) a (integer (pos 0))) (slice_index_or (values_read self.now) b (integer (pos 0))) }
+    {
+        match self.kind {
+            Kind::I | Kind::L => self.ints().get(a).cmp(&self.ints().get(b)),
+            Kind::S | Kind::B => self.blobs().cmp_at(a, b),
+            Kind::V(_) => unreachable!(),
+        }
+    }
+}
+
+/// A text of these bytes.
+pub(crate) fn text_of(alloc: Global, bytes: &[u8]) -> Result<Text, Memory>
+    requires { IsUtf8 bytes.now }
+    ensures { IfOk result (λ text. text.bytes ≡ bytes.now) }
+{
+    match str::from_utf8(bytes) {
+        Ok(text) => Text::from_str(alloc, text),
+        Err(_) => unreachable!(),
+    }
+}
