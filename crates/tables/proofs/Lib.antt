@@ -6,5 +6,6 @@ pub mod Gathering
 pub mod Homeless
 pub mod Lists
 pub mod PlainColumns
+pub mod Reading
 pub mod Resting
 pub mod RowHomes

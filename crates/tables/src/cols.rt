@@ -78,4 +78,9 @@ impl Cols {
     {
         self.items.as_slice()
     }
+
+    /// The allocator of the list.
+    pub(crate) fn allocator(&self) -> Global {
+        *self.items.allocator()
+    }
 }

@@ -2,6 +2,7 @@
 ghost use Rattle.std.specs.Prelude.{◌≡◌, ◌+◌, ◌<◌, ◌≤◌, length, map, take, drop, slice_index_or, pos, IfOk};
 ghost use Rattle.std.specs.Str.{IsUtf8};
 ghost use Rattle.mk_value.specs.Data.{Datum, integer};
+ghost use Rattle.mk_value.specs.Heading.{Domain};
 ghost use Rattle.mk_value.specs.Kinds.{domain_of};
 ghost use Rattle.mk_value.specs.Lending.{Lends};
 ghost use Rattle.mk_value.specs.Order.{value_cmp};
@@ -125,5 +126,33 @@ pub(crate) fn text_of(alloc: Global, bytes: &[u8]) -> Result<Text, Memory>
     match str::from_utf8(bytes) {
         Ok(text) => Text::from_str(alloc, text),
         Err(_) => unreachable!(),
+    }
+}
+
+impl Column<'_> {
+    /// The value at a row, which has memory of its own.
+    #[cycle(copy)]
+    pub(crate) fn value(&self, alloc: Global, row: usize) -> Result<Value, Memory>
+        requires whole { IsWhole self.now }
+        requires row_in { row < length (values_read self.now) }
+        ensures { IfOk result (λ value. datum_of value ≡ slice_index_or (values_read self.now) row (integer (pos 0))) }
+    {
+        match self.kind {
+            Kind::I => Ok(Value::I(self.ints().get(row) as i32)),
+            Kind::L => Ok(Value::L(self.ints().get(row))),
+            Kind::S => Ok(Value::S(self.text(alloc, row)?)),
+            Kind::B => Ok(Value::B(self.blobs().get(row)?)),
+            Kind::V(_) => Ok(Value::V(self.views().get(row).table().to_rows(alloc)?)),
+        }
+    }
+
+    /// The text at a row of a column of texts.
+    fn text(&self, alloc: Global, row: usize) -> Result<Text, Memory>
+        requires whole { IsWhole self.now }
+        requires texts { domain_of self.now.kind.now ≡ Domain.text }
+        requires row_in { row < length (values_read self.now) }
+        ensures { IfOk result (λ text. Datum.text text.bytes ≡ slice_index_or (values_read self.now) row (integer (pos 0))) }
+    {
+        text_of(alloc, self.blobs().value(row))
     }
 }

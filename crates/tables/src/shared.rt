@@ -2,8 +2,9 @@
 ghost use Rattle.std.specs.Prelude.{◌≡◌, IfOk};
 
 use crate::Table;
-use mk_value::Memory;
+use mk_value::{Lent, Memory, Same, Schema, TableRead, Value};
 use std::alloc::{AllocError, Global};
+use std::cmp::Ordering;
 use std::marker::Model;
 use std::rc::Rc;
 
@@ -61,5 +62,50 @@ impl Shared {
         ensures { result.now ≡ self.now }
     {
         &self.table
+    }
+}
+
+impl TableRead for Shared {
+    ghost schema = { λ t. t.schema };
+
+    ghost rows = { λ t. t.rows };
+
+    fn schema(&self) -> &Schema {
+        self.table().schema()
+    }
+
+    fn size(&self) -> usize {
+        self.table().size()
+    }
+
+    fn get(&self, row: usize, col: usize) -> Result<Value, Memory> {
+        self.table().get(row, col)
+    }
+
+    fn lend(&self, row: usize, col: usize) -> Lent<'_> {
+        self.table().lend(row, col)
+    }
+
+    fn fill(&self, col: usize, from: usize, into: &mut [i64]) {
+        self.table().fill(col, from, into);
+    }
+
+    fn cmp_cell(&self, row: usize, col: usize, with: &Value) -> Ordering {
+        self.table().cmp_cell(row, col, with)
+    }
+
+    fn cmp_rows(&self, a: usize, b: usize, col: usize) -> Ordering {
+        self.table().cmp_rows(a, b, col)
+    }
+}
+
+impl Same for Shared {
+    /// The very same table, with one holder more. A count that is refused is `Memory`.
+    fn same(&self) -> Result<Shared, Memory>
+        ensures schema { IfOk result (λ table. table.schema ≡ self.now.schema) }
+        ensures rows { IfOk result (λ table. table.rows ≡ self.now.rows) }
+        ensures homes { IfOk result (λ table. table.homes ≡ self.now.homes) }
+    {
+        Ok(self.clone()?)
     }
 }

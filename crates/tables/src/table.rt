@@ -1,5 +1,5 @@
 //! A table.
-ghost use Rattle.std.specs.Prelude.{◌≡◌, ◌<◌, length, IfOk};
+ghost use Rattle.std.specs.Prelude.{◌≡◌, ◌<◌, [], length, slice_index_or, IfOk};
 ghost use Rattle.mk_value.specs.Kinds.{domain_of};
 ghost use Rattle.mk_value.specs.Tables.{domain_at};
 ghost use Rattle.tables.specs.Columns.{AreColumnsOf, table_of_columns};
@@ -10,7 +10,7 @@ ghost use Rattle.tables.specs.Tables.{IsTable};
 
 use crate::Cols;
 use crate::column::Column;
-use mk_value::{Lent, Memory, Schema, TableRead, Value};
+use mk_value::{Lent, Memory, Row, Rows, Schema, TableRead, Value};
 use std::alloc::Global;
 use std::cmp::Ordering;
 use std::marker::Model;
@@ -91,5 +91,83 @@ impl Table {
             kind: &prop.kind,
             col: &self.cols.as_slice()[col],
         }
+    }
+
+    /// The rows, with memory of their own.
+    ///
+    /// # Errors
+    ///
+    /// `Memory`.
+    #[cycle(copy)]
+    pub fn to_rows(&self, alloc: Global) -> Result<Rows, Memory>
+        ensures { IfOk result (λ rows. rows ≡ self.now.rows) }
+    {
+        let mut rows = Rows::new(alloc);
+        for at in 0..self.len() {
+            rows.push(self.row(alloc, at)?)?;
+        }
+        Ok(rows)
+    }
+
+    /// A row, with memory of its own.
+    #[cycle(copy)]
+    fn row(&self, alloc: Global, at: usize) -> Result<Row, Memory>
+        requires { at < length self.now.rows }
+        ensures { IfOk result (λ row. row ≡ slice_index_or self.now.rows at []) }
+    {
+        let mut row = Row::new(alloc);
+        for col in 0..self.width() {
+            row.push(self.column(col).value(alloc, at)?)?;
+        }
+        Ok(row)
+    }
+
+    /// How many columns there are.
+    fn width(&self) -> usize
+        ensures width { result ≡ length self.now.schema }
+        ensures whole { IsTable self.now }
+    {
+        self.schema.get().len()
+    }
+
+    /// The allocator of the columns.
+    pub(crate) fn allocator(&self) -> Global {
+        self.cols.allocator()
+    }
+}
+
+impl TableRead for Table {
+    ghost schema = { λ t. t.schema };
+
+    ghost rows = { λ t. t.rows };
+
+    fn schema(&self) -> &Schema {
+        let schema = self.schema.get();
+        let _len = schema.len();
+        schema
+    }
+
+    fn size(&self) -> usize {
+        self.len()
+    }
+
+    fn get(&self, row: usize, col: usize) -> Result<Value, Memory> {
+        self.column(col).value(self.allocator(), row)
+    }
+
+    fn lend(&self, row: usize, col: usize) -> Lent<'_> {
+        self.column(col).lend(row)
+    }
+
+    fn fill(&self, col: usize, from: usize, into: &mut [i64]) {
+        self.column(col).fill(from, into);
+    }
+
+    fn cmp_cell(&self, row: usize, col: usize, with: &Value) -> Ordering {
+        self.column(col).cmp_with(row, with)
+    }
+
+    fn cmp_rows(&self, a: usize, b: usize, col: usize) -> Ordering {
+        self.column(col).cmp_at(a, b)
     }
 }
