@@ -7,5 +7,6 @@ pub mod Homeless
 pub mod Lists
 pub mod PlainColumns
 pub mod Reading
+pub mod Rebuilding
 pub mod Resting
 pub mod RowHomes

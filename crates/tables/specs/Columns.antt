@@ -1,5 +1,5 @@
 -- Tables as columns: what is seen of each column, and the table that the columns are.
-use Rattle.std.specs.Prelude.{◌≡◌, ℕ, ◌+◌, ◌*◌, ◌≤◌, ℤ, pos, List, [], ◌∷◌, length, map, All, slice_index_or, Option, None, Some, ◌⊎◌, FitsSigned, refl}
+use Rattle.std.specs.Prelude.{◌≡◌, ℕ, ◌<◌, ◌≤◌, ℤ, pos, List, [], ◌∷◌, length, map, All, slice_index_or, Option, None, Some, ◌⊎◌, FitsSigned, refl}
 use Rattle.std.proofs.Common.{inl, inr}
 use Rattle.std.specs.Int.{w32, w64}
 use Rattle.std.specs.List.{AllZip, range_with_len}
@@ -8,10 +8,11 @@ use Rattle.mk_value.specs.declared.span.Span.{Span}
 use Rattle.mk_value.specs.Limits.{max_bytes, max_rows}
 use Rattle.mk_value.specs.Heading.{Domain, Heading, Attribute, attributes_of}
 use Rattle.mk_value.specs.Data.{Datum, integer, relation_of, IsText, AreRowsOf}
+use Rattle.mk_value.specs.Tables.{domain_at}
 use Rattle.int_col.specs.Numbers.{Numbers}
 use Rattle.bytes_col.specs.declared.home.BytesHome.{BytesHome}
 use Rattle.bytes_col.specs.Strings.{Strings, long_values}
-use Rattle.tables.specs.Homes.{Home, no_home, numbers, strings, tables, row_homes}
+use Rattle.tables.specs.Homes.{Home, no_home, numbers, strings, tables, row_homes, column_of}
 use Rattle.tables.specs.Tables.{StoredTable, stored_code}
 use Rattle.tables.specs.Shapes.{HasHomes}
 
@@ -153,3 +154,14 @@ column_code =
 
 abbrev pub stored_columns_code : Coded (List StoredColumn)
 stored_columns_code = coded_list column_code
+
+-- a column of the domain that has these values and this home
+pub record IsColumnWith (e : Domain) (values : List Datum) (home : Home) (c : StoredColumn) : Type 0 where
+  pub whole : IsColumnOf (length values) e c
+  pub holds : column_values e c ≡ values
+  pub home_is : home_of c ≡ home
+
+-- one column for each property, with the values and the home that the table has there
+pub record AreColumnsIn (t : StoredTable) (cols : List StoredColumn) : Type 0 where
+  pub paired : length cols ≡ length t.schema
+  pub each : (k : ℕ) → k < length t.schema → IsColumnWith (domain_at t.schema k) (column_of t.rows k) (slice_index_or t.homes k no_home) (slice_index_or cols k no_column)
