@@ -1,4 +1,5 @@
 pub mod Blocks
+pub mod Build
 pub mod Columns
 pub mod Falls
 pub mod HomeCode

@@ -1,5 +1,6 @@
 //! The columns of a table.
 ghost use Rattle.std.specs.Prelude.{◌≡◌, ◌<◌, [], ◌∷◌, ◌++◌, length, map, slice_get, IfOk, OnOk, OnErr};
+ghost use Rattle.tables.specs.Stored.{stored_of};
 
 use crate::Tables;
 use bytes_col::BytesCol;
@@ -82,5 +83,27 @@ impl Cols {
     /// The allocator of the list.
     pub(crate) fn allocator(&self) -> Global {
         *self.items.allocator()
+    }
+
+    /// The same columns, which share all that is kept in them.
+    pub(crate) fn same(&self) -> Result<Cols, Memory>
+        ensures { IfOk result (λ cols. cols ≡ self.now) }
+    {
+        let mut cols = Cols::new(self.allocator());
+        for col in self.items.iter() {
+            cols.push(same(col)?)?;
+        }
+        Ok(cols)
+    }
+}
+
+/// The same column, which shares all that is kept in it.
+fn same(col: &Col) -> Result<Col, Memory>
+    ensures { IfOk result (λ copy. stored_of copy ≡ stored_of col.now) }
+{
+    match col {
+        Col::Ints(column) => Ok(Col::Ints(column.same()?)),
+        Col::Blobs(column) => Ok(Col::Blobs(column.same()?)),
+        Col::Views(tables) => Ok(Col::Views(tables.same()?)),
     }
 }

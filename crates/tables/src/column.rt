@@ -1,18 +1,21 @@
 //! A column of a table as it is read.
-ghost use Rattle.std.specs.Prelude.{◌≡◌, ◌+◌, ◌<◌, ◌≤◌, length, map, take, drop, slice_index_or, pos, IfOk};
+ghost use Rattle.std.specs.Prelude.{◌≡◌, None, ◌+◌, ◌<◌, ◌≤◌, length, map, take, drop, slice_index_or, pos, IfOk};
 ghost use Rattle.std.specs.Str.{IsUtf8};
-ghost use Rattle.mk_value.specs.Data.{Datum, integer};
+ghost use Rattle.mk_value.specs.Data.{Datum, integer, IsOf};
 ghost use Rattle.mk_value.specs.Heading.{Domain};
 ghost use Rattle.mk_value.specs.Kinds.{domain_of};
 ghost use Rattle.mk_value.specs.Lending.{Lends};
 ghost use Rattle.mk_value.specs.Order.{value_cmp};
 ghost use Rattle.mk_value.specs.Tables.{AreNumbers, IsComparable, IsPlainDomain, number_in};
 ghost use Rattle.mk_value.specs.Values.{datum_of};
-ghost use Rattle.tables.specs.Columns.{integers, texts, views};
+ghost use Rattle.tables.specs.Columns.{IsColumnWith, home_of, integers, texts, views};
+ghost use Rattle.tables.specs.Rows.{inserted, removed, home_inserted, home_removed};
 ghost use Rattle.tables.specs.Stored.{stored_of};
 ghost use Rattle.tables.specs.Read.{IsIntegers, IsTexts, AreViews, IsWhole, values_read};
 
+use crate::build::inner_of_rows;
 use crate::cols::Col;
+use crate::shared::Shared;
 use crate::tables::Tables;
 use bytes_col::BytesCol;
 use int_col::IntCol;
@@ -154,5 +157,142 @@ impl Column<'_> {
         ensures { IfOk result (λ text. Datum.text text.bytes ≡ slice_index_or (values_read self.now) row (integer (pos 0))) }
     {
         text_of(alloc, self.blobs().value(row))
+    }
+}
+
+/// The numbers with so many more put in at a place. No copy of them is changed.
+fn numbers_inserted(
+    ints: &IntCol,
+    at: usize,
+    number: i64,
+    count: usize,
+) -> Result<IntCol, Memory>
+    requires at { at ≤ length ints.now.values }
+    requires some { 0 < count }
+    requires few { length ints.now.values + count ≤ 16777216 }
+    ensures values { IfOk result (λ column. column.values ≡ inserted at count number ints.now.values) }
+    ensures home { IfOk result (λ column. column.home ≡ None) }
+{
+    let mut column = ints.same()?;
+    column.insert(at, number, count)?;
+    Ok(column)
+}
+
+/// The byte strings with so many more put in at a place. No copy of them is changed.
+fn blobs_inserted(
+    blobs: &BytesCol,
+    at: usize,
+    value: &[u8],
+    count: usize,
+) -> Result<BytesCol, Memory>
+    requires at { at ≤ length blobs.now.values }
+    requires some { 0 < count }
+    requires few { length blobs.now.values + count ≤ 16777216 }
+    ensures values { IfOk result (λ column. column.values ≡ inserted at count value.now blobs.now.values) }
+    ensures home { IfOk result (λ column. column.home ≡ None) }
+{
+    let mut column = blobs.same()?;
+    column.insert(at, value, count)?;
+    Ok(column)
+}
+
+/// The tables with one put in so many times at a place. No copy of them is changed.
+fn views_inserted(
+    tables: &Tables,
+    at: usize,
+    table: &Shared,
+    count: usize,
+) -> Result<Tables, Memory>
+    requires { at ≤ length tables.now }
+    ensures { IfOk result (λ column. column ≡ inserted at count table.now tables.now) }
+{
+    let mut column = tables.same()?;
+    column.insert(at, table, count)?;
+    Ok(column)
+}
+
+/// The numbers without so many from a place on. No copy of them is changed.
+fn numbers_removed(ints: &IntCol, at: usize, count: usize) -> Result<IntCol, Memory>
+    requires within { at + count ≤ length ints.now.values }
+    requires some { 0 < count }
+    ensures values { IfOk result (λ column. column.values ≡ removed at count ints.now.values) }
+    ensures home { IfOk result (λ column. column.home ≡ None) }
+{
+    let mut column = ints.same()?;
+    column.remove(at, count)?;
+    Ok(column)
+}
+
+/// The byte strings without so many from a place on. No copy of them is changed.
+fn blobs_removed(blobs: &BytesCol, at: usize, count: usize) -> Result<BytesCol, Memory>
+    requires within { at + count ≤ length blobs.now.values }
+    requires some { 0 < count }
+    ensures values { IfOk result (λ column. column.values ≡ removed at count blobs.now.values) }
+    ensures home { IfOk result (λ column. column.home ≡ None) }
+{
+    let mut column = blobs.same()?;
+    column.remove(at, count)?;
+    Ok(column)
+}
+
+/// The tables without so many from a place on. No copy of them is changed.
+fn views_removed(tables: &Tables, at: usize, count: usize) -> Result<Tables, Memory>
+    requires { at + count ≤ length tables.now }
+    ensures { IfOk result (λ column. column ≡ removed at count tables.now) }
+{
+    let mut column = tables.same()?;
+    column.remove(at, count)?;
+    Ok(column)
+}
+
+impl Column<'_> {
+    /// The column with so many values more at a place. No copy of it is changed.
+    pub(crate) fn inserted(
+        &self,
+        alloc: Global,
+        at: usize,
+        value: &Value,
+        count: usize,
+    ) -> Result<Col, Memory>
+        requires whole { IsWhole self.now }
+        requires fits { IsOf (datum_of value.now) (domain_of self.now.kind.now) }
+        requires at { at ≤ length (values_read self.now) }
+        requires some { 0 < count }
+        requires few { length (values_read self.now) + count ≤ 16777216 }
+        ensures { IfOk result (λ col. IsColumnWith (domain_of self.now.kind.now) (inserted at count (datum_of value.now) (values_read self.now)) (home_inserted at count (domain_of self.now.kind.now) (datum_of value.now) (home_of (stored_of self.now.col.now))) (stored_of col)) }
+    {
+        match value {
+            Value::I(number) => {
+                let number = i64::from(*number);
+                Ok(Col::Ints(numbers_inserted(self.ints(), at, number, count)?))
+            }
+            Value::L(number) => Ok(Col::Ints(numbers_inserted(self.ints(), at, *number, count)?)),
+            Value::S(text) => {
+                let bytes = text.as_str().as_bytes();
+                Ok(Col::Blobs(blobs_inserted(self.blobs(), at, bytes, count)?))
+            }
+            Value::B(bytes) => {
+                let bytes = bytes.as_slice();
+                Ok(Col::Blobs(blobs_inserted(self.blobs(), at, bytes, count)?))
+            }
+            Value::V(rows) => {
+                let table = inner_of_rows(alloc, self.kind, rows)?;
+                Ok(Col::Views(views_inserted(self.views(), at, &table, count)?))
+            }
+        }
+    }
+
+    /// The column without so many values from a place on. No copy of it is changed.
+    pub(crate) fn removed(&self, at: usize, count: usize) -> Result<Col, Memory>
+        requires whole { IsWhole self.now }
+        requires within { at + count ≤ length (values_read self.now) }
+        requires some { 0 < count }
+        ensures { IfOk result (λ col. IsColumnWith (domain_of self.now.kind.now) (removed at count (values_read self.now)) (home_removed at count (home_of (stored_of self.now.col.now))) (stored_of col)) }
+    {
+        match self.kind {
+            Kind::I | Kind::L => Ok(Col::Ints(numbers_removed(self.ints(), at, count)?)),
+            Kind::S | Kind::B => Ok(Col::Blobs(blobs_removed(self.blobs(), at, count)?)),
+            Kind::V(_) => Ok(Col::Views(views_removed(self.views(), at, count)?)),
+        }
     }
 }
