@@ -1,4 +1,6 @@
 pub mod Apart
+pub mod Cells
+pub mod ColumnWith
 pub mod ColumnwiseHomes
 pub mod EditedColumns
 pub mod EditedTables

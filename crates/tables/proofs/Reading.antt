@@ -11,9 +11,9 @@ use Rattle.mk_value.specs.Tables.{domain_at, AreNumbers, number_in, column_numbe
 use Rattle.mk_value.proofs.Relations.{rows_of-relation_of, row_fits_length}
 use Rattle.mk_value.proofs.Walks.{same_default, map_read}
 use Rattle.int_col.specs.Numbers.{Numbers}
-use Rattle.tables.specs.Homes.{column_of}
+use Rattle.tables.specs.Homes.{no_home, column_of}
 use Rattle.tables.specs.Tables.{StoredTable, IsTable}
-use Rattle.tables.specs.Columns.{StoredColumn, integers, texts, views, column_values, rows_of_columns, table_of_columns, IsTableOf, IsColumnOf, AreColumnsOf}
+use Rattle.tables.specs.Columns.{StoredColumn, integers, texts, views, home_of, column_values, rows_of_columns, table_of_columns, IsTableOf, IsColumnOf, AreColumnsOf}
 use Rattle.tables.specs.Stored.{stored_of}
 use Rattle.tables.specs.declared.cols.Col.{Col}
 use Rattle.tables.proofs.Gathering.{map-map, length-rows_of_columns, length-columns, length-column_values, column_at, column_of-columns}
@@ -39,6 +39,7 @@ pub record IsColumnAt (t : StoredTable) (k : ℕ) (e : Domain) (c : StoredColumn
   pub values : column_values e c ≡ column_of t.rows k
   pub whole : IsColumnOf (length (column_values e c)) e c
   pub kind : e ≡ domain_at t.schema k
+  pub home : home_of c ≡ get_or t.homes k no_home
 
 column_here : (n k : ℕ) (schema : List Attribute) (cols : List StoredColumn) (e : Domain) (c : StoredColumn) → AreColumnsOf n schema cols → k < length schema → domain_at schema k ≡ e → get_or cols k c ≡ c
     → IsColumnAt (table_of_columns n schema cols) k e c
@@ -50,6 +51,7 @@ column_here n k schema cols e c h p f g =
       values = values;
       whole = subst (λ m. IsColumnOf m e c) (sym (length-column_values n e c whole)) whole;
       kind = sym f;
+      home = ap home_of (sym g) ∙ sym (get_or-map home_of cols k c no_home (let long = length-columns n schema cols h.each in omega (arith, long)));
     }
 
 pub column_read : (n k : ℕ) (schema : List Attribute) (cols : List StoredColumn) (t : StoredTable) (props : List Attribute) (a : Attribute) (e : Domain) (items : List Col) (item : Col)

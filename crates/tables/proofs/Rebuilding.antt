@@ -1,7 +1,8 @@
 -- A table is known by its columns, and what an edit makes of a table is known by what it makes of each column.
 use Rattle.std.proofs.Common.{◌≡◌, ◌≢◌, ℕ, zero, suc, ◌+◌, ◌-◌, ◌<◌, ◌≤◌, ◌⊎◌, ⊎_elim, inl, inr, List, [], ◌∷◌, ◌++◌, length, get_or, set, take, drop, replicate, map, All, pos, refl, ap, sym, subst, ◌∙◌, arith, add-zero, length-append, length-drop}
 use Rattle.std.specs.List.{AllZip}
-use Rattle.std.proofs.lemmas.List.{length-map, length-set, length-replicate, length-take-le, get_or-map, get_or-set_same, get_or-set_other, map-set, take-append-drop, same_lists}
+use Rattle.std.proofs.lemmas.List.{length-map, length-set, length-replicate, length-take-le, get_or-map, get_or-set_same, get_or-set_other, map-set, get_or_append_left, get_or-append_right, same_lists}
+use Rattle.std.proofs.lemmas.Bool.{cases_lt}
 use Rattle.std.proofs.lemmas.List.Elements.{All-append, All-take, All-drop, All-replicate, All-cons, All-nil}
 use Rattle.mk_value.specs.Limits.{max_rows}
 use Rattle.mk_value.specs.Heading.{Domain, Heading, Attribute, heading_of}
@@ -165,3 +166,34 @@ pub column_empty : (schema : List Attribute) (rows : List (List Datum)) (k : ℕ
     → IsColumnWith (domain_at schema k) (column_of rows k) (get_or (empty_homes schema rows) k no_home) c
 column_empty schema rows k c p h =
     subst (λ x. IsColumnWith (domain_at schema k) (column_of rows k) x c) (sym (get_or-empty schema k rows no_home p)) h
+
+cases_below : (k n : ℕ) → (k < n) ⊎ (n ≤ k)
+cases_below k n = cases_lt k n
+
+-- The first columns of a table, as a loop makes them one by one.
+pub record AreFirstColumns (t : StoredTable) (n : ℕ) (cols : List StoredColumn) : Type 0 where
+  pub paired : length cols ≡ n
+  pub each : (k : ℕ) → k < n → IsColumnWith (domain_at t.schema k) (column_of t.rows k) (get_or t.homes k no_home) (get_or cols k no_column)
+
+pub no_first_columns : (t : StoredTable) (cols : List StoredColumn) → cols ≡ [] → AreFirstColumns t 0 cols
+no_first_columns t cols e = record { paired = ap length e; each = λ k p. absurd (omega arith) }
+
+pub first_columns_more : (t : StoredTable) (n : ℕ) (cols new : List StoredColumn) (c : StoredColumn) → AreFirstColumns t n cols → new ≡ cols ++ c ∷ []
+    → IsColumnWith (domain_at t.schema n) (column_of t.rows n) (get_or t.homes n no_home) c → AreFirstColumns t (n + 1) new
+first_columns_more t n cols new c h e here =
+    let paired = h.paired in
+    let With = λ (k : ℕ) (x : StoredColumn). IsColumnWith (domain_at t.schema k) (column_of t.rows k) (get_or t.homes k no_home) x in
+    record {
+      paired = ap length e ∙ (let more = length-append cols (c ∷ []) in omega (arith, more, paired));
+      each = λ k p. ⊎_elim
+          (λ (q : k < n). subst (With k) (sym (ap (λ cs. get_or cs k no_column) e ∙ get_or_append_left cols (c ∷ []) no_column k (omega (arith, paired)))) (h.each k q))
+          (λ (q : n ≤ k).
+          let same : k ≡ n = omega arith in
+          let last : get_or (cols ++ c ∷ []) k no_column ≡ c =
+          get_or-append_right cols (c ∷ []) n k no_column paired q ∙ ap (λ j. get_or (c ∷ []) j no_column) (let z : k - n ≡ 0 = omega arith in z) in
+          subst (With k) (sym (ap (λ cs. get_or cs k no_column) e ∙ last)) (subst (λ j. With j c) (sym same) here))
+          (cases_below k n);
+    }
+
+pub all_columns : (t : StoredTable) (n : ℕ) (cols : List StoredColumn) → AreFirstColumns t n cols → n ≡ length t.schema → AreColumnsIn t cols
+all_columns t n cols h e = record { paired = h.paired ∙ e; each = λ k p. h.each k (omega arith) }

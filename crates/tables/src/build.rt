@@ -91,8 +91,10 @@ fn col_of_rows(alloc: Global, kind: &Kind, rows: &Rows, at: usize) -> Result<Col
     ensures { IfOk result (λ col. IsColumnWith (domain_of kind.now) (column_of rows.now at) (empty_home (domain_of kind.now) (column_of rows.now at)) (stored_of col)) }
 {
     match kind {
-        Kind::I | Kind::L => Ok(Col::Ints(ints_of_rows(alloc, rows, at)?)),
-        Kind::S | Kind::B => Ok(Col::Blobs(blobs_of_rows(alloc, rows, at)?)),
+        Kind::I => Ok(Col::Ints(ints_of_rows(alloc, rows, at)?)),
+        Kind::L => Ok(Col::Ints(ints_of_rows(alloc, rows, at)?)),
+        Kind::S => Ok(Col::Blobs(blobs_of_rows(alloc, rows, at)?)),
+        Kind::B => Ok(Col::Blobs(blobs_of_rows(alloc, rows, at)?)),
         Kind::V(schema) => Ok(Col::Views(views_of_rows(alloc, schema, rows, at)?)),
     }
 }

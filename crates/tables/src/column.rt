@@ -290,8 +290,10 @@ impl Column<'_> {
         ensures { IfOk result (λ col. IsColumnWith (domain_of self.now.kind.now) (removed at count (values_read self.now)) (home_removed at count (home_of (stored_of self.now.col.now))) (stored_of col)) }
     {
         match self.kind {
-            Kind::I | Kind::L => Ok(Col::Ints(numbers_removed(self.ints(), at, count)?)),
-            Kind::S | Kind::B => Ok(Col::Blobs(blobs_removed(self.blobs(), at, count)?)),
+            Kind::I => Ok(Col::Ints(numbers_removed(self.ints(), at, count)?)),
+            Kind::L => Ok(Col::Ints(numbers_removed(self.ints(), at, count)?)),
+            Kind::S => Ok(Col::Blobs(blobs_removed(self.blobs(), at, count)?)),
+            Kind::B => Ok(Col::Blobs(blobs_removed(self.blobs(), at, count)?)),
             Kind::V(_) => Ok(Col::Views(views_removed(self.views(), at, count)?)),
         }
     }

@@ -22,3 +22,10 @@ returns-clause-whole c =
     column_read c.self.inside.rows c.args.col c.self.inside.schema c.self.inside.cols c.args.self.now c.as_slice.result.now c.index-as_slice-col.result (domain_of c.prop.inside.kind) c.as_slice-2.result.now c.index-as_slice-col-2.result
     c.self.view_is c.self.invariant c.requires (c.as_slice.ensures.value ∙ c.get.ensures) c.index-as_slice-col.is (ap (λ (a : Attribute). a.domain) c.prop.view_is) c.as_slice-2.ensures c.index-as_slice-col-2.is in
     here.whole
+
+pub returns-clause-home : goal.returns-clause-home
+returns-clause-home c =
+    let here =
+    column_read c.self.inside.rows c.args.col c.self.inside.schema c.self.inside.cols c.args.self.now c.as_slice.result.now c.index-as_slice-col.result (domain_of c.prop.inside.kind) c.as_slice-2.result.now c.index-as_slice-col-2.result
+    c.self.view_is c.self.invariant c.requires (c.as_slice.ensures.value ∙ c.get.ensures) c.index-as_slice-col.is (ap (λ (a : Attribute). a.domain) c.prop.view_is) c.as_slice-2.ensures c.index-as_slice-col-2.is in
+    here.home
