@@ -5,7 +5,7 @@ use Rattle.std.proofs.lemmas.List.Elements.{All-nil, All-cons, All-head, All-tai
 use Rattle.mk_value.specs.declared.span.Span.{Span}
 use Rattle.mk_value.specs.Limits.{max_bytes, max_rows}
 use Rattle.mk_value.specs.Heading.{Domain, Heading, Attribute, attributes_of, heading_of}
-use Rattle.mk_value.specs.Data.{Datum, integer, rows_of, relation_of, IsOf, IsText, AreRowsOf}
+use Rattle.mk_value.specs.Data.{Datum, integer, Relation, rows_of, relation_of, IsOf, IsText, AreRowsOf}
 use Rattle.mk_value.specs.Tables.{AreNumbers, domain_at, number_in}
 use Rattle.mk_value.proofs.Relations.{rows_of-relation_of, IsOf-relation}
 use Rattle.mk_value.proofs.Converting.{relation_of-rows_of}
@@ -18,6 +18,7 @@ use Rattle.tables.specs.Rows.{inserted, removed, home_inserted, home_removed}
 use Rattle.tables.specs.Shapes.{bytes_in}
 use Rattle.tables.specs.Tables.{StoredTable, home_with, table_without_homes}
 use Rattle.tables.specs.Columns.{StoredColumn, integers, texts, views, home_of, home_of_numbers, home_of_strings, column_values, HasBlocks, IsTextValue, IsTableOf, IsColumnOf, IsColumnWith}
+use Rattle.tables.specs.Read.{IsIntegers, IsTexts, AreViews}
 use Rattle.tables.specs.Build.{HasColumn, AreCells, IsTableOfRows}
 use Rattle.tables.proofs.Lists.{map-inserted, map-removed, each_of-row_homes}
 use Rattle.tables.proofs.EditedTables.{empty-shape}
@@ -322,3 +323,112 @@ views_made rows at schema ts h made =
       homes = empty-shape schema (rows_in (get_or ds k d));
     })))
     (ap (λ us. tables (row_homes (map (λ (u : StoredTable). u.homes) us))) made ∙ ap (λ hs. tables (row_homes hs)) (map-map make (λ (u : StoredTable). u.homes) ds))
+
+-- A value that fits a column tells what is kept there.
+pub keeps_integer : (e : Domain) (n : ℕ) (z : ℤ) (col : StoredColumn) → IsOf (Datum.integer z) e → IsColumnOf n e col → IsIntegers col
+keeps_integer Domain.integer n z (integers c) fits h = tt
+keeps_integer Domain.integer n z (texts c) fits h = h
+keeps_integer Domain.integer n z (views c) fits h = h
+keeps_integer Domain.long n z col fits h = absurd fits
+keeps_integer Domain.text n z col fits h = absurd fits
+keeps_integer Domain.bytes n z col fits h = absurd fits
+keeps_integer (Domain.relation g) n z col fits h = absurd fits
+
+pub keeps_long : (e : Domain) (n : ℕ) (z : ℤ) (col : StoredColumn) → IsOf (Datum.long z) e → IsColumnOf n e col → IsIntegers col
+keeps_long Domain.long n z (integers c) fits h = tt
+keeps_long Domain.long n z (texts c) fits h = h
+keeps_long Domain.long n z (views c) fits h = h
+keeps_long Domain.integer n z col fits h = absurd fits
+keeps_long Domain.text n z col fits h = absurd fits
+keeps_long Domain.bytes n z col fits h = absurd fits
+keeps_long (Domain.relation g) n z col fits h = absurd fits
+
+pub keeps_text : (e : Domain) (n : ℕ) (v : List ℕ) (col : StoredColumn) → IsOf (Datum.text v) e → IsColumnOf n e col → IsTexts col
+keeps_text Domain.text n v (integers c) fits h = h
+keeps_text Domain.text n v (texts c) fits h = tt
+keeps_text Domain.text n v (views c) fits h = h
+keeps_text Domain.integer n v col fits h = absurd fits
+keeps_text Domain.long n v col fits h = absurd fits
+keeps_text Domain.bytes n v col fits h = absurd fits
+keeps_text (Domain.relation g) n v col fits h = absurd fits
+
+pub keeps_bytes : (e : Domain) (n : ℕ) (v : List ℕ) (col : StoredColumn) → IsOf (Datum.bytes v) e → IsColumnOf n e col → IsTexts col
+keeps_bytes Domain.bytes n v (integers c) fits h = h
+keeps_bytes Domain.bytes n v (texts c) fits h = tt
+keeps_bytes Domain.bytes n v (views c) fits h = h
+keeps_bytes Domain.integer n v col fits h = absurd fits
+keeps_bytes Domain.long n v col fits h = absurd fits
+keeps_bytes Domain.text n v col fits h = absurd fits
+keeps_bytes (Domain.relation g) n v col fits h = absurd fits
+
+pub keeps_views : (e : Domain) (n : ℕ) (r : Relation) (col : StoredColumn) → IsOf (Datum.relation r) e → IsColumnOf n e col → AreViews col
+keeps_views (Domain.relation g) n r (integers c) fits h = h
+keeps_views (Domain.relation g) n r (texts c) fits h = h
+keeps_views (Domain.relation g) n r (views c) fits h = tt
+keeps_views Domain.integer n r col fits h = absurd fits
+keeps_views Domain.long n r col fits h = absurd fits
+keeps_views Domain.text n r col fits h = absurd fits
+keeps_views Domain.bytes n r col fits h = absurd fits
+
+pub integers_inserted_in : (e : Domain) (n at count : ℕ) (col : StoredColumn) (old new : Numbers) (z : ℤ) → IsColumnOf n e col → col ≡ integers old → new.values ≡ inserted at count z old.values → new.home ≡ None → IsOf (Datum.integer z) e
+    → IsColumnWith e (inserted at count (Datum.integer z) (column_values e col)) (home_inserted at count e (Datum.integer z) (home_of col)) (integers new)
+integers_inserted_in Domain.integer n at count col old new z whole e values none fits = integers_inserted n at count col old new z whole e values none fits
+integers_inserted_in Domain.long n at count col old new z whole e values none fits = absurd fits
+integers_inserted_in Domain.text n at count col old new z whole e values none fits = absurd fits
+integers_inserted_in Domain.bytes n at count col old new z whole e values none fits = absurd fits
+integers_inserted_in (Domain.relation g) n at count col old new z whole e values none fits = absurd fits
+
+pub longs_inserted_in : (e : Domain) (n at count : ℕ) (col : StoredColumn) (old new : Numbers) (z : ℤ) → IsColumnOf n e col → col ≡ integers old → new.values ≡ inserted at count z old.values → new.home ≡ None → IsOf (Datum.long z) e
+    → IsColumnWith e (inserted at count (Datum.long z) (column_values e col)) (home_inserted at count e (Datum.long z) (home_of col)) (integers new)
+longs_inserted_in Domain.long n at count col old new z whole e values none fits = longs_inserted n at count col old new z whole e values none fits
+longs_inserted_in Domain.integer n at count col old new z whole e values none fits = absurd fits
+longs_inserted_in Domain.text n at count col old new z whole e values none fits = absurd fits
+longs_inserted_in Domain.bytes n at count col old new z whole e values none fits = absurd fits
+longs_inserted_in (Domain.relation g) n at count col old new z whole e values none fits = absurd fits
+
+pub texts_inserted_in : (e : Domain) (n at count : ℕ) (col : StoredColumn) (old new : Strings) (v : List ℕ) → IsColumnOf n e col → col ≡ texts old → new.values ≡ inserted at count v old.values → new.home ≡ None → IsOf (Datum.text v) e
+    → IsColumnWith e (inserted at count (Datum.text v) (column_values e col)) (home_inserted at count e (Datum.text v) (home_of col)) (texts new)
+texts_inserted_in Domain.text n at count col old new v whole e values none fits = texts_inserted n at count col old new v whole e values none fits
+texts_inserted_in Domain.integer n at count col old new v whole e values none fits = absurd fits
+texts_inserted_in Domain.long n at count col old new v whole e values none fits = absurd fits
+texts_inserted_in Domain.bytes n at count col old new v whole e values none fits = absurd fits
+texts_inserted_in (Domain.relation g) n at count col old new v whole e values none fits = absurd fits
+
+pub bytes_inserted_in : (e : Domain) (n at count : ℕ) (col : StoredColumn) (old new : Strings) (v : List ℕ) → IsColumnOf n e col → col ≡ texts old → new.values ≡ inserted at count v old.values → new.home ≡ None → IsOf (Datum.bytes v) e
+    → IsColumnWith e (inserted at count (Datum.bytes v) (column_values e col)) (home_inserted at count e (Datum.bytes v) (home_of col)) (texts new)
+bytes_inserted_in Domain.bytes n at count col old new v whole e values none fits = bytes_inserted n at count col old new v whole e values none fits
+bytes_inserted_in Domain.integer n at count col old new v whole e values none fits = absurd fits
+bytes_inserted_in Domain.long n at count col old new v whole e values none fits = absurd fits
+bytes_inserted_in Domain.text n at count col old new v whole e values none fits = absurd fits
+bytes_inserted_in (Domain.relation g) n at count col old new v whole e values none fits = absurd fits
+
+-- what is kept in a column has as many values as the column
+numbers_count : (e : Domain) (n : ℕ) (c : Numbers) → IsColumnOf n e (integers c) → length c.values ≡ n
+numbers_count Domain.integer n c h = h.count
+numbers_count Domain.long n c h = h.count
+numbers_count Domain.text n c h = absurd h
+numbers_count Domain.bytes n c h = absurd h
+numbers_count (Domain.relation g) n c h = absurd h
+
+strings_count : (e : Domain) (n : ℕ) (c : Strings) → IsColumnOf n e (texts c) → length c.values ≡ n
+strings_count Domain.integer n c h = absurd h
+strings_count Domain.long n c h = absurd h
+strings_count Domain.text n c h = h.count
+strings_count Domain.bytes n c h = h.count
+strings_count (Domain.relation g) n c h = absurd h
+
+views_count : (e : Domain) (n : ℕ) (ts : List StoredTable) → IsColumnOf n e (views ts) → length ts ≡ n
+views_count Domain.integer n c h = absurd h
+views_count Domain.long n c h = absurd h
+views_count Domain.text n c h = absurd h
+views_count Domain.bytes n c h = absurd h
+views_count (Domain.relation g) n c h = h.count
+
+pub numbers_many : (e : Domain) (n : ℕ) (col : StoredColumn) (c : Numbers) → IsColumnOf n e col → col ≡ integers c → length c.values ≡ n
+numbers_many e n col c h f = numbers_count e n c (subst (λ x. IsColumnOf n e x) f h)
+
+pub strings_many : (e : Domain) (n : ℕ) (col : StoredColumn) (c : Strings) → IsColumnOf n e col → col ≡ texts c → length c.values ≡ n
+strings_many e n col c h f = strings_count e n c (subst (λ x. IsColumnOf n e x) f h)
+
+pub views_many : (e : Domain) (n : ℕ) (col : StoredColumn) (ts : List StoredTable) → IsColumnOf n e col → col ≡ views ts → length ts ≡ n
+views_many e n col ts h f = views_count e n ts (subst (λ x. IsColumnOf n e x) f h)

@@ -197,3 +197,74 @@ first_columns_more t n cols new c h e here =
 
 pub all_columns : (t : StoredTable) (n : ℕ) (cols : List StoredColumn) → AreFirstColumns t n cols → n ≡ length t.schema → AreColumnsIn t cols
 all_columns t n cols h e = record { paired = h.paired ∙ e; each = λ k p. h.each k (omega arith) }
+
+-- The whole edits: rows put in and removed.
+schema-inserted : (t : StoredTable) (at n : ℕ) (row : List Datum) → (with_rows_inserted at row n t).schema ≡ t.schema
+schema-inserted t at zero row = refl
+schema-inserted t at (suc n) row = refl
+
+schema-removed : (t : StoredTable) (at n : ℕ) → (with_rows_removed at n t).schema ≡ t.schema
+schema-removed t at zero = refl
+schema-removed t at (suc n) = refl
+
+rows-inserted : (t : StoredTable) (at n : ℕ) (row : List Datum) → at ≤ length t.rows → length (with_rows_inserted at row n t).rows ≡ length t.rows + n
+rows-inserted t at zero row p = omega arith
+rows-inserted t at (suc n) row p = length-inserted at (suc n) row t.rows p
+
+rows-removed : (t : StoredTable) (at n : ℕ) → at + n ≤ length t.rows → length (with_rows_removed at n t).rows + n ≡ length t.rows
+rows-removed t at zero p = omega arith
+rows-removed t at (suc n) p = length-removed at (suc n) t.rows p
+
+-- columns are those of a table, which they are then
+pub record AreRebuilt (n : ℕ) (schema : List Attribute) (cols : List StoredColumn) (t : StoredTable) : Type 0 where
+  pub whole : AreColumnsOf n schema cols
+  pub table : table_of_columns n schema cols ≡ t
+
+rebuilt_as : (t : StoredTable) (n : ℕ) (schema : List Attribute) (cols : List StoredColumn) → IsRebuilt t → AreColumnsIn t cols → length t.rows ≡ n → t.schema ≡ schema → AreRebuilt n schema cols t
+rebuilt_as t n schema cols known h e f = record {
+  whole = subst (λ m. AreColumnsOf m schema cols) e (subst (λ s. AreColumnsOf (length t.rows) s cols) f (columns_rebuilt t cols known h));
+  table = ap (λ m. table_of_columns m schema cols) (sym e) ∙ ap (λ s. table_of_columns (length t.rows) s cols) (sym f) ∙ table_rebuilt t cols known h;
+}
+
+pub inserted_done : (t : StoredTable) (at n rows : ℕ) (row : List Datum) (cols : List StoredColumn) → IsTable t → HasHomes t → at ≤ length t.rows → length t.rows + n ≤ max_rows → IsRowOf row t.schema
+    → AreColumnsIn (with_rows_inserted at row n t) cols → rows ≡ length t.rows + n → AreRebuilt rows t.schema cols (with_rows_inserted at row n t)
+inserted_done t at n rows row cols whole homes p few fits h e =
+    rebuilt_as (with_rows_inserted at row n t) rows t.schema cols (IsRebuilt-inserted t at n row (IsRebuilt-table t whole homes) p few fits) h (rows-inserted t at n row p ∙ sym e) (schema-inserted t at n row)
+
+pub removed_done : (t : StoredTable) (at n rows : ℕ) (cols : List StoredColumn) → IsTable t → HasHomes t → at + n ≤ length t.rows
+    → AreColumnsIn (with_rows_removed at n t) cols → rows ≡ length t.rows - n → AreRebuilt rows t.schema cols (with_rows_removed at n t)
+removed_done t at n rows cols whole homes p h e =
+    rebuilt_as (with_rows_removed at n t) rows t.schema cols (IsRebuilt-removed t at n (IsRebuilt-table t whole homes) p) h (let less = rows-removed t at n p in omega (arith, less, e)) (schema-removed t at n)
+
+-- one column more of them
+with_moved : (e f : Domain) (values others : List Datum) (home place : Home) (c : StoredColumn) → e ≡ f → values ≡ others → home ≡ place → IsColumnWith e values home c → IsColumnWith f others place c
+with_moved e f values others home place c p q r h =
+    subst (λ d. IsColumnWith d others place c) p (subst (λ vs. IsColumnWith e vs place c) q (subst (λ x. IsColumnWith e values x c) r h))
+
+pub inserted_more : (t : StoredTable) (at n k : ℕ) (row : List Datum) (cols new : List StoredColumn) (c : StoredColumn) (e : Domain) (values : List Datum) (home : Home) (d : Datum)
+    → HasHomes t → IsRowOf row t.schema → 0 < n → k < length t.schema → AreFirstColumns (with_rows_inserted at row n t) k cols → new ≡ cols ++ c ∷ []
+    → e ≡ domain_at t.schema k → values ≡ column_of t.rows k → home ≡ get_or t.homes k no_home → d ≡ get_or row k (integer (pos 0))
+    → IsColumnWith e (inserted at n d values) (home_inserted at n e d home) c → AreFirstColumns (with_rows_inserted at row n t) (k + 1) new
+inserted_more t at n k row cols new c e values home d homes fits p q done more kind holds place value h =
+    first_columns_more (with_rows_inserted at row n t) k cols new c done more
+    (column_inserted t at n k row c (homes_paired t homes) fits p q
+    (with_moved e (domain_at t.schema k) (inserted at n d values) (inserted at n (get_or row k (integer (pos 0))) (column_of t.rows k)) (home_inserted at n e d home)
+    (home_inserted at n (domain_at t.schema k) (get_or row k (integer (pos 0))) (get_or t.homes k no_home)) c kind
+    (ap (λ x. inserted at n x values) value ∙ ap (λ vs. inserted at n (get_or row k (integer (pos 0))) vs) holds)
+    (ap (λ x. home_inserted at n x d home) kind ∙ ap (λ x. home_inserted at n (domain_at t.schema k) x home) value ∙ ap (λ x. home_inserted at n (domain_at t.schema k) (get_or row k (integer (pos 0))) x) place) h))
+
+pub removed_more : (t : StoredTable) (at n k : ℕ) (cols new : List StoredColumn) (c : StoredColumn) (e : Domain) (values : List Datum) (home : Home)
+    → HasHomes t → 0 < n → k < length t.schema → AreFirstColumns (with_rows_removed at n t) k cols → new ≡ cols ++ c ∷ []
+    → e ≡ domain_at t.schema k → values ≡ column_of t.rows k → home ≡ get_or t.homes k no_home
+    → IsColumnWith e (removed at n values) (home_removed at n home) c → AreFirstColumns (with_rows_removed at n t) (k + 1) new
+removed_more t at n k cols new c e values home homes p q done more kind holds place h =
+    first_columns_more (with_rows_removed at n t) k cols new c done more
+    (column_removed t at n k c (homes_paired t homes) p q
+    (with_moved e (domain_at t.schema k) (removed at n values) (removed at n (column_of t.rows k)) (home_removed at n home) (home_removed at n (get_or t.homes k no_home)) c kind
+    (ap (λ vs. removed at n vs) holds) (ap (λ x. home_removed at n x) place) h))
+
+pub inserted_all : (t : StoredTable) (at n k : ℕ) (row : List Datum) (cols : List StoredColumn) → AreFirstColumns (with_rows_inserted at row n t) k cols → k ≡ length t.schema → AreColumnsIn (with_rows_inserted at row n t) cols
+inserted_all t at n k row cols h e = all_columns (with_rows_inserted at row n t) k cols h (e ∙ ap length (sym (schema-inserted t at n row)))
+
+pub removed_all : (t : StoredTable) (at n k : ℕ) (cols : List StoredColumn) → AreFirstColumns (with_rows_removed at n t) k cols → k ≡ length t.schema → AreColumnsIn (with_rows_removed at n t) cols
+removed_all t at n k cols h e = all_columns (with_rows_removed at n t) k cols h (e ∙ ap length (sym (schema-removed t at n)))
