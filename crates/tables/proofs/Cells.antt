@@ -73,3 +73,8 @@ cells_of_rows rows schema at whole p = record {
 pub IfOk-then : {T E : Type 0} {P Q : T → Type 0} (r : Result T E) → IfOk r P → ((x : T) → P x → Q x) → IfOk r Q
 IfOk-then (Ok x) h f = f x h
 IfOk-then (Err x) h f = tt
+
+-- a value of a row that was read
+pub row_value : (row : List Datum) (values : List Value) (k : ℕ) (v : Value) → k < length row → map datum_of values ≡ row → v ≡ get_or values k v → datum_of v ≡ get_or row k (integer (pos 0))
+row_value row values k v p kept found =
+    map_read datum_of values k v (omega (arith, ap length kept, length-map values datum_of)) found ∙ ap (λ ds. get_or ds k (datum_of v)) kept ∙ same_default row k (datum_of v) (integer (pos 0)) p

@@ -432,3 +432,18 @@ strings_many e n col c h f = strings_count e n c (subst (λ x. IsColumnOf n e x)
 
 pub views_many : (e : Domain) (n : ℕ) (col : StoredColumn) (ts : List StoredTable) → IsColumnOf n e col → col ≡ views ts → length ts ≡ n
 views_many e n col ts h f = views_count e n ts (subst (λ x. IsColumnOf n e x) f h)
+
+-- a number that fits a column fits its width
+pub integer_fits : (e : Domain) (z : ℤ) → IsOf (Datum.integer z) e → FitsSigned w32 z
+integer_fits Domain.integer z h = h
+integer_fits Domain.long z h = absurd h
+integer_fits Domain.text z h = absurd h
+integer_fits Domain.bytes z h = absurd h
+integer_fits (Domain.relation g) z h = absurd h
+
+pub long_fits : (e : Domain) (z : ℤ) → IsOf (Datum.long z) e → FitsSigned w64 z
+long_fits Domain.integer z h = absurd h
+long_fits Domain.long z h = h
+long_fits Domain.text z h = absurd h
+long_fits Domain.bytes z h = absurd h
+long_fits (Domain.relation g) z h = absurd h
