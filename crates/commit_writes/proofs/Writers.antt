@@ -1,12 +1,12 @@
 -- For callers of `carry`: blocks that are put one after another, and the conditions that a sound commit meets.
-use Rattle.std.proofs.Common.{◌≡◌, refl, sym, ◌∙◌, ap, subst, ℕ, suc, ◌+◌, ◌<◌, ◌≤◌, ◌⊎◌, inl, inr, ⊎_elim, List, [], ◌∷◌, ◌++◌, length, take, drop, max, arith, All, Contains, Result, Ok, Err, OnOk}
+use Rattle.std.proofs.Common.{◌≡◌, refl, sym, ◌∙◌, ap, subst, ℕ, suc, ◌≤◌, inl, inr, ⊎_elim, List, [], ◌∷◌, ◌++◌, length, take, drop, max, arith, All, Contains, Result, Ok, Err, OnOk}
 use Rattle.std.proofs.lemmas.List.{take-take}
 use Rattle.std.proofs.lemmas.List.Elements.{All-append, All-contains, All-contains_itself, All-cons, All-head, All-nil, All-tail, All-weaker}
 use Rattle.mk_value.specs.declared.span.Span.{Span}
-use Rattle.host_io.specs.Disk.{DiskState, IsWithin, Range}
+use Rattle.host_io.specs.Disk.{DiskState}
 use Rattle.host_io.specs.Calls.{put_bytes}
 use Rattle.host_io.specs.Outside.{Outside}
-use Rattle.host_io.specs.Ranges.{AgreesBut, AreWithin, IsAmong, IsClear, Puts, WritesWithin, bytes_in}
+use Rattle.host_io.specs.Ranges.{AgreesBut, AreWithin, IsClear, Puts, WritesWithin, bytes_in}
 use Rattle.host_io.proofs.Bytes.{length-put_bytes, read-put_bytes}
 use Rattle.host_io.proofs.Moments.{begins, joins, weaker}
 use Rattle.host_io.proofs.Ranges.{bytes_agree, within_joins, within_same, within_wider}

@@ -81,16 +81,23 @@ impl WritesBlocks for Blocks<'_> {
     }
 }
 
-fn commit(host: &mut MemHost, column: &[u8], directory: &[u8]) -> Result<(), Failed>
+fn commit(host: &mut MemHost, marks: &Marks, column: &[u8], directory: &[u8]) -> Result<(), Failed>
+    requires low { marks.now.slot ≤ 1 }
     requires column { length column.now ≡ 1 }
     requires directory { length directory.now ≡ 86 }
     requires long { 352 ≤ length (outside_of host.old).now.disk.seen }
 {
-    carry(host, &MARKS, &Blocks { column, directory }, &NEXT)
+    carry(host, marks, &Blocks { column, directory }, &NEXT)
 }
 
 /// The number of the commit for which an image stands: of a crash after so many calls, which leaves the pending bytes so.
-fn number_left(rt: &impl Abort, alloc: Global, host: &MemHost, after: u64, choice: Effect) -> Result<u64, Fail> {
+fn number_left(
+    rt: &impl Abort,
+    alloc: Global,
+    host: &MemHost,
+    after: u64,
+    choice: Effect,
+) -> Result<u64, Fail> {
     assert!(rt; after <= host.calls());
     let image = host.crash(after, choice)?;
     let mut again = MemHost::new(alloc, image.as_slice(), b"", &[], 0, 9)?;
@@ -122,9 +129,19 @@ const FAILED: [[Numbers; 3]; 8] = [
     [OPENING, OPENING, OPENING],
 ];
 
-fn shows(rt: &impl Abort, alloc: Global, host: &MemHost, after: u64, numbers: &Numbers) -> Result<(), Fail> {
+fn shows(
+    rt: &impl Abort,
+    alloc: Global,
+    host: &MemHost,
+    after: u64,
+    numbers: &Numbers,
+) -> Result<(), Fail> {
     for (choice, number) in EFFECTS.iter().zip(numbers) {
-        assert_eq!(rt; number_left(rt, alloc, host, after, *choice)?, *number, "after {after}");
+        assert_eq!(rt;
+            number_left(rt, alloc, host, after, *choice)?,
+            *number,
+            "after {after}"
+        );
     }
     Ok(())
 }
@@ -133,7 +150,7 @@ fn shows(rt: &impl Abort, alloc: Global, host: &MemHost, after: u64, numbers: &N
 fn run(rt: &impl Abort, alloc: Global, script: &[Fault], calls: u64) -> Result<MemHost, Fail> {
     let mut host = MemHost::new(alloc, &WORKED, b"", script, 0, 999)?;
     assert!(rt; host.image().len() >= 352);
-    let answer = commit(&mut host, &COLUMN, &DIRECTORY);
+    let answer = commit(&mut host, &MARKS, &COLUMN, &DIRECTORY);
     assert_eq!(rt; answer.is_err(), !script.is_empty());
     for (after, numbers) in AFTER.iter().enumerate() {
         if (after as u64) < calls {
@@ -173,5 +190,24 @@ fn writes_the_next_commit(rt: HostRuntime) -> Result<(), Fail> {
     file.extend_from_slice(&DIRECTORY)?;
     file.extend_from_slice(&[0; 10])?;
     assert_eq!(rt; host.image(), file.as_slice());
+    Ok(())
+}
+
+#[test]
+fn leaves_a_closed_gate(rt: HostRuntime) -> Result<(), Fail> {
+    let mut file = Vec::from_slice(rt.alloc(), &WORKED)?;
+    assert!(rt; file.len() >= 352);
+    file[64] = 0;
+    let mut host = MemHost::new(rt.alloc(), &file, b"", &[], 0, 999)?;
+    assert!(rt; host.image().len() >= 352);
+    let marks = Marks {
+        other: None,
+        ..MARKS
+    };
+    assert!(rt; commit(&mut host, &marks, &COLUMN, &DIRECTORY).is_ok());
+    // The write and the sync that would close it are left out.
+    assert_eq!(rt; host.calls(), 6);
+    assert_eq!(rt; number_left(&rt, rt.alloc(), &host, 4, Effect::Ones)?, 1);
+    assert_eq!(rt; number_left(&rt, rt.alloc(), &host, 6, Effect::Ones)?, 2);
     Ok(())
 }

@@ -19,7 +19,7 @@ carry-requires-clause-writable c =
           (All-cons IsWritable two [] (record { behind = omega arith; len = refl; end_fits = omega (arith, extent_len-lt (length c.args.directory.now), long) }) (All-nil IsWritable));
       apart = AllPairs-cons (λ one other. ¬ Meets one other) one.span (two.span ∷ [])
           (All-cons (λ other. ¬ Meets one.span other) two.span []
-            (λ meets. let a = meets.1.1 in let b = meets.2.0 in omega (arith, a, b, extent_len-lt (length c.args.column.now), short))
-            (All-nil (λ other. ¬ Meets one.span other)))
+          (λ meets. let a = meets.1.1 in let b = meets.2.0 in omega (arith, a, b, extent_len-lt (length c.args.column.now), short))
+          (All-nil (λ other. ¬ Meets one.span other)))
           (λ i j d below within. absurd (omega (arith, below, within)));
     }
