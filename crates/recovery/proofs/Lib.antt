@@ -3,6 +3,8 @@ pub mod EntriesOf
 pub mod Exact
 pub mod Footprints
 mod Memos
+pub mod NumberBlocks
 mod OneRow
 pub mod PlainParts
+pub mod ReadErrors
 pub mod Widths

@@ -1,2 +1,5 @@
 //! What a file stands for.
 #![tactic(auto)]
+
+mod error;
+mod numbers;
