@@ -4,6 +4,7 @@ pub mod Exact
 pub mod Footprints
 mod Memos
 pub mod NumberBlocks
+pub mod NumberColumns
 mod OneRow
 pub mod PlainParts
 pub mod ReadErrors
