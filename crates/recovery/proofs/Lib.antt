@@ -8,4 +8,5 @@ pub mod NumberColumns
 mod OneRow
 pub mod PlainParts
 pub mod ReadErrors
+pub mod StringBlocks
 pub mod Widths

@@ -1,9 +1,10 @@
 ghost use Rattle.std.specs.Prelude.{◌≡◌};
 ghost use Rattle.recovery.specs.declared.error.ReadError.TheVariants as read_error;
-ghost use Rattle.recovery.specs.Causes.{cause_of_block, cause_of_packing};
+ghost use Rattle.recovery.specs.Causes.{cause_of_block, cause_of_column, cause_of_packing};
 
 use bit_pack::PackError;
 use block_io::BlockError;
+use bytes_col::BlocksError;
 use mk_value::Memory;
 
 /// Why a column was not read.
@@ -35,6 +36,17 @@ impl From<PackError> for ReadError {
         match error {
             PackError::Memory => ReadError::Memory,
             _ => ReadError::Unreadable,
+        }
+    }
+}
+
+impl From<BlocksError> for ReadError {
+    ghost from_gives = { λ b e. e ≡ cause_of_column b };
+
+    fn from(error: BlocksError) -> ReadError {
+        match error {
+            BlocksError::Mismatch => ReadError::Unreadable,
+            BlocksError::Memory => ReadError::Memory,
         }
     }
 }

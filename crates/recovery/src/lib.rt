@@ -5,3 +5,4 @@ mod contents;
 mod error;
 mod long_values;
 mod numbers;
+mod strings;
