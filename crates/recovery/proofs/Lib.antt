@@ -8,5 +8,7 @@ pub mod NumberColumns
 mod OneRow
 pub mod PlainParts
 pub mod ReadErrors
+mod SameStrings
 pub mod StringBlocks
+pub mod StringColumns
 pub mod Widths

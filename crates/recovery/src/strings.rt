@@ -3,8 +3,12 @@ ghost use Rattle.std.specs.Prelude.{◌≡◌, ◌≢◌, ℕ, ◌+◌, ◌-◌,
 ghost use Rattle.host_io.specs.Calls.{CountsFaults, Looks};
 ghost use Rattle.recovery.specs.Blobs.{parts_of};
 ghost use Rattle.recovery.specs.Memos.{EndWithin};
-ghost use Rattle.recovery.specs.Strings.{AreCounted, AreStringsAt, home_at};
+ghost use Rattle.dir_codec.specs.Columns.{PlainEntry};
+ghost use Rattle.tables.specs.Columns.{column_values, texts, IsColumnOf as IsStoredOf};
+ghost use Rattle.recovery.specs.Reading.{IsColumnOf, IsReadable};
+ghost use Rattle.recovery.specs.Strings.{AreCounted, AreStringsAt, IsStringEntry, home_at};
 
+use crate::contents::{Content, all_fit, are_rows_of};
 use crate::error::ReadError;
 use crate::long_values::read_memos;
 use crate::numbers::read_ints;
@@ -38,6 +42,48 @@ fn home_of(alloc: Global, blocks: StringBlocks, memos: &[Memo]) -> Result<BytesH
         short: blocks.short,
         memos: spans,
     })
+}
+
+/// Reads the column that a directory has of so many texts or byte strings with these blocks and memos.
+///
+/// # Errors
+///
+/// `Unreadable`, exactly where the blocks are those of no values of the column; `Failed`, which comes only where the disk failed;
+/// `Memory`. The disk is as before.
+pub(crate) fn read_strings<D: Disk>(
+    alloc: Global,
+    disk: &mut D,
+    blocks: StringBlocks,
+    memos: &[Memo],
+    rows: u32,
+    content: Content,
+) -> Result<BytesCol, ReadError>
+    requires few { rows ≤ 16777216 }
+    requires sizes_end { blocks.sizes.place + blocks.sizes.len < 2 ^ 64 }
+    requires short_ends { blocks.short.place + blocks.short.len < 2 ^ 64 }
+    requires memos_end { EndWithin (2 ^ 64 - 1) memos.now }
+    requires sizes_within { D.tells → blocks.sizes.place + blocks.sizes.len ≤ length (D.outside disk.old).now.disk.seen }
+    requires short_within { D.tells → blocks.short.place + blocks.short.len ≤ length (D.outside disk.old).now.disk.seen }
+    requires memos_within { D.tells → EndWithin (length (D.outside disk.old).now.disk.seen) memos.now }
+    ensures counts { CountsFaults (IsErrOf result ReadError.Failed) (D.outside disk.old) (D.outside disk.new) }
+    ensures same { D.tells → Looks (D.outside disk.old) (D.outside disk.new) }
+    ensures home { IfOk result (λ column. column.home ≡ Some (home_at (parts_of blocks memos.now))) }
+    ensures whole { IfOk result (λ column. (e : PlainEntry) → IsStringEntry rows content (parts_of blocks memos.now) e
+        → IsStoredOf rows e.domain (texts column)) }
+    ensures column { D.tells → IfOk result (λ column. (e : PlainEntry) → IsStringEntry rows content (parts_of blocks memos.now) e
+        → IsColumnOf (D.outside disk.old).now.disk.seen e (column_values e.domain (texts column))) }
+    ensures unreadable { D.tells → IsErrOf result ReadError.Unreadable → (e : PlainEntry)
+        → IsStringEntry rows content (parts_of blocks memos.now) e → ¬ IsReadable (D.outside disk.old).now.disk.seen e }
+{
+    let column = read_values(alloc, disk, blocks, memos, rows)?;
+    let memo_rows = column.memo_rows(alloc)?;
+    if !are_rows_of(memo_rows.as_slice(), memos) {
+        return Err(ReadError::Unreadable);
+    }
+    if !all_fit(&column, content) {
+        return Err(ReadError::Unreadable);
+    }
+    Ok(column)
 }
 
 /// Reads the values that have these blocks, whatever they are and whichever rows the memos are of.
