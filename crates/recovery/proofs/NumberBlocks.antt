@@ -1,5 +1,5 @@
 -- Numbers that a block has, or that none has, as a column of a directory.
-use Rattle.std.proofs.Common.{◌≡◌, ◌≢◌, ℕ, ◌<◌, ◌≤◌, ◌⊎◌, inl, inr, ⊎_elim, ℤ, List, [], ◌∷◌, length, get_or, map, All, refl, ap, sym, subst, ◌∙◌, arith}
+use Rattle.std.proofs.Common.{◌≡◌, ℕ, ℤ, List, length, ap, sym, subst, ◌∙◌}
 use Rattle.bit_pack.specs.declared.widths.Width.{Width}
 use Rattle.bit_pack.specs.declared.error.PackError.{PackError}
 use Rattle.bit_pack.specs.declared.error.PackError.TheVariants as pack_error
@@ -11,7 +11,6 @@ use Rattle.bit_pack.proofs.Packing.{no_padding, values_from_is}
 use Rattle.mk_value.specs.declared.span.Span.{Span}
 use Rattle.host_io.specs.Ranges.{bytes_in}
 use Rattle.commit_writes.specs.Blocks.{span_range}
-use Rattle.recovery.specs.declared.error.ReadError.{ReadError}
 use Rattle.recovery.specs.declared.error.ReadError.TheVariants.{Unreadable, Memory}
 use Rattle.recovery.specs.Causes.{cause_of_packing}
 use Rattle.recovery.specs.Numbers.{AreNumbersAt}

@@ -1,5 +1,5 @@
 -- The numbers of a block are the values of the column that a directory has there.
-use Rattle.std.proofs.Common.{◌≡◌, ◌≢◌, ℕ, ◌<◌, ◌≤◌, ◌≤ℤ◌, ◌^◌, ◌⊎◌, inl, inr, ⊎_elim, ℤ, pos, negsuc, List, [], ◌∷◌, length, get_or, map, All, refl, ap, sym, subst, ◌∙◌, arith}
+use Rattle.std.proofs.Common.{◌≡◌, ℕ, ◌≤◌, ◌⊎◌, inl, inr, ℤ, pos, negsuc, List, [], ◌∷◌, length, get_or, map, All, refl, ap, sym, subst, ◌∙◌, arith}
 use Rattle.std.specs.Prelude.{FitsSigned}
 use Rattle.std.specs.Int.{w32, w64}
 use Rattle.std.proofs.lemmas.Int.{ints}
@@ -20,12 +20,12 @@ use Rattle.int_col.specs.Numbers.{Numbers}
 use Rattle.commit_writes.specs.Blocks.{Block, StandsAt, span_range}
 use Rattle.dir_codec.specs.Dir.{Entry}
 use Rattle.dir_codec.specs.Columns.{PlainEntry}
-use Rattle.tables.specs.Homes.{Home, numbers}
+use Rattle.tables.specs.Homes.{numbers}
 use Rattle.tables.specs.Shapes.{IsHomeOf}
 use Rattle.tables.specs.Blocks.{blocks_of_values}
-use Rattle.tables.specs.Columns.{AreNumbersOf, StoredColumn, integers, column_values, IsColumnOf as IsStoredOf}
-use Rattle.recovery.specs.Commits.{blocks_at, column_blocks, entry_of}
-use Rattle.recovery.specs.Reading.{IsColumnOf, IsReadable, home_in}
+use Rattle.tables.specs.Columns.{integers, column_values, IsColumnOf as IsStoredOf}
+use Rattle.recovery.specs.Commits.{blocks_at}
+use Rattle.recovery.specs.Reading.{IsColumnOf, IsReadable}
 use Rattle.recovery.specs.Numbers.{AreHeld, AreNumbersAt, IsNumberEntry}
 use Rattle.recovery.proofs.Widths.{integers_held, longs_held}
 
@@ -70,7 +70,6 @@ module _ (image : List ℕ) (w : Width) (block : Span) (rows start : ℕ) (domai
     (held : (ds : List Datum) → All (λ d. IsOf d domain) ds → HoldsAll W64 (map number_in ds))
     (shape : (ds : List Datum) → IsHomeOf (numbers block) domain ds)
     (packs : (ds : List Datum) → blocks_of_values domain ds ≡ packed (map number_in ds) ∷ []) where
-
   one_block : List Datum → Block
   one_block ds = record { span = block; bytes = packed (map number_in ds) }
 
@@ -117,14 +116,16 @@ pub read_numbers : (image : List ℕ) (w : Width) (block : Span) (rows : ℕ) (e
 read_numbers image w block rows e is readable = by_domain is.domain
   where
     by_domain : ((e.domain ≡ Domain.integer) × (bit_count w ≤ 32)) ⊎ (e.domain ≡ Domain.long) → (values : List ℤ) × AreNumbersAt image w block rows values
-    by_domain (inl d) =
-        (map number_in readable.0,
-        of_column image w block rows e.start Domain.integer (λ ds h. HoldsAll-wider W32 W64 (map number_in ds) (omega arith) (integers_held ds h)) (λ _. tt) (λ _. refl) readable.0
-        (subst (λ (x : PlainEntry). IsColumnOf image x readable.0) (the_entry e Domain.integer rows w block d.0 is.rows_are is.entry) readable.1))
-    by_domain (inr d) =
-        (map number_in readable.0,
-        of_column image w block rows e.start Domain.long longs_held (λ _. tt) (λ _. refl) readable.0
-        (subst (λ (x : PlainEntry). IsColumnOf image x readable.0) (the_entry e Domain.long rows w block d is.rows_are is.entry) readable.1))
+    by_domain (inl d) = (
+      map number_in readable.0,
+      of_column image w block rows e.start Domain.integer (λ ds h. HoldsAll-wider W32 W64 (map number_in ds) (omega arith) (integers_held ds h)) (λ _. tt) (λ _. refl) readable.0
+          (subst (λ (x : PlainEntry). IsColumnOf image x readable.0) (the_entry e Domain.integer rows w block d.0 is.rows_are is.entry) readable.1),
+    )
+    by_domain (inr d) = (
+      map number_in readable.0,
+      of_column image w block rows e.start Domain.long longs_held (λ _. tt) (λ _. refl) readable.0
+          (subst (λ (x : PlainEntry). IsColumnOf image x readable.0) (the_entry e Domain.long rows w block d is.rows_are is.entry) readable.1),
+    )
 
 -- numbers of the width are a whole column of the domain
 pub whole_column : (w : Width) (block : Span) (rows : ℕ) (c : Numbers) → AreHeld w rows c.values → (e : PlainEntry) → IsNumberEntry rows w block e → IsStoredOf rows e.domain (integers c)
@@ -135,6 +136,7 @@ whole_column w block rows c h e is = by_domain is.domain
       where
         record_each : (vs : List ℤ) → All (Holds w) vs → All (λ z. FitsSigned w64 z) vs
         record_each vs a = λ k d within. held_fits w (get_or vs k d) (a k d within)
+
     by_domain : ((e.domain ≡ Domain.integer) × (bit_count w ≤ 32)) ⊎ (e.domain ≡ Domain.long) → IsStoredOf rows e.domain (integers c)
     by_domain (inl d) =
         subst (λ x. IsStoredOf rows x (integers c)) (sym d.0)

@@ -1,5 +1,5 @@
 -- Blocks that no texts or byte strings have.
-use Rattle.std.proofs.Common.{◌≡◌, ℕ, ℤ, List, length, sym, ◌∙◌}
+use Rattle.std.proofs.Common.{◌≡◌, ℕ, ℤ, List, sym, ◌∙◌}
 use Rattle.bit_pack.proofs.Packing.{same_values}
 use Rattle.bytes_col.specs.Strings.{sizes_of}
 use Rattle.bytes_col.specs.Blocks.{IsBlocksRefusal}
@@ -7,7 +7,6 @@ use Rattle.bytes_col.specs.declared.blocks.BlocksError.{BlocksError}
 use Rattle.bytes_col.specs.declared.blocks.BlocksError.TheVariants as blocks_error
 use Rattle.host_io.specs.Ranges.{bytes_in}
 use Rattle.commit_writes.specs.Blocks.{span_range}
-use Rattle.recovery.specs.declared.error.ReadError.{ReadError}
 use Rattle.recovery.specs.declared.error.ReadError.TheVariants.{Unreadable, Memory}
 use Rattle.recovery.specs.Causes.{cause_of_column}
 use Rattle.recovery.specs.Memos.{memo_bytes}

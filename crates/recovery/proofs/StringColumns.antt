@@ -1,5 +1,5 @@
 -- The texts or byte strings of blocks are the values of the column that a directory has there.
-use Rattle.std.proofs.Common.{◌≡◌, ◌≢◌, ℕ, suc, ◌+◌, ◌<◌, ◌≤◌, ℤ, pos, List, [], ◌∷◌, length, get_or, map, All, Some, refl, ap, sym, subst, ◌∙◌, arith}
+use Rattle.std.proofs.Common.{◌≡◌, ℕ, ◌≤◌, pos, List, [], ◌∷◌, length, map, All, Some, refl, ap, sym, subst, ◌∙◌, arith}
 use Rattle.std.proofs.lemmas.List.{length-map}
 use Rattle.std.proofs.lemmas.List.Elements.{All-head, All-tail, All-cons, All-nil}
 use Rattle.mk_value.specs.declared.span.Span.{Span}
@@ -8,34 +8,27 @@ use Rattle.mk_value.specs.Heading.{Domain}
 use Rattle.mk_value.specs.Data.{Datum, integer, long, text, bytes, relation, IsOf}
 use Rattle.bit_pack.specs.declared.widths.Width.{Width}
 use Rattle.bit_pack.specs.declared.widths.Width.TheVariants.{W0, W32, W64}
-use Rattle.bit_pack.specs.Width.{Holds, HoldsAll, least_width}
+use Rattle.bit_pack.specs.Width.{least_width}
 use Rattle.bit_pack.specs.Packed.{Packed, packed}
 use Rattle.bit_pack.proofs.Least.{least_is, packed_is, packed_is_packed}
 use Rattle.bit_pack.proofs.LeastWidth.{HoldsAll-wider}
 use Rattle.bit_pack.proofs.Packing.{same_values}
 use Rattle.bytes_col.specs.Strings.{Strings, long_values, memo_rows, short_bytes, sizes_of}
-use Rattle.bytes_col.specs.Blocks.{AreBlocks, IsBlocksRefusal}
-use Rattle.bytes_col.specs.declared.blocks.BlocksError.{BlocksError}
-use Rattle.bytes_col.specs.declared.blocks.BlocksError.TheVariants as blocks_error
 use Rattle.host_io.specs.Ranges.{bytes_in}
 use Rattle.commit_writes.specs.Blocks.{Block, StandsAt, span_range}
 use Rattle.dir_codec.specs.declared.dir.Memo.{Memo}
 use Rattle.dir_codec.specs.Dir.{Entry}
 use Rattle.dir_codec.specs.Columns.{PlainEntry}
-use Rattle.tables.specs.Homes.{Home, strings}
+use Rattle.tables.specs.Homes.{strings}
 use Rattle.tables.specs.Shapes.{IsHomeOf, bytes_in as content_of}
 use Rattle.tables.specs.Blocks.{blocks_of_values}
-use Rattle.tables.specs.Columns.{AreStringsOf, HasBlocks, IsTextValue, StoredColumn, texts, column_values, IsColumnOf as IsStoredOf}
-use Rattle.recovery.specs.declared.error.ReadError.{ReadError}
-use Rattle.recovery.specs.declared.error.ReadError.TheVariants.{Unreadable, Memory}
+use Rattle.tables.specs.Columns.{HasBlocks, IsTextValue, texts, column_values, IsColumnOf as IsStoredOf}
 use Rattle.recovery.specs.declared.contents.Content.{Content}
 use Rattle.recovery.specs.declared.contents.Content.TheVariants as content
-use Rattle.recovery.specs.Causes.{cause_of_column}
-use Rattle.recovery.specs.Commits.{blocks_at, column_blocks, entry_of, memos_at, strings_entry}
-use Rattle.recovery.specs.Contents.{FitsContent, domain_of}
+use Rattle.recovery.specs.Commits.{blocks_at, memos_at}
+use Rattle.recovery.specs.Contents.{FitsContent}
 use Rattle.recovery.specs.Memos.{memo_bytes}
-use Rattle.recovery.specs.Numbers.{AreNumbersAt}
-use Rattle.recovery.specs.Reading.{IsColumnOf, IsReadable, home_in}
+use Rattle.recovery.specs.Reading.{IsColumnOf, IsReadable}
 use Rattle.recovery.specs.Strings.{AreCounted, AreStringsAt, IsStringEntry, Parts, home_at}
 use Rattle.recovery.proofs.Memos.{memo_rows-from, rows_long}
 use Rattle.recovery.proofs.SameStrings.{one_list}
@@ -91,7 +84,6 @@ module _ (image : List ℕ) (p : Parts) (rows start : ℕ) (domain : Domain)
     (shape : (ds : List Datum) → (length (map (λ m. m.span) p.memos) ≡ length (long_values (map content_of ds))) → IsHomeOf (strings p.sizes p.short (map (λ m. m.span) p.memos)) domain ds)
     (shape_of : (ds : List Datum) → IsHomeOf (strings p.sizes p.short (map (λ m. m.span) p.memos)) domain ds → length (map (λ m. m.span) p.memos) ≡ length (long_values (map content_of ds)))
     (blocks_are : (ds : List Datum) → blocks_of_values domain ds ≡ packed (sizes_of (map content_of ds)) ∷ short_bytes (map content_of ds) ∷ long_values (map content_of ds)) where
-
   to_column : (ds : List Datum) (values : List (List ℕ)) → map content_of ds ≡ values → All (λ d. IsOf d domain) ds → length ds ≡ length values
       → AreStringsAt image p rows values → map (λ m. m.row) p.memos ≡ memo_rows values → IsColumnOf image (string_entry start domain rows p) ds
   to_column ds values contents fit same at in_order = record {
@@ -121,17 +113,18 @@ module _ (image : List ℕ) (p : Parts) (rows start : ℕ) (domain : Domain)
       let last = blocks_at (map (λ m. m.span) p.memos) (long_values vs) in
       let stands : bytes_in image (span_range p.sizes) ≡ packed (sizes_of vs) = All-head (StandsAt image) first (second ∷ last) all in
       let behind = All-tail (StandsAt image) first (second ∷ last) all in
-      let held = HoldsAll-wider W32 W64 (sizes_of vs) (omega arith) (sizes_held vs (fits ds is.fit)) in
-      (record {
-        sized = record {
-          count = length-map vs (λ v. pos (length v)) ∙ length-map ds content_of ∙ is.count;
-          packed = subst (λ u. Packed u (sizes_of vs) (bytes_in image (span_range p.sizes))) (sym least) (subst (Packed (least_width (sizes_of vs)) (sizes_of vs)) (sym stands) (packed_is_packed (sizes_of vs) held));
-        };
-        brief = All-head (StandsAt image) second last behind;
-        long = memos_of image p.memos (long_values vs) long (All-tail (StandsAt image) second last behind);
-      },
-      ap (λ en. map (λ m. m.row) (memos_in en)) is.entry
-      ∙ rows_back (memo_rows vs) (map (λ m. m.span) p.memos) (ap length (memo_rows-from vs) ∙ rows_long 0 vs ∙ sym long))
+      let held = HoldsAll-wider W32 W64 (sizes_of vs) (omega arith) (sizes_held vs (fits ds is.fit)) in (
+        record {
+          sized = record {
+            count = length-map vs (λ v. pos (length v)) ∙ length-map ds content_of ∙ is.count;
+            packed = subst (λ u. Packed u (sizes_of vs) (bytes_in image (span_range p.sizes))) (sym least) (subst (Packed (least_width (sizes_of vs)) (sizes_of vs)) (sym stands) (packed_is_packed (sizes_of vs) held));
+          };
+          brief = All-head (StandsAt image) second last behind;
+          long = memos_of image p.memos (long_values vs) long (All-tail (StandsAt image) second last behind);
+        },
+        ap (λ en. map (λ m. m.row) (memos_in en)) is.entry
+            ∙ rows_back (memo_rows vs) (map (λ m. m.span) p.memos) (ap length (memo_rows-from vs) ∙ rows_long 0 vs ∙ sym long),
+      )
 
 -- values of texts and of byte strings, and back
 contents_of_texts : (values : List (List ℕ)) → map content_of (map text values) ≡ values

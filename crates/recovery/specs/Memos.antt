@@ -1,5 +1,5 @@
 -- The blocks of memos in an image.
-use Rattle.std.specs.Prelude.{ℕ, ◌+◌, ◌^◌, ◌<◌, ◌≤◌, List, map, length, All}
+use Rattle.std.specs.Prelude.{ℕ, ◌+◌, ◌≤◌, List, map, All}
 use Rattle.host_io.specs.Ranges.{bytes_in}
 use Rattle.commit_writes.specs.Blocks.{span_range}
 use Rattle.dir_codec.specs.declared.dir.Memo.{Memo}

@@ -1,7 +1,6 @@
 -- The texts or byte strings that blocks have.
 use Rattle.std.specs.Prelude.{◌≡◌, ℕ, List, length, map}
 use Rattle.mk_value.specs.declared.span.Span.{Span}
-use Rattle.mk_value.specs.Heading.{Domain}
 use Rattle.bit_pack.specs.declared.widths.Width.{Width}
 use Rattle.bytes_col.specs.Strings.{long_values, short_bytes, sizes_of}
 use Rattle.bytes_col.specs.declared.home.BytesHome.{BytesHome}

@@ -1,4 +1,4 @@
-use Rattle.std.proofs.Common.{◌∙◌, ap, sym}
+use Rattle.std.proofs.Common.{◌∙◌}
 use Rattle.recovery.proofs.NumberBlocks.{no_numbers}
 use Rattle.recovery.proofs.ReadErrors.{cause_is}
 use Rattle.recovery.proofs.numbers.read_ints.Goals as goal
