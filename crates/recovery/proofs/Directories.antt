@@ -50,7 +50,7 @@ numbers_are end most values rows span count narrow held sited =
 wide : (values : List ℤ) → HoldsAll W32 values → HoldsAll W64 values
 wide values h = HoldsAll-wider W32 W64 values (omega arith) h
 
-short_values : (e : Domain) → (e ≡ Domain.text) ⊎ (e ≡ Domain.bytes) → (values : List Datum) → All (λ d. IsOf d e) values → All (λ v. length v ≤ max_bytes) (map bytes_in values)
+pub short_values : (e : Domain) → (e ≡ Domain.text) ⊎ (e ≡ Domain.bytes) → (values : List Datum) → All (λ d. IsOf d e) values → All (λ v. length v ≤ max_bytes) (map bytes_in values)
 short_values e kind [] h = All-nil (λ v. length v ≤ max_bytes)
 short_values e kind (d ∷ values) h =
     All-cons (λ v. length v ≤ max_bytes) (bytes_in d) (map bytes_in values)

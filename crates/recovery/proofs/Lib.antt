@@ -6,10 +6,14 @@ pub mod Footprints
 mod Memos
 pub mod NumberBlocks
 pub mod NumberColumns
+pub mod OneCommit
 mod OneRow
 pub mod PlainParts
 pub mod ReadErrors
+mod SamePlain
 mod SameStrings
+mod SameTables
+mod SameValues
 pub mod StringBlocks
 pub mod StringColumns
 pub mod Widths
