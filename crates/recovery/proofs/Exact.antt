@@ -46,7 +46,7 @@ beside R (x ∷ xs) (z ∷ before) after y h =
     record { one = found.one; there = (suc found.there.0, (let p = found.there.1 in omega (arith, p)), found.there.2); related = found.related }
 
 -- spans that are apart have none that meet
-none_meet : (spans : List Span) (one other : Span) → AreApart spans → AreFirstToMeet spans one other → ⊥
+pub none_meet : (spans : List Span) (one other : Span) → AreApart spans → AreFirstToMeet spans one other → ⊥
 none_meet spans one other apart first =
     let at = first.neighbors.at in
     let within = slice_get_within first.ordered (at + 1) other first.neighbors.second in

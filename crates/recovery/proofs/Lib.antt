@@ -7,6 +7,7 @@ mod Memos
 pub mod NumberBlocks
 pub mod NumberColumns
 pub mod OneCommit
+pub mod OneRefusal
 mod OneRow
 pub mod PlainParts
 pub mod ReadErrors

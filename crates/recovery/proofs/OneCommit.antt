@@ -1,11 +1,10 @@
 -- Under one mark an image stands for one commit.
-use Rattle.std.proofs.Common.{◌≡◌, ℕ, ◌<◌, ◌^◌, List, [], ◌∷◌, ◌++◌, All, refl, ap, sym, subst, ◌∙◌, arith}
+use Rattle.std.proofs.Common.{◌≡◌, ℕ, ◌<◌, ◌^◌, List, [], ◌∷◌, All, refl, ap, sym, subst, ◌∙◌, arith}
 use Rattle.std.specs.List.{flat_map}
 use Rattle.std.proofs.lemmas.List.Elements.{All-head, All-tail, All-cons, All-nil, All-contains, Contains-append_right}
 use Rattle.mk_value.specs.declared.span.Span.{Span}
 use Rattle.host_io.specs.Ranges.{bytes_in}
 use Rattle.commit_marks.specs.declared.mark.Mark.{Mark}
-use Rattle.commit_marks.specs.Marks.{dir_span}
 use Rattle.commit_writes.specs.Blocks.{StandsAt, span_range}
 use Rattle.commit_writes.specs.Footprints.{Holds}
 use Rattle.dir_codec.specs.Dir.{Dir, IsDir, NoteEntry, spelled}

@@ -1,5 +1,5 @@
 -- Two plain columns with one entry in a directory, whose blocks stand in one image, are one.
-use Rattle.std.proofs.Common.{◌≡◌, ◌≢◌, ℕ, zero, suc, ◌+◌, ◌≤◌, ℤ, pos, List, [], ◌∷◌, ◌++◌, inl, inr, length, get_or, map, drop, All, refl, ap, sym, subst, ◌∙◌, arith}
+use Rattle.std.proofs.Common.{◌≡◌, ◌≢◌, ℕ, suc, ◌≤◌, ℤ, pos, List, [], ◌∷◌, inl, inr, length, get_or, map, drop, All, refl, ap, sym, subst, ◌∙◌, arith}
 use Rattle.std.proofs.lemmas.List.{length-map}
 use Rattle.mk_value.specs.declared.span.Span.{Span}
 use Rattle.mk_value.specs.Limits.{max_bytes}

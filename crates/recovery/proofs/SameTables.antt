@@ -1,12 +1,12 @@
 -- Tables with one directory, whose blocks stand in one image, are one.
-use Rattle.std.proofs.Common.{◌≡◌, ℕ, zero, suc, ◌+◌, ◌<◌, List, [], ◌∷◌, ◌++◌, length, get_or, map, drop, All, pos, refl, ap, sym, subst, ◌∙◌, arith, zero-add}
+use Rattle.std.proofs.Common.{◌≡◌, ℕ, zero, suc, ◌+◌, ◌<◌, List, [], ◌∷◌, length, get_or, map, drop, All, pos, refl, ap, sym, subst, ◌∙◌, arith, zero-add}
 use Rattle.std.proofs.lemmas.List.{get_or_default, length-map, same_lists}
-use Rattle.std.proofs.lemmas.List.Elements.{All-head, All-tail, All-cons, All-nil, All-weaker}
+use Rattle.std.proofs.lemmas.List.Elements.{All-head, All-tail, All-weaker}
 use Rattle.mk_value.specs.Heading.{Domain, Heading, no_attributes, attribute, Attribute, attributes_of, heading_of}
-use Rattle.mk_value.specs.Data.{Datum, integer, long, text, bytes, relation, relation_of, rows_of, IsOf, IsRowOf, AreRowsOf}
+use Rattle.mk_value.specs.Data.{Datum, integer, long, text, bytes, relation, relation_of, IsOf, IsRowOf, AreRowsOf}
 use Rattle.mk_value.specs.Tables.{IsPlainDomain}
 use Rattle.mk_value.proofs.Converting.{relation_of-rows_of}
-use Rattle.mk_value.proofs.Headings.{attributes_of-heading_of, heading_of-attributes_of}
+use Rattle.mk_value.proofs.Headings.{attributes_of-heading_of}
 use Rattle.mk_value.proofs.Relations.{row_fits_length}
 use Rattle.dir_codec.specs.Dir.{Bodies, no_bodies, body, Entries, no_entries, entry, Entry, ViewEntry}
 use Rattle.tables.specs.Homes.{Home, no_home, numbers, strings, tables, PlainColumn, ColumnHomes, no_columns, column, column_homes, columns_of, RowHomes, no_rows, row, column_of, rows_in}
@@ -16,7 +16,7 @@ use Rattle.tables.specs.Blocks.{plain_columns, plain_from, plain_in, plain_rows}
 use Rattle.tables.proofs.Lists.{columns_of-column_homes}
 use Rattle.tables.proofs.Values.{rows_inside}
 use Rattle.view_store.specs.Views.{IsView, NamedTable}
-use Rattle.recovery.specs.Commits.{bodies_of, entries_of, entry_of, plain_views, view_entry}
+use Rattle.recovery.specs.Commits.{bodies_of, entries_of, entry_of, view_entry}
 use Rattle.recovery.proofs.Directories.{ColumnsFit, columns_fit, split_all}
 use Rattle.recovery.proofs.SamePlain.{IsThere, same_plain}
 
@@ -110,6 +110,7 @@ at_place xs ys k x here rest (suc m) q = subst (λ j. column_of xs j ≡ column_
 
 mutual
   unfolding bodies_in first_rows first_entries other_bodies first_entry other_entries SameColumns
+
   same_in : (image : List ℕ) (h k : Home) (e : Domain) (us vs : List Datum) → IsHomeOf h e us → IsHomeOf k e vs → All (λ d. IsOf d e) us → All (λ d. IsOf d e) vs → All (IsThere image) (plain_in h e us) → All (IsThere image) (plain_in k e vs)
       → length us ≡ length vs → entry_of h e us ≡ entry_of k e vs → (h ≡ k) × (us ≡ vs)
   same_in image h k Domain.integer us vs s t f g a b p together =
@@ -176,10 +177,11 @@ unfolding SameColumns
 same_table image schema xs ys hs ks s t f g a b p entries =
     let x = heading_of schema in
     let at = sym (attributes_of-heading_of schema) in
-    let found = same_from image (column_homes hs) (column_homes ks) x 0 xs ys s t (columns_fit x schema 0 xs at f) (columns_fit x schema 0 ys at g) a b p entries in
-    (sym (columns_of-column_homes hs) ∙ ap columns_of found.0 ∙ columns_of-column_homes ks,
-    same_rows_of (length schema) xs ys (row_lengths schema xs f) (row_lengths schema ys g) p
-    (λ m q. subst (λ j. column_of xs j ≡ column_of ys j) (zero-add m) (found.1 m (subst (λ n. m < n) (ap length at) q))))
+    let found = same_from image (column_homes hs) (column_homes ks) x 0 xs ys s t (columns_fit x schema 0 xs at f) (columns_fit x schema 0 ys at g) a b p entries in (
+      sym (columns_of-column_homes hs) ∙ ap columns_of found.0 ∙ columns_of-column_homes ks,
+      same_rows_of (length schema) xs ys (row_lengths schema xs f) (row_lengths schema ys g) p
+          (λ m q. subst (λ j. column_of xs j ≡ column_of ys j) (zero-add m) (found.1 m (subst (λ n. m < n) (ap length at) q))),
+    )
 
 abbrev stored : List Attribute → List (List Datum) → List Home → StoredTable
 stored schema rows homes = record { schema = schema; rows = rows; homes = homes }

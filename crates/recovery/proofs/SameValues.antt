@@ -1,21 +1,16 @@
 -- One width, and one list of blocks, are those of one list of values.
-use Rattle.std.proofs.Common.{◌≡◌, ℕ, zero, suc, ◌+◌, ◌≤◌, ℤ, pos, List, [], ◌∷◌, ◌++◌, length, get_or, map, drop, take, Bool, true, false, cond, All, refl, ap, sym, subst, ◌∙◌, arith}
-use Rattle.std.specs.Prelude.{not}
-use Rattle.std.proofs.lemmas.List.{length-map}
+use Rattle.std.proofs.Common.{◌≡◌, ℕ, ℤ, List, [], ◌∷◌, length, map, All, refl, ap, sym, subst, ◌∙◌, arith}
 use Rattle.std.proofs.lemmas.List.Elements.{All-head, All-tail}
 use Rattle.mk_value.specs.declared.span.Span.{Span}
-use Rattle.mk_value.specs.Limits.{max_bytes}
 use Rattle.mk_value.specs.Heading.{Domain}
 use Rattle.mk_value.specs.Data.{Datum, integer, long, text, bytes, relation, IsOf}
 use Rattle.mk_value.specs.Tables.{number_in}
-use Rattle.bit_pack.specs.declared.widths.Width.TheVariants.{W32, W64}
+use Rattle.bit_pack.specs.declared.widths.Width.TheVariants.{W64}
 use Rattle.bit_pack.specs.Width.{HoldsAll, least_width}
-use Rattle.bit_pack.specs.Packed.{Packed, PackedAt, packed}
+use Rattle.bit_pack.specs.Packed.{PackedAt, packed}
 use Rattle.bit_pack.proofs.Least.{packed_is_packed}
-use Rattle.bit_pack.proofs.LeastWidth.{HoldsAll-wider}
 use Rattle.bit_pack.proofs.Packing.{same_values}
-use Rattle.bytes_col.specs.Strings.{is_short, long_values, short_bytes, sizes_of}
-use Rattle.commit_writes.specs.Blocks.{Block, StandsAt}
+use Rattle.commit_writes.specs.Blocks.{StandsAt}
 use Rattle.tables.specs.Shapes.{bytes_in}
 use Rattle.recovery.specs.Commits.{blocks_at}
 

@@ -1,4 +1,5 @@
 ghost use Rattle.std.specs.Prelude.{◌≡◌, ℕ, List};
+ghost use Rattle.commit_marks.specs.Marks.{IsMark};
 ghost use Rattle.commit_marks.specs.declared.mark.Mark.{Mark};
 ghost use Rattle.recovery.specs.Commits.{Commit};
 ghost use Rattle.recovery.specs.Refusals.{IsRefusedAt};
@@ -12,4 +13,10 @@ pub fn stands_or_refused()
 /// A law of images: one stands for at most one commit.
 pub fn one_commit()
     ensures { (image : List ℕ) (one other : Commit) → StandsFor image one → StandsFor image other → one ≡ other }
+{}
+
+/// A law of damaged files: under one mark an image is refused at one place.
+pub fn one_refusal()
+    ensures { (image : List ℕ) (m : Mark) (slot one other : ℕ) → IsMark m → IsRefusedAt image slot m one
+        → IsRefusedAt image slot m other → one ≡ other }
 {}

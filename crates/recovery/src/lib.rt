@@ -12,4 +12,4 @@ mod long_values;
 mod numbers;
 mod strings;
 
-pub use laws::{one_commit, stands_or_refused};
+pub use laws::{one_commit, one_refusal, stands_or_refused};
