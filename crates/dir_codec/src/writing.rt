@@ -15,6 +15,12 @@ use std::alloc::Global;
 use struct_text::print;
 
 /// The bytes of a directory, in time and memory linear in their number.
+///
+/// A value that may stand under no mark is written all the same, as it is spelled; `decode` never gives it back.
+///
+/// # Errors
+///
+/// `Memory` where memory ran out.
 pub fn encode(alloc: Global, dir: &Dir) -> Result<Bytes, Memory>
     ensures { IfOk result (λ bytes. bytes.bytes ≡ spelled (dir_of dir.now)) }
 {
@@ -33,7 +39,7 @@ fn write_8(out: &mut Bytes, number: u64) -> Result<(), Memory>
     out.push_slice(&field)
 }
 
-/// A number in four bytes.
+/// The lowest four bytes of a number.
 fn write_4(out: &mut Bytes, number: u64) -> Result<(), Memory>
     ensures { OnOk result (out.new.bytes ≡ out.old.bytes ++ little_bytes 4 number) }
 {
