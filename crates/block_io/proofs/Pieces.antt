@@ -1,10 +1,10 @@
 -- What a loop over the pieces of a block has done.
-use Rattle.std.proofs.Common.{◌≡◌, refl, sym, ◌∙◌, ap, subst, ℕ, ◌+◌, ◌<◌, ◌≤◌, List, [], ◌++◌, length, take, drop, arith, Result, Ok, Err, IsErr, length-append}
-use Rattle.std.proofs.lemmas.List.{append_assoc, append-nil}
+use Rattle.std.proofs.Common.{◌≡◌, refl, sym, ◌∙◌, ap, subst, ℕ, ◌+◌, ◌≤◌, ◌⊎◌, inl, inr, ⊎_elim, List, [], ◌++◌, length, take, arith, Ok, Err, IsErr, length-append}
+use Rattle.std.proofs.lemmas.List.{append_assoc, append-nil, length-take-le}
 use Rattle.host_io.specs.Outside.{Outside}
 use Rattle.host_io.specs.Ranges.{Puts}
 use Rattle.block_io.specs.Parts.{rounded}
-use Rattle.block_io.specs.Pieces.{PutsNext}
+use Rattle.block_io.specs.Pieces.{IsPiece, PutsNext}
 use Rattle.block_io.proofs.Putting.{long_after, puts_failed, puts_joins, puts_none}
 use Rattle.block_io.proofs.Rounding.{rounded-nil}
 
@@ -58,9 +58,12 @@ has_put_failed {T} {U} {E} {F} {e} {f} {at = at} {all = all} {left = left} {old}
     (puts_failed (put.front ++ next.piece) (rounded left)
     (puts_joins put.front next.piece within put.puts (any_err {U = Unit {0}} {F = Unit {0}} {f = tt} (subst (λ (p : ℕ). Puts {T = T} p next.piece mid new (Err e)) put.place_is next.puts))))
 
--- one write puts the next piece
-pub next_written : {T U E F : Type 0} {x : T} {y : U} {place : ℕ} {piece from to : List ℕ} {old new : Outside} → rounded from ≡ piece ++ rounded to → Puts {E = E} place piece old new (Ok x) → PutsNext {E = F} place from to old new (Ok y)
-next_written {piece = piece} cut puts = record { piece = piece; cut = cut; puts = any_ok puts }
+whole_piece : {len : ℕ} {slice from to : List ℕ} → IsPiece slice len from to → (length (take len slice) ≡ 4096) ⊎ (to ≡ [])
+whole_piece {len} {slice} is = ⊎_elim (λ full. inl (length-take-le len slice is.within ∙ full)) (λ last. inr last) is.whole
 
-pub next_failed : {T U E F : Type 0} {e : E} {f : F} {place : ℕ} {piece from to : List ℕ} {old new : Outside} → rounded from ≡ piece ++ rounded to → Puts {T = T} place piece old new (Err e) → PutsNext {T = U} place from to old new (Err f)
-next_failed {piece = piece} cut puts = record { piece = piece; cut = cut; puts = any_err puts }
+-- one write puts the next piece
+pub next_written : {T U E F : Type 0} {x : T} {y : U} {place len : ℕ} {slice from to : List ℕ} {old new : Outside} → IsPiece slice len from to → Puts {E = E} place (take len slice) old new (Ok x) → PutsNext {E = F} place from to old new (Ok y)
+next_written {len = len} {slice} is puts = record { piece = take len slice; cut = is.cut; whole = whole_piece is; puts = any_ok puts }
+
+pub next_failed : {T U E F : Type 0} {e : E} {f : F} {place len : ℕ} {slice from to : List ℕ} {old new : Outside} → IsPiece slice len from to → Puts {T = T} place (take len slice) old new (Err e) → PutsNext {T = U} place from to old new (Err f)
+next_failed {len = len} {slice} is puts = record { piece = take len slice; cut = is.cut; whole = whole_piece is; puts = any_err puts }

@@ -1,9 +1,9 @@
 -- Bytes that are put at a place piece by piece.
-use Rattle.std.proofs.Common.{◌≡◌, refl, sym, ◌∙◌, ap, subst, ℕ, ◌+◌, ◌<◌, ◌≤◌, ◌⊎◌, inl, inr, ⊎_elim, List, [], ◌∷◌, ◌++◌, length, take, drop, arith, Result, Ok, Err, OnOk, length-append}
-use Rattle.std.proofs.lemmas.List.{append_assoc, append-nil, drop_at, drop-drop, length-take-le, take-append-drop, take_at}
+use Rattle.std.proofs.Common.{◌≡◌, refl, sym, ◌∙◌, ap, subst, ℕ, ◌+◌, ◌≤◌, inl, ⊎_elim, List, [], ◌∷◌, ◌++◌, length, take, drop, arith, Result, Ok, Err, OnOk, length-append}
+use Rattle.std.proofs.lemmas.List.{append_assoc, append-nil, drop-drop, length-take-le, take-append-drop, take_at}
 use Rattle.host_io.specs.Disk.{Range, DiskState}
 use Rattle.host_io.specs.Calls.{put_bytes}
-use Rattle.host_io.specs.Outside.{Moment, Outside}
+use Rattle.host_io.specs.Outside.{Outside}
 use Rattle.host_io.specs.Ranges.{AreWithin, Puts, WritesWithin}
 use Rattle.host_io.proofs.Bytes.{drop-put_bytes, length-put_bytes}
 use Rattle.host_io.proofs.Moments.{begins, joins, weaker}

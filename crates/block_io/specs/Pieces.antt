@@ -17,8 +17,9 @@ pub record IsShorter (len : ℕ) (old new : List ℕ) : Type 0 where
   pub cut : len + length (rounded new) ≡ length (rounded old)
   pub fewer : length new < length old
 
--- the next piece of a block is put at a place
+-- the next piece of a block is put at a place: its next 4,096 bytes, or all that are left with their rounding
 pub record PutsNext {T E : Type 0} (place : ℕ) (from to : List ℕ) (old new : Outside) (result : Result T E) : Type 0 where
   pub piece : List ℕ
   pub cut : rounded from ≡ piece ++ rounded to
+  pub whole : (length piece ≡ 4096) ⊎ (to ≡ [])
   pub puts : Puts place piece old new result

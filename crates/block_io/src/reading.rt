@@ -23,7 +23,7 @@ pub fn read_block<D: Disk>(alloc: Global, disk: &mut D, span: Span) -> Result<By
     let mut bytes = Bytes::new(alloc);
     let mut left = span.len;
     while left > 0 {
-        let count = left.min(4096);
+        let count = left.min(MAX_WRITE as u64);
         read_piece(
             disk,
             span.place + (span.len - left),

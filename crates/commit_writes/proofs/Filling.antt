@@ -1,14 +1,14 @@
 -- What is written behind the closed gate of a slot: the blocks, and then the body.
-use Rattle.std.proofs.Common.{◌≡◌, sym, ◌∙◌, ap, subst, ℕ, ◌+◌, ◌<◌, ◌≤◌, ◌⊎◌, inl, inr, ⊎_elim, List, [], ◌∷◌, length, arith, All, Contains, Result, Ok, Err, OnOk}
+use Rattle.std.proofs.Common.{◌≡◌, sym, ◌∙◌, ap, subst, ℕ, ◌+◌, ◌≤◌, inl, inr, ⊎_elim, List, [], ◌∷◌, length, arith, All, Contains, Result, Ok, Err, OnOk}
 use Rattle.std.proofs.lemmas.List.Elements.{All-weaker, All-contains, All-contains_itself}
-use Rattle.host_io.specs.Disk.{DiskState, IsSettled, Range}
+use Rattle.host_io.specs.Disk.{DiskState}
 use Rattle.host_io.specs.Calls.{Syncs, put_bytes}
 use Rattle.host_io.specs.Outside.{Goes, Moment, Outside}
 use Rattle.host_io.specs.Ranges.{AgreesBut, AreWithin, IsClear, Puts, WritesWithin, bytes_in}
 use Rattle.host_io.proofs.Bytes.{read-put_bytes}
 use Rattle.host_io.proofs.Images.{IsSettled-syncs}
 use Rattle.host_io.proofs.Moments.{joins, steps_syncs, weaker}
-use Rattle.host_io.proofs.Ranges.{agrees_joins, agrees_wider, bytes_agree, within_joins, within_wider}
+use Rattle.host_io.proofs.Ranges.{agrees_wider, bytes_agree, within_joins, within_wider}
 use Rattle.free_space.proofs.ExtentLemmas.{le-extent_len}
 use Rattle.commit_marks.specs.declared.mark.Mark.{Mark}
 use Rattle.commit_marks.specs.Marks.{body_bytes, body_range, slot_place}

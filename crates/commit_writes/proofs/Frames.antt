@@ -1,17 +1,17 @@
 -- Bytes outside of what is written keep a commit standing.
-use Rattle.std.proofs.Common.{◌≡◌, refl, sym, ◌∙◌, ap, subst, ℕ, ◌+◌, ◌<◌, ◌≤◌, ◌⊎◌, inl, inr, ⊎_elim, List, [], ◌∷◌, length, map, arith, All, Contains}
+use Rattle.std.proofs.Common.{◌≡◌, refl, sym, ◌∙◌, ap, subst, ℕ, ◌<◌, ◌≤◌, ◌⊎◌, ⊎_elim, List, [], ◌∷◌, length, map, arith, All, Contains}
 use Rattle.std.proofs.lemmas.List.{get_or-map, length-map}
 use Rattle.std.proofs.lemmas.List.Elements.{All-weaker, All-contains, All-contains_itself, All-head, All-tail}
 use Rattle.mk_value.specs.declared.span.Span.{Span}
 use Rattle.host_io.specs.Disk.{Range, IsWithin}
 use Rattle.host_io.specs.Ranges.{IsAmong, IsClear, AgreesBut}
 use Rattle.host_io.proofs.Ranges.{bytes_agree}
-use Rattle.free_space.specs.Extents.{Meets, extent_len}
+use Rattle.free_space.specs.Extents.{Meets}
 use Rattle.free_space.specs.FreeSpace.{IsFree}
 use Rattle.free_space.proofs.ExtentLemmas.{le-extent_len}
-use Rattle.commit_marks.specs.Marks.{body_range, gate_range, other_slot, slot_place, slot_range}
+use Rattle.commit_marks.specs.Marks.{gate_range, other_slot, slot_place, slot_range}
 use Rattle.commit_marks.proofs.Chosen.{header_range}
-use Rattle.commit_writes.specs.Blocks.{Block, IsBlockWithin, IsSited, StandsAt, extent_range, extents_of, no_block, span_range, spans_of}
+use Rattle.commit_writes.specs.Blocks.{Block, IsBlockWithin, IsSited, StandsAt, extents_of, no_block, span_range, spans_of}
 use Rattle.commit_writes.specs.Footprints.{Footprint, Holds}
 use Rattle.commit_writes.specs.Plans.{IsSoundAfter}
 use Rattle.commit_writes.specs.Phases.{ranges_behind}

@@ -1,8 +1,8 @@
 -- Each phase of a commit leaves the old commit, or the next one with the old one before it.
-use Rattle.std.proofs.Common.{◌≡◌, refl, sym, ◌∙◌, subst, ℕ, ◌+◌, ◌<◌, ◌≤◌, ◌⊎◌, inl, inr, ⊎_elim, List, [], ◌∷◌, length, arith, All, Contains, slice_index, Option, Some, None}
+use Rattle.std.proofs.Common.{◌≡◌, sym, ◌∙◌, subst, ℕ, ◌≤◌, inl, inr, ⊎_elim, List, [], ◌∷◌, length, arith, All, Contains, slice_index, Option, Some, None}
 use Rattle.std.proofs.lemmas.Bool.{cases_eq}
 use Rattle.std.proofs.lemmas.List.Elements.{All-weaker, All-contains, All-contains_itself}
-use Rattle.host_io.specs.Disk.{DiskState, IsImage, IsSettled, IsSound}
+use Rattle.host_io.specs.Disk.{DiskState, IsImage, IsSound}
 use Rattle.host_io.specs.Ranges.{AgreesBut}
 use Rattle.host_io.proofs.Images.{image_of_settled, IsSound-settled}
 use Rattle.host_io.proofs.Ranges.{bytes_agree, images_agree}
@@ -13,7 +13,7 @@ use Rattle.commit_marks.proofs.Chosen.{closed_chooses, closing_chooses, gate_clo
 use Rattle.commit_writes.specs.Blocks.{Block, IsBlockWithin, StandsAt, span_range}
 use Rattle.commit_writes.specs.Footprints.{Footprint, Holds, MayStand}
 use Rattle.commit_writes.specs.Plans.{IsSoundAfter}
-use Rattle.commit_writes.specs.Phases.{IsAtRest, IsClosed, IsInPhase, IsWritten, closing, ended, opening, ranges_behind, writing}
+use Rattle.commit_writes.specs.Phases.{IsClosed, IsInPhase, IsWritten, closing, ended, opening, ranges_behind, writing}
 use Rattle.commit_writes.proofs.Frames.{chosen_clear, gate_clear_behind, header_clear, holds_behind, holds_gate, next_holds, other_gate_clear}
 
 pub other_low : (slot : ℕ) → other_slot slot ≤ 1

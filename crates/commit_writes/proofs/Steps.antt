@@ -1,21 +1,20 @@
 -- The three steps of a commit, as runs through its phases.
-use Rattle.std.proofs.Common.{◌≡◌, refl, sym, ◌∙◌, ap, subst, ℕ, ◌+◌, ◌<◌, ◌≤◌, ◌⊎◌, inl, inr, ⊎_elim, List, [], ◌∷◌, ◌++◌, length, map, arith, All, Option, Some, None, IsSome, Result, Ok, Err, IsOk, OnOk, slice_index}
+use Rattle.std.proofs.Common.{◌≡◌, refl, sym, ◌∙◌, subst, ℕ, ◌+◌, ◌≤◌, ◌⊎◌, inl, inr, ⊎_elim, List, [], ◌∷◌, ◌++◌, length, arith, Option, Some, None, IsSome, Result, Ok, Err, OnOk, slice_index}
 use Rattle.std.proofs.lemmas.List.Elements.{All-map, All-weaker}
 use Rattle.mk_value.specs.declared.span.Span.{Span}
 use Rattle.host_io.specs.Disk.{DiskState, IsImage, IsSettled, IsSound, Range, settled}
 use Rattle.host_io.specs.Calls.{put_bytes}
 use Rattle.host_io.specs.Outside.{Each, Goes, Moment, Outside, moments}
-use Rattle.host_io.specs.Ranges.{AgreesBut, AreWithin, PutsAndSyncs, WritesOnly, WritesWithin}
+use Rattle.host_io.specs.Ranges.{AgreesBut, AreWithin, PutsAndSyncs, WritesOnly}
 use Rattle.host_io.proofs.Bytes.{slice_index-put_bytes_inside}
 use Rattle.host_io.proofs.Images.{image_of_settled, IsSettled-settled, IsSound-settled}
 use Rattle.host_io.proofs.Moments.{begins, joins, weaker}
 use Rattle.host_io.proofs.Ranges.{agrees_joins, agrees_put, agrees_same, agrees_wider, writes_only_begins, writes_only_goes_on}
 use Rattle.free_space.specs.Extents.{extent_end}
-use Rattle.free_space.specs.FreeSpace.{end_of}
 use Rattle.free_space.proofs.EndLemmas.{end_of-le}
 use Rattle.commit_marks.specs.declared.mark.Mark.{Mark}
 use Rattle.commit_marks.specs.declared.mark.Marks.{Marks}
-use Rattle.commit_marks.specs.Marks.{Chooses, IsOpen, body_range, gate_range, open_byte, other_slot, slot_place, slot_range}
+use Rattle.commit_marks.specs.Marks.{Chooses, IsOpen, gate_range, open_byte, other_slot, slot_place, slot_range}
 use Rattle.commit_marks.proofs.Chosen.{gate_written, open_from_mark}
 use Rattle.commit_writes.specs.Blocks.{Block, StandsAt, extents_of, spans_of}
 use Rattle.commit_writes.specs.Carrying.{Carries, IsReady}

@@ -1,17 +1,18 @@
 -- For callers of `carry`: blocks that are put one after another, and the conditions that a sound commit meets.
-use Rattle.std.proofs.Common.{◌≡◌, refl, sym, ◌∙◌, ap, subst, ℕ, ◌+◌, ◌<◌, ◌≤◌, ◌⊎◌, inl, inr, ⊎_elim, List, [], ◌∷◌, ◌++◌, length, take, drop, max, arith, All, Contains, Result, Ok, Err, OnOk}
+use Rattle.std.proofs.Common.{◌≡◌, refl, sym, ◌∙◌, ap, subst, ℕ, suc, ◌≤◌, inl, inr, ⊎_elim, List, [], ◌∷◌, ◌++◌, length, take, drop, max, arith, All, Contains, Result, Ok, Err, OnOk}
 use Rattle.std.proofs.lemmas.List.{take-take}
 use Rattle.std.proofs.lemmas.List.Elements.{All-append, All-contains, All-contains_itself, All-cons, All-head, All-nil, All-tail, All-weaker}
-use Rattle.host_io.specs.Disk.{DiskState, IsWithin, Range}
+use Rattle.mk_value.specs.declared.span.Span.{Span}
+use Rattle.host_io.specs.Disk.{DiskState}
 use Rattle.host_io.specs.Calls.{put_bytes}
 use Rattle.host_io.specs.Outside.{Outside}
-use Rattle.host_io.specs.Ranges.{AgreesBut, AreWithin, IsAmong, IsClear, Puts, WritesWithin, bytes_in}
+use Rattle.host_io.specs.Ranges.{AgreesBut, AreWithin, IsClear, Puts, WritesWithin, bytes_in}
 use Rattle.host_io.proofs.Bytes.{length-put_bytes, read-put_bytes}
 use Rattle.host_io.proofs.Moments.{begins, joins, weaker}
 use Rattle.host_io.proofs.Ranges.{bytes_agree, within_joins, within_same, within_wider}
-use Rattle.free_space.specs.Extents.{Meets, extent_end, extent_len}
+use Rattle.free_space.specs.Extents.{AreApart, Meets, extent_end, extent_len}
 use Rattle.free_space.proofs.ExtentLemmas.{le-extent_len}
-use Rattle.commit_writes.specs.Blocks.{Block, AreWritable, BeginWithin, IsBlockWithin, IsWritable, extent_range, extents_of, span_range}
+use Rattle.commit_writes.specs.Blocks.{Block, AreWritable, BeginWithin, IsBlockWithin, IsWritable, extent_range, extents_of, span_range, spans_of}
 use Rattle.commit_writes.specs.Footprints.{Footprint}
 use Rattle.commit_writes.specs.Plans.{IsSoundAfter}
 use Rattle.commit_writes.specs.Writing.{IsWhole, PutsBlocks}
@@ -104,17 +105,45 @@ puts_failed front rest {old} {new} puts = record {
   input = puts.input;
 }
 
--- the next block begins within a file that has the extents of those before it
-pub next_begins : (end len : ℕ) (front : List Block) (b : Block) (rest : List Block) → BeginWithin end (front ++ b ∷ rest) → end ≤ len → All (λ o. extent_end o.span ≤ len) front → b.span.place ≤ len
+next_begins : (end len : ℕ) (front : List Block) (b : Block) (rest : List Block) → BeginWithin end (front ++ b ∷ rest) → end ≤ len → All (λ o. extent_end o.span ≤ len) front → b.span.place ≤ len
 next_begins end len [] b rest begin reach long = omega (arith, begin.0, reach)
 next_begins end len (o ∷ front) b rest begin reach long =
     let here = All-head (λ o. extent_end o.span ≤ len) o front long in
     next_begins (max end (extent_end o.span)) len front b rest begin.1 (omega (arith, here, reach)) (All-tail (λ o. extent_end o.span ≤ len) o front long)
 
+-- the next block begins within the file, once those before it were put
+pub next_within : {T E : Type 0} {x : T} {old mid : Outside} (front : List Block) (b : Block) (rest : List Block) → BeginWithin (length old.now.disk.seen) (front ++ b ∷ rest) → PutsBlocks {E = E} front old mid (Ok x) → b.span.place ≤ length mid.now.disk.seen
+next_within {old = old} {mid} front b rest begin puts = next_begins (length old.now.disk.seen) (length mid.now.disk.seen) front b rest begin puts.within.agrees.no_shorter
+    (All-weaker (IsWhole mid.now.disk.seen) (λ o. extent_end o.span ≤ length mid.now.disk.seen) (λ o whole. whole.long) front puts.ok)
+
 begin_later : (end later : ℕ) (blocks : List Block) → end ≤ later → BeginWithin end blocks → BeginWithin later blocks
 begin_later end later [] le begin = tt
 begin_later end later (b ∷ blocks) le begin =
     (omega (arith, begin.0, le), begin_later (max end (extent_end b.span)) (max later (extent_end b.span)) blocks (omega (arith, le)) begin.1)
+
+all_middle : (P : Block → Type 0) (front : List Block) (b : Block) (rest : List Block) → All P (front ++ b ∷ rest) → P b
+all_middle P [] b rest all = All-head P b rest all
+all_middle P (o ∷ front) b rest all = all_middle P front b rest (All-tail P o (front ++ b ∷ rest) all)
+
+span_middle : (P : Span → Type 0) (front : List Block) (b : Block) (rest : List Block) → All P (spans_of (front ++ b ∷ rest)) → P b.span
+span_middle P [] b rest all = All-head P b.span (spans_of rest) all
+span_middle P (o ∷ front) b rest all = span_middle P front b rest (All-tail P o.span (spans_of (front ++ b ∷ rest)) all)
+
+apart_first : (one : Span) (others : List Span) → AreApart (one ∷ others) → All (λ other. ¬ Meets one other) others
+apart_first one others apart = λ k d within. apart 0 (suc k) d (omega arith) (omega (arith, within))
+
+apart_rest : (one : Span) (others : List Span) → AreApart (one ∷ others) → AreApart others
+apart_rest one others apart = λ i j d below within. apart (suc i) (suc j) d (omega (arith, below)) (omega (arith, within))
+
+apart_before : (front : List Block) (b : Block) (rest : List Block) → AreApart (spans_of (front ++ b ∷ rest)) → All (λ o. ¬ Meets o.span b.span) front
+apart_before [] b rest apart = All-nil (λ o. ¬ Meets o.span b.span)
+apart_before (o ∷ front) b rest apart = All-cons (λ o. ¬ Meets o.span b.span) o front
+    (span_middle (λ other. ¬ Meets o.span other) front b rest (apart_first o.span (spans_of (front ++ b ∷ rest)) apart))
+    (apart_before front b rest (apart_rest o.span (spans_of (front ++ b ∷ rest)) apart))
+
+-- of blocks that can be written each one can, and it meets none of those before it
+pub writable_next : (front : List Block) (b : Block) (rest : List Block) → AreWritable (front ++ b ∷ rest) → IsWritable b × All (λ o. ¬ Meets o.span b.span) front
+writable_next front b rest writable = (all_middle IsWritable front b rest writable.each, apart_before front b rest writable.apart)
 
 -- what a sound commit writes can be written
 pub sound_writable : (old next : Footprint) (writes : List Block) → IsSoundAfter old writes next → AreWritable writes

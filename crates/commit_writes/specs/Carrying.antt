@@ -1,5 +1,5 @@
 -- What a commit does to the disk.
-use Rattle.std.specs.Prelude.{◌≡◌, ℕ, List, ◌∷◌, Option, Some, Result, OnOk}
+use Rattle.std.specs.Prelude.{◌≡◌, ℕ, List, ◌∷◌, Some, Result, OnOk}
 use Rattle.host_io.specs.Disk.{DiskState, IsImage, IsSound}
 use Rattle.host_io.specs.Outside.{Outside, Goes}
 use Rattle.host_io.specs.Ranges.{AgreesBut}

@@ -1,5 +1,5 @@
 -- The footprint of a commit: what it has in a file, over bytes alone.
-use Rattle.std.specs.Prelude.{◌≡◌, ℕ, ◌≤◌, ◌⊎◌, List, length, All, Contains, Option, Some}
+use Rattle.std.specs.Prelude.{ℕ, ◌≤◌, ◌⊎◌, List, length, All, Contains, Option, Some}
 use Rattle.free_space.specs.Extents.{AreApart}
 use Rattle.commit_marks.specs.declared.mark.Mark.{Mark}
 use Rattle.commit_marks.specs.Marks.{Chooses, FitsFile, IsMark, dir_span}

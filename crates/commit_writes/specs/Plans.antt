@@ -1,5 +1,5 @@
 -- The blocks that a commit writes, and the footprint that they make.
-use Rattle.std.specs.Prelude.{◌≡◌, ℕ, ◌+◌, ◌⊎◌, List, All, Contains}
+use Rattle.std.specs.Prelude.{◌≡◌, ◌+◌, ◌⊎◌, List, All, Contains}
 use Rattle.free_space.specs.Extents.{AreApart}
 use Rattle.free_space.specs.FreeSpace.{IsFree, end_of}
 use Rattle.commit_writes.specs.Blocks.{Block, BeginWithin, IsBlockWithin, no_block, spans_of}

@@ -77,7 +77,7 @@ table_without_homes-removed schema at (suc n) rows =
     ap (λ hs. let t : StoredTable = record { schema = schema; rows = removed at (suc n) rows; homes = hs } in t) (empty_homes_from-removed schema 0 at (suc n) rows)
 
 -- The homes column by column.
-length-empty_homes_from : (schema : List Attribute) (k : ℕ) (rows : List (List Datum)) → length (empty_homes_from (heading_of schema) k rows) ≡ length schema
+pub length-empty_homes_from : (schema : List Attribute) (k : ℕ) (rows : List (List Datum)) → length (empty_homes_from (heading_of schema) k rows) ≡ length schema
 length-empty_homes_from [] k rows = refl
 length-empty_homes_from (a ∷ schema) k rows = let e = length-empty_homes_from schema (k + 1) rows in omega (arith, e)
 

@@ -1,10 +1,15 @@
 pub mod Apart
+pub mod Cells
+pub mod ColumnWith
 pub mod ColumnwiseHomes
 pub mod EditedColumns
 pub mod EditedTables
+pub mod Gathering
 pub mod Homeless
 pub mod Lists
 pub mod PlainColumns
+pub mod Reading
+pub mod Rebuilding
 pub mod Resting
 pub mod RowHomes
 pub mod Values

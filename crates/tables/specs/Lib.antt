@@ -1,7 +1,14 @@
 pub mod Blocks
+pub mod Build
+pub mod Columns
+pub mod Falls
 pub mod HomeCode
 pub mod Homes
+pub mod Lists
+pub mod Read
 pub mod Rests
 pub mod Rows
 pub mod Shapes
+pub mod Sizes
+pub mod Stored
 pub mod Tables

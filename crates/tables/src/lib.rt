@@ -3,3 +3,16 @@
 //! A nested table stands in a row of a view column, and tables that are the same are shared. A caller sees a table as its schema, its
 //! rows and the home of each column. It stands on the two kinds of columns, and knows nothing of names, paths or files.
 #![tactic(auto)]
+
+mod build;
+mod cols;
+mod column;
+mod shared;
+mod table;
+mod tables;
+
+pub use build::{empty_table, from_rows};
+pub use cols::{Col, Cols};
+pub use shared::{Shared, share};
+pub use table::{Table, from_cols};
+pub use tables::Tables;

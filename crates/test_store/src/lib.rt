@@ -1,8 +1,13 @@
-//! Tests of the store's lower layers: the host in memory, the space of the file, its marks, and directories.
+//! Tests of the store's lower layers: the host in memory, the space of the file, its marks, its blocks,
+//! its directories, and whole commits.
 //!
 //! They stand above the crates that they test, since a crate with tests in it is proved once more with them.
 #![tactic(auto)]
 
+#[cfg(test)]
+mod blocks;
+#[cfg(test)]
+mod commits;
 #[cfg(test)]
 mod directories;
 #[cfg(test)]

@@ -1,4 +1,4 @@
-use Rattle.std.proofs.Common.{◌≡◌, ℕ, ◌∙◌, ap, List, ◌++◌, ◌+◌, ◌-◌, take, drop, arith, Ok, IsErrOf}
+use Rattle.std.proofs.Common.{ℕ, ◌∙◌, ap, List, ◌++◌, ◌+◌, ◌-◌, take, drop, arith}
 use Rattle.host_io.specs.Outside.{Moment}
 use Rattle.host_io.proofs.Faults.{CountsFaults-joins}
 use Rattle.block_io.proofs.Looking.{looks_joins, read_more}

@@ -1,4 +1,4 @@
-use Rattle.std.proofs.Common.{◌≡◌, ℕ, ◌-◌, ◌≤◌, take, drop, Ok}
+use Rattle.std.proofs.Common.{◌≡◌, ◌-◌, ◌≤◌, take, drop}
 use Rattle.host_io.specs.Calls.{CountsFaults, Looks}
 use Rattle.block_io.proofs.reading.read_block.Given as goal
 

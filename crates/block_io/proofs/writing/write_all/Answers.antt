@@ -1,8 +1,7 @@
-use Rattle.std.proofs.Common.{◌≡◌, ℕ, ◌+◌, ◌<◌, inl, inr, ⊎_elim, Ok, refl, arith, length}
+use Rattle.std.proofs.Common.{Ok, refl, arith}
 use Rattle.std.proofs.lemmas.Result.{err_from_is_err_and}
 use Rattle.host_io.specs.declared.traits.Failed.{Failed}
 use Rattle.host_io.proofs.Faults.{CountsDisk-begins, CountsDisk-joins}
-use Rattle.block_io.specs.Parts.{rounded}
 use Rattle.block_io.proofs.Pieces.{has_put_all, has_put_failed, has_put_more, has_put_none, not_err}
 use Rattle.block_io.proofs.Rounding.{length-rounded}
 use Rattle.block_io.proofs.writing.write_all.Goals as goal

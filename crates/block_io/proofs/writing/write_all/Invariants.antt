@@ -1,4 +1,4 @@
-use Rattle.std.proofs.Common.{◌≡◌, ℕ, ◌+◌, length, Ok}
+use Rattle.std.proofs.Common.{◌≡◌, ◌+◌, length, Ok}
 use Rattle.host_io.specs.Calls.{CountsDisk}
 use Rattle.host_io.specs.declared.traits.Failed.{Failed}
 use Rattle.block_io.specs.Parts.{rounded}

@@ -1,0 +1,17 @@
+use Rattle.std.proofs.Common.{◌≡◌, ◌+◌, ap, sym, ◌∙◌, arith}
+use Rattle.tables.proofs.Rebuilding.{inserted_done}
+use Rattle.tables.proofs.table.Table.insert_rows.Goals as goal
+
+pub set_cols-requires : goal.set_cols-requires
+set_cols-requires c =
+    let done =
+    inserted_done c.args.self.now c.args.at c.args.count (c.len.result + c.args.count) c.args.row.now c.in_ok-cols.cols c.len.ensures.whole c.len.ensures.homes c.requires.at c.requires.few c.requires.row
+    c.in_ok-cols.ensures (ap (λ n. n + c.args.count) c.len.ensures.value) in
+    done.whole
+
+pub returns-clause-ok : goal.returns-clause-ok
+returns-clause-ok c =
+    let done =
+    inserted_done c.args.self.now c.args.at c.args.count (c.len.result + c.args.count) c.args.row.now c.in_ok-cols.cols c.len.ensures.whole c.len.ensures.homes c.requires.at c.requires.few c.requires.row
+    c.in_ok-cols.ensures (ap (λ n. n + c.args.count) c.len.ensures.value) in
+    c.set_cols.ensures ∙ done.table

@@ -1,0 +1,80 @@
+-- Each table inside another is smaller, so that going down into them ends.
+use Rattle.std.specs.Prelude.{◌≡◌, ℕ, ◌+◌, ◌*◌, ◌≤◌, List, [], ◌∷◌, map, All, refl}
+use Rattle.std.specs.List.{AllZip}
+use Rattle.std.proofs.Common.{arith, ap, ◌∙◌}
+use Rattle.std.proofs.lemmas.List.Elements.{All-head, All-tail}
+use denote.Param.Weighed.{most}
+use Rattle.mk_value.specs.Heading.{Domain, Heading, no_attributes, attribute, Attribute, attributes_of, domain_weight, heading_weight, attributes_weight}
+use Rattle.tables.specs.Tables.{StoredTable}
+use Rattle.tables.specs.Columns.{StoredColumn, integers, texts, views, IsTableOf, IsColumnOf, AreColumnsOf}
+use Rattle.tables.specs.Sizes.{table_size, shared_size, list_size, tables_size, column_size, columns_size}
+use Rattle.tables.specs.Stored.{stored_of}
+use Rattle.tables.specs.Lists.{tables_of}
+use Rattle.tables.specs.declared.cols.Col.{Col}
+use Rattle.tables.specs.declared.cols.Col.TheVariants.{Ints, Blobs, Views}
+use Rattle.tables.specs.declared.tables.Kind.{Kind}
+use Rattle.tables.specs.declared.tables.Kind.TheVariants.{Empty, Many}
+use Rattle.tables.specs.declared.cols.Cols.TheDeep.{deep-Col, deep-Cols, deep-Kind, deep-Shared, deep-Table, deep-TableList, deep-Tables}
+use Rattle.tables.specs.declared.cols.Cols.TheInside as cols
+use Rattle.tables.specs.declared.shared.Shared.TheInside as shared
+use Rattle.tables.specs.declared.table.Table.TheInside as table
+use Rattle.tables.specs.declared.tables.TableList.TheInside as list
+use Rattle.tables.specs.declared.tables.Tables.TheInside as tables
+
+column_bound : (c : Col) → deep-Col c ≤ column_size (stored_of c)
+column_bound (Ints c) = omega arith
+column_bound (Blobs c) = omega arith
+column_bound (Views ts) = omega arith
+
+most-columns : (cols : List Col) → most deep-Col cols ≤ most column_size (map stored_of cols)
+most-columns [] = omega arith
+most-columns (c ∷ rest) = omega (arith, column_bound c, most-columns rest)
+
+pub cols_fall : (a : cols.Inside) → deep-Cols a ≤ columns_size (map stored_of a.items.items)
+cols_fall a = omega (arith, most-columns a.items.items)
+
+pub shared_falls : (a : shared.Inside) → deep-Shared a ≤ shared_size a.table.value
+shared_falls a = omega arith
+
+most-shared : (ts : List StoredTable) → most (λ t. shared_size t + 1) ts ≤ list_size ts
+most-shared [] = omega arith
+most-shared (t ∷ rest) = omega (arith, most-shared rest)
+
+pub list_falls : (a : list.Inside) → deep-TableList a ≤ list_size a.items.items
+list_falls a = omega (arith, most-shared a.items.items)
+
+kind_bound : (k : Kind) → deep-Kind k ≤ tables_size (tables_of k)
+kind_bound (Empty alloc) = omega arith
+kind_bound (Many list) = omega arith
+
+pub tables_fall : (a : tables.Inside) → deep-Tables a ≤ tables_size (tables_of a.kind)
+tables_fall a = omega (arith, kind_bound a.kind)
+
+attributes_weight-attributes_of : (h : Heading) → attributes_weight (attributes_of h) ≡ heading_weight h
+attributes_weight-attributes_of no_attributes = refl
+attributes_weight-attributes_of (attribute n d rest) = let e = attributes_weight-attributes_of rest in omega (arith, e)
+
+inner_bound : (h : Heading) (ts : List StoredTable) → All (IsTableOf (attributes_of h)) ts → list_size ts ≤ 4 * heading_weight h + 18
+inner_bound h [] whole = omega arith
+inner_bound h (t ∷ rest) whole =
+    let first = All-head (IsTableOf (attributes_of h)) t rest whole in
+    let weight = ap attributes_weight first.same_schema ∙ attributes_weight-attributes_of h in
+    omega (arith, weight, inner_bound h rest (All-tail (IsTableOf (attributes_of h)) t rest whole))
+
+stored_bound : (n : ℕ) (e : Domain) (c : StoredColumn) → IsColumnOf n e c → column_size c ≤ 4 * domain_weight e + 15
+stored_bound n e (integers c) h = omega arith
+stored_bound n e (texts c) h = omega arith
+stored_bound n Domain.integer (views ts) h = absurd h
+stored_bound n Domain.long (views ts) h = absurd h
+stored_bound n Domain.text (views ts) h = absurd h
+stored_bound n Domain.bytes (views ts) h = absurd h
+stored_bound n (Domain.relation inner) (views ts) h = omega (arith, inner_bound inner ts h.whole)
+
+columns_bound : (n : ℕ) (schema : List Attribute) (cols : List StoredColumn) → AllZip (λ a c. IsColumnOf n a.domain c) schema cols → most column_size cols ≤ 4 * attributes_weight schema + 15
+columns_bound n [] [] h = omega arith
+columns_bound n [] (c ∷ cols) h = absurd h
+columns_bound n (a ∷ schema) [] h = absurd h
+columns_bound n (a ∷ schema) (c ∷ cols) h = omega (arith, stored_bound n a.domain c h.0, columns_bound n schema cols h.1)
+
+pub table_falls : (a : table.Inside) → AreColumnsOf a.rows a.schema a.cols → deep-Table a ≤ 4 * attributes_weight a.schema + 16
+table_falls a h = omega (arith, columns_bound a.rows a.schema a.cols h.each)

@@ -1,0 +1,27 @@
+-- How much a table holds: more than each table inside it, by its schema alone.
+use Rattle.std.specs.Prelude.{ℕ, ◌+◌, ◌*◌, List}
+use denote.Param.Weighed.{most}
+use Rattle.mk_value.specs.Heading.{attributes_weight}
+use Rattle.tables.specs.Tables.{StoredTable}
+use Rattle.tables.specs.Columns.{StoredColumn, integers, texts, views}
+
+abbrev pub table_size : StoredTable → ℕ
+table_size t = 4 * attributes_weight t.schema + 16
+
+abbrev pub shared_size : StoredTable → ℕ
+shared_size t = table_size t + 1
+
+-- the size of a list of shared tables
+abbrev pub list_size : List StoredTable → ℕ
+list_size ts = most (λ t. table_size t + 2) ts
+
+abbrev pub tables_size : List StoredTable → ℕ
+tables_size ts = list_size ts + 1
+
+abbrev pub column_size : StoredColumn → ℕ
+column_size (integers c) = 0
+column_size (texts c) = 0
+column_size (views ts) = tables_size ts + 1
+
+abbrev pub columns_size : List StoredColumn → ℕ
+columns_size cols = most column_size cols

@@ -1,0 +1,111 @@
+//! Tables that are shared.
+ghost use Rattle.std.specs.Prelude.{◌≡◌, IfOk};
+
+use crate::Table;
+use mk_value::{Lent, Memory, Same, Schema, TableRead, Value};
+use std::alloc::{AllocError, Global};
+use std::cmp::Ordering;
+use std::marker::Model;
+use std::rc::Rc;
+
+/// A table that several hold. An edit by one of them leaves it as it is for the others.
+#[cycle(table)]
+#[derive(Drop)]
+pub struct Shared {
+    table: Rc<Table>,
+}
+
+impl Model for Shared {
+    ghost use Rattle.tables.specs.Sizes.{shared_size};
+    ghost use Rattle.tables.specs.Tables.{StoredTable, stored_code};
+
+    ghost Value = { StoredTable };
+
+    ghost coded = { stored_code };
+
+    ghost view = { λ s. s.table.value };
+
+    ghost size = { shared_size };
+
+    ghost use Rattle.tables.specs.Falls.{shared_falls};
+
+    ghost size_decreases = { λ s _. shared_falls s };
+}
+
+impl Clone for Shared {
+    ghost is_clone = { λ a b. b ≡ a };
+
+    /// One more holder of the table.
+    fn clone(&self) -> Result<Shared, AllocError> {
+        Ok(Shared {
+            table: self.table.clone()?,
+        })
+    }
+}
+
+/// The table, to be shared. Its homes are kept.
+///
+/// # Errors
+///
+/// `Memory`.
+pub fn share(alloc: Global, table: Table) -> Result<Shared, Memory>
+    ensures { IfOk result (λ shared. shared ≡ table) }
+{
+    Ok(Shared {
+        table: Rc::new(alloc, table)?,
+    })
+}
+
+impl Shared {
+    /// The table that is shared.
+    pub fn table(&self) -> &Table
+        ensures { result.now ≡ self.now }
+    {
+        &self.table
+    }
+}
+
+impl TableRead for Shared {
+    ghost schema = { λ t. t.schema };
+
+    ghost rows = { λ t. t.rows };
+
+    fn schema(&self) -> &Schema {
+        self.table().schema()
+    }
+
+    fn size(&self) -> usize {
+        self.table().size()
+    }
+
+    fn get(&self, row: usize, col: usize) -> Result<Value, Memory> {
+        self.table().get(row, col)
+    }
+
+    fn lend(&self, row: usize, col: usize) -> Lent<'_> {
+        self.table().lend(row, col)
+    }
+
+    fn fill(&self, col: usize, from: usize, into: &mut [i64]) {
+        self.table().fill(col, from, into);
+    }
+
+    fn cmp_cell(&self, row: usize, col: usize, with: &Value) -> Ordering {
+        self.table().cmp_cell(row, col, with)
+    }
+
+    fn cmp_rows(&self, a: usize, b: usize, col: usize) -> Ordering {
+        self.table().cmp_rows(a, b, col)
+    }
+}
+
+impl Same for Shared {
+    /// The very same table, with one holder more. A count that is refused is `Memory`.
+    fn same(&self) -> Result<Shared, Memory>
+        ensures schema { IfOk result (λ table. table.schema ≡ self.now.schema) }
+        ensures rows { IfOk result (λ table. table.rows ≡ self.now.rows) }
+        ensures homes { IfOk result (λ table. table.homes ≡ self.now.homes) }
+    {
+        Ok(self.clone()?)
+    }
+}

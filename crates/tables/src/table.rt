@@ -1,0 +1,289 @@
+//! A table.
+ghost use Rattle.std.specs.Prelude.{◌≡◌, ◌+◌, ◌<◌, ◌≤◌, [], length, slice_index_or, IfOk, OnOk, OnErr};
+ghost use Rattle.mk_value.specs.Data.{IsRowOf};
+ghost use Rattle.mk_value.specs.Kinds.{domain_of};
+ghost use Rattle.mk_value.specs.Tables.{domain_at};
+ghost use Rattle.tables.specs.Columns.{AreColumnsIn, AreColumnsOf, home_of, table_of_columns};
+ghost use Rattle.tables.specs.Homes.{column_of, no_home};
+ghost use Rattle.tables.specs.Read.{IsWhole, values_read};
+ghost use Rattle.tables.specs.Rows.{with_rows_inserted, with_rows_removed};
+ghost use Rattle.tables.specs.Shapes.{HasHomes};
+ghost use Rattle.tables.specs.Stored.{stored_of};
+ghost use Rattle.tables.specs.Tables.{IsTable};
+
+use crate::Cols;
+use crate::column::Column;
+use mk_value::{Lent, Memory, Row, Rows, Schema, TableRead, Value};
+use std::alloc::Global;
+use std::cmp::Ordering;
+use std::marker::Model;
+
+/// A table: a schema, a number of rows, and a column for each property.
+#[cycle(table)]
+#[derive(Drop)]
+pub struct Table {
+    schema: segments::Shared<Schema>,
+    rows: u32,
+    cols: Cols,
+}
+
+impl Model for Table {
+    ghost use Rattle.tables.specs.Columns.{AreColumnsOf, table_of_columns};
+    ghost use Rattle.tables.specs.Sizes.{table_size};
+    ghost use Rattle.tables.specs.Tables.{StoredTable, stored_code};
+
+    ghost Value = { StoredTable };
+
+    ghost coded = { stored_code };
+
+    ghost view = { λ t. table_of_columns t.rows t.schema t.cols };
+
+    ghost invariant = { λ t. AreColumnsOf t.rows t.schema t.cols };
+
+    ghost size = { table_size };
+
+    ghost use Rattle.tables.specs.Falls.{table_falls};
+
+    ghost size_decreases = { λ t h. table_falls t h };
+}
+
+/// The table of these columns, with their homes.
+///
+/// # Errors
+///
+/// `Memory`.
+pub fn from_cols(alloc: Global, schema: Schema, rows: u32, cols: Cols) -> Result<Table, Memory>
+    requires { AreColumnsOf rows schema cols }
+    ensures { IfOk result (λ table. table ≡ table_of_columns rows schema cols) }
+{
+    Ok(Table {
+        schema: segments::Shared::of(alloc, schema)?,
+        rows,
+        cols,
+    })
+}
+
+impl Table {
+    /// The table of these columns, which has the schema together with others.
+    pub(crate) fn of_columns(
+        schema: &segments::Shared<Schema>,
+        rows: usize,
+        cols: Cols,
+    ) -> Result<Table, Memory>
+        requires { AreColumnsOf rows schema.now cols }
+        ensures { IfOk result (λ table. table ≡ table_of_columns rows schema.now cols) }
+    {
+        Ok(Table {
+            schema: schema.clone()?,
+            rows: rows as u32,
+            cols,
+        })
+    }
+
+    /// How many rows there are, at most 16,777,216.
+    pub fn len(&self) -> usize
+        ensures value { result ≡ length self.now.rows }
+        ensures whole { IsTable self.now }
+        ensures homes { HasHomes self.now }
+    {
+        let _properties = self.schema.get().len();
+        self.rows as usize
+    }
+
+    /// The columns, one for each property, each with its home.
+    pub fn cols(&self) -> &Cols
+        ensures value { self.now ≡ table_of_columns (length self.now.rows) self.now.schema result.now }
+        ensures whole { AreColumnsOf (length self.now.rows) self.now.schema result.now }
+    {
+        &self.cols
+    }
+
+    /// A column, beside the kind of its values.
+    pub(crate) fn column(&self, col: usize) -> Column<'_>
+        requires { col < length self.now.schema }
+        ensures values { values_read result ≡ column_of self.now.rows col }
+        ensures whole { IsWhole result }
+        ensures kind { domain_of result.kind.now ≡ domain_at self.now.schema col }
+        ensures home { home_of (stored_of result.col.now) ≡ slice_index_or self.now.homes col no_home }
+    {
+        let prop = &self.schema.get().as_slice()[col];
+        Column {
+            kind: &prop.kind,
+            col: &self.cols.as_slice()[col],
+        }
+    }
+
+    /// A table of the same schema, rows and homes, which shares the columns.
+    ///
+    /// # Errors
+    ///
+    /// `Memory`.
+    pub fn same(&self) -> Result<Table, Memory>
+        ensures { IfOk result (λ table. table ≡ self.now) }
+    {
+        Ok(Table {
+            schema: self.schema.clone()?,
+            rows: self.rows,
+            cols: self.cols.same()?,
+        })
+    }
+
+    /// Puts copies of a row, so many times, before the row at a place, or at the end. The tables in them have no homes, and where
+    /// there are any the plain columns have none.
+    ///
+    /// # Errors
+    ///
+    /// `Memory`, and the table is as it was.
+    pub fn insert_rows(&mut self, at: usize, row: &Row, count: usize) -> Result<(), Memory>
+        requires at { at ≤ length self.old.rows }
+        requires few { length self.old.rows + count ≤ 16777216 }
+        requires row { IsRowOf row.now self.old.schema }
+        ensures ok { OnOk result (self.new ≡ with_rows_inserted at row.now count self.old) }
+        ensures err { OnErr result (self.new ≡ self.old) }
+    {
+        if count == 0 {
+            return Ok(());
+        }
+        let rows = self.len() + count;
+        let cols = self.cols_inserted(at, row, count)?;
+        self.set_cols(rows, cols);
+        Ok(())
+    }
+
+    /// Removes so many rows from a place on. Where there are any, the plain columns have no homes.
+    ///
+    /// # Errors
+    ///
+    /// `Memory`, and the table is as it was.
+    pub fn remove_rows(&mut self, at: usize, count: usize) -> Result<(), Memory>
+        requires { at + count ≤ length self.old.rows }
+        ensures ok { OnOk result (self.new ≡ with_rows_removed at count self.old) }
+        ensures err { OnErr result (self.new ≡ self.old) }
+    {
+        if count == 0 {
+            return Ok(());
+        }
+        let rows = self.len() - count;
+        let cols = self.cols_removed(at, count)?;
+        self.set_cols(rows, cols);
+        Ok(())
+    }
+
+    /// Copies of the columns with rows put in.
+    fn cols_inserted(&self, at: usize, row: &Row, count: usize) -> Result<Cols, Memory>
+        requires at { at ≤ length self.now.rows }
+        requires few { length self.now.rows + count ≤ 16777216 }
+        requires some { 0 < count }
+        requires row { IsRowOf row.now self.now.schema }
+        ensures { IfOk result (AreColumnsIn (with_rows_inserted at row.now count self.now)) }
+    {
+        let alloc = self.allocator();
+        let values = row.as_slice();
+        let mut cols = Cols::new(alloc);
+        for col in 0..self.width() {
+            cols.push(self.column(col).inserted(alloc, at, &values[col], count)?)?;
+        }
+        Ok(cols)
+    }
+
+    /// Copies of the columns with rows removed.
+    fn cols_removed(&self, at: usize, count: usize) -> Result<Cols, Memory>
+        requires within { at + count ≤ length self.now.rows }
+        requires some { 0 < count }
+        ensures { IfOk result (AreColumnsIn (with_rows_removed at count self.now)) }
+    {
+        let mut cols = Cols::new(self.allocator());
+        for col in 0..self.width() {
+            cols.push(self.column(col).removed(at, count)?)?;
+        }
+        Ok(cols)
+    }
+
+    /// Puts columns of so many rows in place of the columns.
+    fn set_cols(&mut self, rows: usize, cols: Cols)
+        requires { AreColumnsOf rows self.old.schema cols }
+        ensures { self.new ≡ table_of_columns rows self.old.schema cols }
+    {
+        self.rows = rows as u32;
+        self.cols = cols;
+    }
+
+    /// The rows, with memory of their own.
+    ///
+    /// # Errors
+    ///
+    /// `Memory`.
+    #[cycle(copy)]
+    pub fn to_rows(&self, alloc: Global) -> Result<Rows, Memory>
+        ensures { IfOk result (λ rows. rows ≡ self.now.rows) }
+    {
+        let mut rows = Rows::new(alloc);
+        for at in 0..self.len() {
+            rows.push(self.row(alloc, at)?)?;
+        }
+        Ok(rows)
+    }
+
+    /// A row, with memory of its own.
+    #[cycle(copy)]
+    fn row(&self, alloc: Global, at: usize) -> Result<Row, Memory>
+        requires { at < length self.now.rows }
+        ensures { IfOk result (λ row. row ≡ slice_index_or self.now.rows at []) }
+    {
+        let mut row = Row::new(alloc);
+        for col in 0..self.width() {
+            row.push(self.column(col).value(alloc, at)?)?;
+        }
+        Ok(row)
+    }
+
+    /// How many columns there are.
+    fn width(&self) -> usize
+        ensures width { result ≡ length self.now.schema }
+        ensures whole { IsTable self.now }
+        ensures homes { HasHomes self.now }
+    {
+        self.schema.get().len()
+    }
+
+    /// The allocator of the columns.
+    pub(crate) fn allocator(&self) -> Global {
+        self.cols.allocator()
+    }
+}
+
+impl TableRead for Table {
+    ghost schema = { λ t. t.schema };
+
+    ghost rows = { λ t. t.rows };
+
+    fn schema(&self) -> &Schema {
+        let schema = self.schema.get();
+        let _len = schema.len();
+        schema
+    }
+
+    fn size(&self) -> usize {
+        self.len()
+    }
+
+    fn get(&self, row: usize, col: usize) -> Result<Value, Memory> {
+        self.column(col).value(self.allocator(), row)
+    }
+
+    fn lend(&self, row: usize, col: usize) -> Lent<'_> {
+        self.column(col).lend(row)
+    }
+
+    fn fill(&self, col: usize, from: usize, into: &mut [i64]) {
+        self.column(col).fill(from, into);
+    }
+
+    fn cmp_cell(&self, row: usize, col: usize, with: &Value) -> Ordering {
+        self.column(col).cmp_with(row, with)
+    }
+
+    fn cmp_rows(&self, a: usize, b: usize, col: usize) -> Ordering {
+        self.column(col).cmp_at(a, b)
+    }
+}
