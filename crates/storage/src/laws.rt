@@ -14,13 +14,11 @@ pub fn the_next_commit_is_sound()
         → IsCommit kept → MayFollow floor kept views note → FollowsAt floor kept views note spans next
         → next.end < last_end → next.number < 2 ^ 63
         → IsCommit next × IsSoundAfter (footprint_of kept) (writes_at views spans next) (footprint_of next) }
-{
-}
+{}
 
 /// A law of crashes: an image that stands for the blocks of the old commit, or for those of the next one with the old one before it,
 /// stands for that commit.
 pub fn a_crash_leaves_a_commit()
     ensures { (kept next : Commit) (image : List ℕ) → IsCommit kept → IsCommit next
         → PrintMayStand (footprint_of kept) (footprint_of next) image → MayStand kept next image }
-{
-}
+{}
