@@ -452,7 +452,7 @@ long_fits (Domain.relation g) z h = absurd h
 -- A value set.
 pub integer_set : (e : Domain) (n i : ℕ) (col : StoredColumn) (z : ℤ) (homes : List Home) → IsColumnOf n e col → IsOf (Datum.integer z) e → IsColumnWith e (set (column_values e col) i (Datum.integer z)) (home_with i homes (home_of col)) (with_number i z col)
 integer_set Domain.integer n i (integers c) z homes h fits =
-    with_integers (record c { values = set c.values i z; home = None }) _ _ (map-set Datum.integer c.values i z) (All-set (λ y. FitsSigned w32 y) c.values i z h.fit fits) (sym (numbers-with i homes c.home))
+    with_integers (record c { values = set c.values i z; home = None }) _ _ (map-set Datum.integer c.values i z) (All-set (λ y. FitsSigned w32 y) c.values i z fits h.fit) (sym (numbers-with i homes c.home))
 integer_set Domain.integer n i (texts c) z homes h fits = absurd h
 integer_set Domain.integer n i (views c) z homes h fits = absurd h
 integer_set Domain.long n i col z homes h fits = absurd fits
@@ -462,7 +462,7 @@ integer_set (Domain.relation g) n i col z homes h fits = absurd fits
 
 pub long_set : (e : Domain) (n i : ℕ) (col : StoredColumn) (z : ℤ) (homes : List Home) → IsColumnOf n e col → IsOf (Datum.long z) e → IsColumnWith e (set (column_values e col) i (Datum.long z)) (home_with i homes (home_of col)) (with_number i z col)
 long_set Domain.long n i (integers c) z homes h fits =
-    with_longs (record c { values = set c.values i z; home = None }) _ _ (map-set Datum.long c.values i z) (All-set (λ y. FitsSigned w64 y) c.values i z h.fit fits) (sym (numbers-with i homes c.home))
+    with_longs (record c { values = set c.values i z; home = None }) _ _ (map-set Datum.long c.values i z) (All-set (λ y. FitsSigned w64 y) c.values i z fits h.fit) (sym (numbers-with i homes c.home))
 long_set Domain.long n i (texts c) z homes h fits = absurd h
 long_set Domain.long n i (views c) z homes h fits = absurd h
 long_set Domain.integer n i col z homes h fits = absurd fits
@@ -472,7 +472,7 @@ long_set (Domain.relation g) n i col z homes h fits = absurd fits
 
 pub text_set : (e : Domain) (n i : ℕ) (col : StoredColumn) (v : List ℕ) (homes : List Home) → IsColumnOf n e col → IsOf (Datum.text v) e → IsColumnWith e (set (column_values e col) i (Datum.text v)) (home_with i homes (home_of col)) (with_string i v col)
 text_set Domain.text n i (texts c) v homes h fits =
-    with_texts (record c { values = set c.values i v; home = None }) _ _ (map-set Datum.text c.values i v) (All-set IsTextValue c.values i v h.fit (record { is_text = fits.0; short = fits.1 })) refl (sym (strings-with i homes c.home))
+    with_texts (record c { values = set c.values i v; home = None }) _ _ (map-set Datum.text c.values i v) (All-set IsTextValue c.values i v (record { is_text = fits.0; short = fits.1 }) h.fit) refl (sym (strings-with i homes c.home))
 text_set Domain.text n i (integers c) v homes h fits = absurd h
 text_set Domain.text n i (views c) v homes h fits = absurd h
 text_set Domain.integer n i col v homes h fits = absurd fits
@@ -482,7 +482,7 @@ text_set (Domain.relation g) n i col v homes h fits = absurd fits
 
 pub bytes_set : (e : Domain) (n i : ℕ) (col : StoredColumn) (v : List ℕ) (homes : List Home) → IsColumnOf n e col → IsOf (Datum.bytes v) e → IsColumnWith e (set (column_values e col) i (Datum.bytes v)) (home_with i homes (home_of col)) (with_string i v col)
 bytes_set Domain.bytes n i (texts c) v homes h fits =
-    with_bytes (record c { values = set c.values i v; home = None }) _ _ (map-set Datum.bytes c.values i v) (All-set (λ content. length content ≤ max_bytes) c.values i v h.fit fits) refl (sym (strings-with i homes c.home))
+    with_bytes (record c { values = set c.values i v; home = None }) _ _ (map-set Datum.bytes c.values i v) (All-set (λ content. length content ≤ max_bytes) c.values i v fits h.fit) refl (sym (strings-with i homes c.home))
 bytes_set Domain.bytes n i (integers c) v homes h fits = absurd h
 bytes_set Domain.bytes n i (views c) v homes h fits = absurd h
 bytes_set Domain.integer n i col v homes h fits = absurd fits
@@ -495,7 +495,7 @@ pub view_set : (h : Heading) (n i : ℕ) (col : StoredColumn) (t : StoredTable) 
     → IsColumnWith (Domain.relation h) (set (column_values (Domain.relation h) col) i (Datum.relation (relation_of t.rows))) (home_with i t.homes (home_of col)) (with_view i t col)
 view_set h n i (views ts) t whole inner =
     let homes = λ (u : StoredTable). u.homes in
-    with_views h (set ts i t) _ _ (map-set view_of ts i t) (All-set (IsTableOf (attributes_of h)) ts i t whole.whole inner)
+    with_views h (set ts i t) _ _ (map-set view_of ts i t) (All-set (IsTableOf (attributes_of h)) ts i t inner whole.whole)
     (ap (λ hs. tables (row_homes hs)) (map-set homes ts i t ∙ ap (λ hs. set hs i t.homes) (sym (each_of-row_homes (map homes ts)))))
 view_set h n i (integers c) t whole inner = absurd whole
 view_set h n i (texts c) t whole inner = absurd whole
@@ -528,3 +528,9 @@ pub has_view : (e : Domain) (n i : ℕ) (col : StoredColumn) → AreViews col �
 has_view e n i (views ts) k h p = let a = length-column_values n e (views ts) h in let b = views_count e n ts h in omega arith
 has_view e n i (integers c) k h p = absurd k
 has_view e n i (texts c) k h p = absurd k
+
+-- what a view column keeps are tables
+pub column_of_views : (n : ℕ) (h : Heading) (col : StoredColumn) → IsColumnOf n (Domain.relation h) col → AreViews col
+column_of_views n h (views ts) whole = tt
+column_of_views n h (integers c) whole = whole
+column_of_views n h (texts c) whole = whole

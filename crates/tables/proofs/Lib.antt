@@ -12,3 +12,4 @@ pub mod Reading
 pub mod Rebuilding
 pub mod Resting
 pub mod RowHomes
+pub mod Setting

@@ -40,7 +40,7 @@ columns_are t cols few h = record {
       subst (λ n. IsColumnOf n (domain_at t.schema k) (get_or cols k no_column)) long (h.each k p).whole);
 }
 
-rows_wide : (n : ℕ) (schema : List Attribute) (cols : List StoredColumn) → AreColumnsOf n schema cols → All (λ row. length row ≡ length schema) (rows_of_columns n schema cols)
+pub rows_wide : (n : ℕ) (schema : List Attribute) (cols : List StoredColumn) → AreColumnsOf n schema cols → All (λ row. length row ≡ length schema) (rows_of_columns n schema cols)
 rows_wide n schema cols h = λ i d p. row_fits_length (get_or (rows_of_columns n schema cols) i d) schema ((AreRowsOf-columns n schema cols h).whole i d p)
 
 -- the columns of a table are the table
@@ -220,7 +220,7 @@ pub record AreRebuilt (n : ℕ) (schema : List Attribute) (cols : List StoredCol
   pub whole : AreColumnsOf n schema cols
   pub table : table_of_columns n schema cols ≡ t
 
-rebuilt_as : (t : StoredTable) (n : ℕ) (schema : List Attribute) (cols : List StoredColumn) → IsRebuilt t → AreColumnsIn t cols → length t.rows ≡ n → t.schema ≡ schema → AreRebuilt n schema cols t
+pub rebuilt_as : (t : StoredTable) (n : ℕ) (schema : List Attribute) (cols : List StoredColumn) → IsRebuilt t → AreColumnsIn t cols → length t.rows ≡ n → t.schema ≡ schema → AreRebuilt n schema cols t
 rebuilt_as t n schema cols known h e f = record {
   whole = subst (λ m. AreColumnsOf m schema cols) e (subst (λ s. AreColumnsOf (length t.rows) s cols) f (columns_rebuilt t cols known h));
   table = ap (λ m. table_of_columns m schema cols) (sym e) ∙ ap (λ s. table_of_columns (length t.rows) s cols) (sym f) ∙ table_rebuilt t cols known h;
