@@ -122,7 +122,11 @@ impl Cols {
     }
 
     /// The same columns, which share all that is kept in them.
-    pub(crate) fn same(&self) -> Result<Cols, Memory>
+    ///
+    /// # Errors
+    ///
+    /// `Memory`.
+    pub fn same(&self) -> Result<Cols, Memory>
         ensures { IfOk result (λ cols. cols ≡ self.now) }
     {
         let mut cols = Cols::new(self.allocator());
