@@ -1,29 +1,29 @@
 -- Columns that are made: of rows, of a column by an edit, each of its domain with the values and the home that the edit gives.
-use Rattle.std.proofs.Common.{◌≡◌, ℕ, zero, suc, ◌+◌, ◌<◌, ◌≤◌, ℤ, FitsSigned, w32, w64, List, [], ◌∷◌, ◌++◌, length, get_or, set, take, drop, replicate, map, All, pos, Option, None, Some, refl, ap, sym, subst, ◌∙◌, arith}
-use Rattle.std.proofs.lemmas.List.{length-map, length-set, get_or-map, map-set}
-use Rattle.std.proofs.lemmas.List.Elements.{All-nil, All-cons, All-head, All-tail, All-set}
+use Rattle.std.proofs.Common.{◌≡◌, ℕ, ◌<◌, ◌≤◌, ℤ, FitsSigned, w32, w64, List, [], ◌∷◌, length, get_or, set, map, All, pos, Option, None, Some, refl, ap, sym, subst, ◌∙◌, arith}
+use Rattle.std.proofs.lemmas.List.{length-map, map-set}
+use Rattle.std.proofs.lemmas.List.Elements.{All-head, All-tail, All-set}
 use Rattle.mk_value.specs.declared.span.Span.{Span}
-use Rattle.mk_value.specs.Limits.{max_bytes, max_rows}
+use Rattle.mk_value.specs.Limits.{max_bytes}
 use Rattle.mk_value.specs.Heading.{Domain, Heading, Attribute, attributes_of, heading_of}
-use Rattle.mk_value.specs.Data.{Datum, integer, Relation, rows_of, relation_of, IsOf, IsText, AreRowsOf}
-use Rattle.mk_value.specs.Tables.{AreNumbers, domain_at, number_in}
+use Rattle.mk_value.specs.Data.{Datum, integer, Relation, rows_of, relation_of, IsOf, AreRowsOf}
+use Rattle.mk_value.specs.Tables.{number_in}
 use Rattle.mk_value.proofs.Relations.{rows_of-relation_of, IsOf-relation}
 use Rattle.mk_value.proofs.Converting.{relation_of-rows_of}
 use Rattle.mk_value.proofs.Headings.{attributes_of-heading_of, heading_of-attributes_of}
 use Rattle.int_col.specs.Numbers.{Numbers}
 use Rattle.bytes_col.specs.declared.home.BytesHome.{BytesHome}
 use Rattle.bytes_col.specs.Strings.{Strings}
-use Rattle.tables.specs.Homes.{Home, no_home, tables, row_homes, each_of, column_of, rows_in, empty_home, empty_homes, empty_homes_from, empty_homes_in}
+use Rattle.tables.specs.Homes.{Home, no_home, tables, row_homes, column_of, rows_in, empty_home, empty_homes_from, empty_homes_in}
 use Rattle.tables.specs.Rows.{inserted, removed, home_inserted, home_removed}
 use Rattle.tables.specs.Shapes.{bytes_in}
 use Rattle.tables.specs.Tables.{StoredTable, home_with, table_without_homes}
 use Rattle.tables.specs.Columns.{StoredColumn, integers, texts, views, home_of, home_of_numbers, home_of_strings, column_values, HasBlocks, IsTextValue, IsTableOf, IsColumnOf, IsColumnWith}
 use Rattle.tables.specs.Cells.{HasNumber, HasString, HasView, with_number, with_string, with_view}
 use Rattle.tables.specs.Read.{IsIntegers, IsTexts, AreViews}
-use Rattle.tables.specs.Build.{HasColumn, AreCells, IsTableOfRows}
+use Rattle.tables.specs.Build.{AreCells, IsTableOfRows}
 use Rattle.tables.proofs.Lists.{map-inserted, map-removed, each_of-row_homes}
 use Rattle.tables.proofs.EditedTables.{empty-shape}
-use Rattle.tables.proofs.Gathering.{All-map, map-map, map-same, length-column_values}
+use Rattle.tables.proofs.Gathering.{All-map, map-map, length-column_values}
 use Rattle.tables.proofs.Rebuilding.{All-inserted, All-removed}
 
 abbrev view_of : StoredTable → Datum

@@ -1,5 +1,5 @@
 -- A value of a table that is given another: the column that it stands in, and the table.
-use Rattle.std.proofs.Common.{◌≡◌, ◌≢◌, ℕ, zero, suc, ◌+◌, ◌<◌, ◌≤◌, ◌⊎◌, ⊎_elim, List, [], ◌∷◌, length, get_or, set, map, All, pos, Result, Ok, Err, Some, refl, ap, sym, subst, ◌∙◌, arith}
+use Rattle.std.proofs.Common.{◌≡◌, ◌≢◌, ℕ, ◌<◌, ⊎_elim, List, [], length, get_or, set, map, pos, Result, Ok, Err, Some, refl, ap, sym, subst, ◌∙◌, arith}
 use Rattle.std.specs.Prelude.{OnOk, OnErr}
 use Rattle.std.specs.List.{slice_get}
 use Rattle.std.proofs.lemmas.List.{length-map, length-set, get_or-map, get_or-set_same, get_or-set_other, map-set}
@@ -10,10 +10,10 @@ use Rattle.mk_value.specs.Data.{Datum, integer, relation_of, cell}
 use Rattle.mk_value.specs.Tables.{domain_at}
 use Rattle.mk_value.proofs.Relations.{rows_of-relation_of}
 use Rattle.mk_value.proofs.Walks.{same_default, map_read}
-use Rattle.tables.specs.Homes.{Home, no_home, tables, row_homes, column_of, rows_in}
+use Rattle.tables.specs.Homes.{Home, no_home, column_of, rows_in}
 use Rattle.tables.specs.Tables.{StoredTable, IsTable, home_with, with_value, with_inner, inner_schema, inner_table, homes_in}
 use Rattle.tables.specs.Shapes.{HasHomes}
-use Rattle.tables.specs.Columns.{StoredColumn, views, no_column, home_of, column_values, rows_of_columns, table_of_columns, IsTableOf, IsColumnOf, AreColumnsOf, IsColumnWith, AreColumnsIn}
+use Rattle.tables.specs.Columns.{StoredColumn, views, no_column, home_of, column_values, table_of_columns, IsTableOf, IsColumnOf, AreColumnsOf, IsColumnWith, AreColumnsIn}
 use Rattle.tables.specs.Cells.{HasView, with_view, IsSetIn, IsWholeColumn}
 use Rattle.tables.specs.Stored.{stored_of}
 use Rattle.tables.specs.declared.cols.Col.{Col}
@@ -22,7 +22,7 @@ use Rattle.tables.proofs.ColumnWith.{has_view, column_of_views, view_set}
 use Rattle.tables.proofs.Lists.{each_of-row_homes}
 use Rattle.tables.proofs.Homeless.{same_or_not, column-set, column-set_same}
 use Rattle.tables.proofs.Gathering.{length-rows_of_columns, length-columns, length-column_values, column_at, column_of-columns}
-use Rattle.tables.proofs.Reading.{view_read, inner_read, length-column_of}
+use Rattle.tables.proofs.Reading.{view_read, inner_read}
 use Rattle.tables.proofs.Rebuilding.{IsRebuilt, AreRebuilt, rows_wide, rebuilt_as}
 
 -- A fact of what a call leaves, by its answer.

@@ -13,8 +13,8 @@ ghost use Rattle.tables.specs.Shapes.{HasHomes};
 ghost use Rattle.tables.specs.Stored.{stored_of};
 ghost use Rattle.tables.specs.Tables.{IsTable, inner_table, with_inner, with_value};
 
-use crate::{Cols, Shared};
 use crate::column::Column;
+use crate::{Cols, Shared};
 use mk_value::{Lent, Memory, Row, Rows, Schema, TableRead, Value};
 use std::alloc::Global;
 use std::cmp::Ordering;

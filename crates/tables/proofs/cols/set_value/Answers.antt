@@ -1,8 +1,8 @@
-use Rattle.std.proofs.Common.{◌≡◌, ◌∙◌, to_z, of_z, w32, w64, ap, sym, subst, set}
+use Rattle.std.proofs.Common.{◌≡◌, ◌∙◌, to_z, of_z, w32, w64, ap, sym, subst}
 use Rattle.std.proofs.lemmas.Int.{to_z-of_z}
 use Rattle.mk_value.specs.Data.{Datum, relation_of}
 use Rattle.mk_value.specs.Kinds.{domain_of}
-use Rattle.tables.specs.Cells.{IsSet, with_number, with_string, with_view}
+use Rattle.tables.specs.Cells.{IsSet, with_number, with_string}
 use Rattle.tables.specs.Homes.{empty_homes_in}
 use Rattle.tables.specs.Stored.{stored_of}
 use Rattle.tables.proofs.ColumnWith.{keeps_integer, has_number, integer_fits, long_fits, integer_set, long_set, text_set, bytes_set, made_view_set}

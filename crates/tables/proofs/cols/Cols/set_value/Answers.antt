@@ -1,4 +1,4 @@
-use Rattle.std.proofs.Common.{◌∙◌, ap, subst}
+use Rattle.std.proofs.Common.{subst}
 use Rattle.mk_value.specs.Kinds.{domain_of}
 use Rattle.mk_value.specs.Values.{datum_of}
 use Rattle.tables.specs.Cells.{IsSet}

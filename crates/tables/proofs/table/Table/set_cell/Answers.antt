@@ -1,14 +1,13 @@
-use Rattle.std.proofs.Common.{◌≡◌, ◌<◌, length, ◌∙◌, ap, sym, subst, arith}
+use Rattle.std.proofs.Common.{◌≡◌, ◌<◌, length, ◌∙◌, ap, sym, arith}
 use Rattle.mk_value.specs.Heading.{Attribute}
 use Rattle.mk_value.specs.Kinds.{domain_of}
 use Rattle.mk_value.specs.Values.{datum_of}
 use Rattle.mk_value.specs.Tables.{domain_at}
-use Rattle.tables.specs.Columns.{AreColumnsOf, table_of_columns}
+use Rattle.tables.specs.Columns.{AreColumnsOf}
 use Rattle.tables.specs.Homes.{empty_homes_in}
 use Rattle.tables.specs.Tables.{StoredTable, with_value}
 use Rattle.tables.proofs.Gathering.{length-rows_of_columns, length-columns}
 use Rattle.tables.proofs.Reading.{domain_read}
-use Rattle.tables.proofs.Rebuilding.{AreRebuilt}
 use Rattle.tables.proofs.Setting.{by_answer, OnOk-then, column_there, set_done}
 use Rattle.tables.proofs.table.Table.set_cell.Goals as goal
 

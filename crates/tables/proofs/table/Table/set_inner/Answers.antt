@@ -1,10 +1,8 @@
-use Rattle.std.proofs.Common.{◌≡◌, length, ap, arith}
+use Rattle.std.proofs.Common.{length, ap, arith}
 use Rattle.mk_value.specs.Heading.{heading_of}
 use Rattle.tables.specs.Columns.{AreColumnsOf}
-use Rattle.tables.specs.Shapes.{HasHomes}
-use Rattle.tables.specs.Tables.{StoredTable, IsTable}
+use Rattle.tables.specs.Tables.{StoredTable}
 use Rattle.tables.proofs.Gathering.{length-columns}
-use Rattle.tables.proofs.Rebuilding.{AreRebuilt}
 use Rattle.tables.proofs.Setting.{by_answer, OnOk-then, has_view_there, view_done}
 use Rattle.tables.proofs.table.Table.set_inner.Goals as goal
 
