@@ -5,29 +5,27 @@ use Rattle.std.specs.List.{flat_map}
 use Rattle.std.proofs.lemmas.List.{length-map}
 use Rattle.std.proofs.lemmas.List.Elements.{All-head, All-tail, All-cons, All-nil}
 use Rattle.mk_value.specs.declared.span.Span.{Span}
-use Rattle.mk_value.specs.Limits.{max_bytes, max_rows, max_structure}
+use Rattle.mk_value.specs.Limits.{max_bytes, max_structure}
 use Rattle.mk_value.specs.Heading.{Domain, Heading, no_attributes, attribute, Attribute, attributes_of, heading_of}
-use Rattle.mk_value.specs.Data.{Datum, integer, long, text, bytes, relation, rows_of, IsOf, IsRowOf, AreRowsOf}
-use Rattle.mk_value.specs.Tables.{domain_at, number_in}
+use Rattle.mk_value.specs.Data.{Datum, integer, long, text, bytes, relation, IsOf, IsRowOf, AreRowsOf}
+use Rattle.mk_value.specs.Tables.{number_in}
 use Rattle.mk_value.proofs.Headings.{attributes_of-heading_of}
 use Rattle.bit_pack.specs.declared.widths.Width.TheVariants.{W32, W64}
 use Rattle.bit_pack.specs.Width.{HoldsAll, bit_count, least_width}
 use Rattle.bit_pack.specs.Packed.{packed, packed_len}
 use Rattle.bit_pack.proofs.LeastWidth.{HoldsAll-wider}
 use Rattle.bytes_col.specs.Strings.{long_values, memo_rows, short_bytes, sizes_of}
-use Rattle.free_space.specs.Sites.{IsSite, no_span}
 use Rattle.commit_writes.specs.Blocks.{Block, IsBlockWithin, IsSited, no_block}
-use Rattle.dir_codec.specs.Dir.{AreBodies, AreEntries, AreMemos, Bodies, Entries, Entry, IsEntry, IsNumbers, IsSpan, IsStrings, IsDir, IsViewEntry, ViewEntry, count_bodies}
+use Rattle.dir_codec.specs.Dir.{AreBodies, AreEntries, AreMemos, IsEntry, IsNumbers, IsSpan, IsStrings, IsDir, IsViewEntry, ViewEntry, count_bodies}
 use Rattle.tables.specs.Homes.{Home, no_home, numbers, strings, tables, PlainColumn, ColumnHomes, no_columns, column, column_homes, RowHomes, no_rows, row, column_of, rows_in}
-use Rattle.tables.specs.Tables.{inner_schema}
 use Rattle.tables.specs.Shapes.{AreHomesOf, AreRowHomesOf, HasHomes, IsHomeOf, bytes_in}
 use Rattle.tables.specs.Blocks.{plain_columns, plain_from, plain_in, plain_rows}
-use Rattle.tables.proofs.Lists.{At, drop_at}
+use Rattle.tables.proofs.Lists.{drop_at}
 use Rattle.tables.proofs.Values.{column_fits, rows_inside}
 use Rattle.struct_text.proofs.Lengths.{structure_is}
 use Rattle.view_store.specs.Views.{IsView, NamedTable, view_names}
 use Rattle.recovery.specs.Commits.{Commit, IsCommit, IsHomed, blocks_at, bodies_of, column_blocks, dir_block, directory, entries_of, entry_of, memos_at, plain_views, version_of, view_entry}
-use Rattle.recovery.proofs.Memos.{memo_rows-from, memos_fit, rows_from}
+use Rattle.recovery.proofs.Memos.{memo_rows-from, memos_fit}
 use Rattle.recovery.proofs.Widths.{integers_held, least_at_most, longs_held, packed_long, sizes_held}
 
 -- a column that has a home, whose blocks lie below this end
@@ -61,12 +59,14 @@ short_values e kind (d ∷ values) h =
   where
     first : IsOf d e
     first = All-head (λ d. IsOf d e) d values h
+
     of_text : (d : Datum) → IsOf d Domain.text → length (bytes_in d) ≤ max_bytes
     of_text (text content) f = f.1
     of_text (integer z) f = absurd f
     of_text (long z) f = absurd f
     of_text (bytes content) f = absurd f
     of_text (relation r) f = absurd f
+
     of_bytes : (d : Datum) → IsOf d Domain.bytes → length (bytes_in d) ≤ max_bytes
     of_bytes (bytes content) f = f
     of_bytes (integer z) f = absurd f
@@ -98,9 +98,10 @@ ColumnsFit (attribute n e rest) k rows = All (λ d. IsOf d e) (column_of rows k)
 pub columns_fit : (g : Heading) (schema : List Attribute) (k : ℕ) (rows : List (List Datum)) → drop k schema ≡ attributes_of g → All (λ r. IsRowOf r schema) rows → ColumnsFit g k rows
 columns_fit no_attributes schema k rows at h = tt
 columns_fit (attribute n e rest) schema k rows at h =
-    let found = drop_at schema k (record { name = n; domain = e }) (attributes_of rest) (record { name = []; domain = Domain.integer }) at in
-    (subst (λ x. All (λ d. IsOf d x) (column_of rows k)) (ap (λ (a : Attribute). a.domain) found.here) (column_fits schema k found.within rows h),
-    columns_fit rest schema (k + 1) rows found.next h)
+    let found = drop_at schema k (record { name = n; domain = e }) (attributes_of rest) (record { name = []; domain = Domain.integer }) at in (
+      subst (λ x. All (λ d. IsOf d x) (column_of rows k)) (ap (λ (a : Attribute). a.domain) found.here) (column_fits schema k found.within rows h),
+      columns_fit rest schema (k + 1) rows found.next h,
+    )
 
 one_of : (end : ℕ) (c : PlainColumn) → All (IsPlacedBelow end) (c ∷ []) → IsPlacedBelow end c
 one_of end c h = All-head (IsPlacedBelow end) c [] h
@@ -148,9 +149,10 @@ mutual
   bodies_fit end (row homes rest) g (d ∷ values) s fit placed =
       let inside : AreRowsOf (rows_in d) (attributes_of g) = rows_inside d (Domain.relation g) (All-head (λ d. IsOf d (Domain.relation g)) d values fit) in
       let parts = split_all (IsPlacedBelow end) (plain_from homes g 0 (rows_in d)) (plain_rows rest g values) placed in
-      let others = bodies_fit end rest g values s.1 (All-tail (λ d. IsOf d (Domain.relation g)) d values fit) parts.1 in
-      ((let e = others.0 in omega (arith, e)),
-      (inside.few, entries_fit end homes g 0 (rows_in d) s.0 (columns_fit g (attributes_of g) 0 (rows_in d) refl inside.whole) parts.0, others.1))
+      let others = bodies_fit end rest g values s.1 (All-tail (λ d. IsOf d (Domain.relation g)) d values fit) parts.1 in (
+        (let e = others.0 in omega (arith, e)),
+        (inside.few, entries_fit end homes g 0 (rows_in d) s.0 (columns_fit g (attributes_of g) 0 (rows_in d) refl inside.whole) parts.0, others.1),
+      )
 
   entries_fit : (end : ℕ) (homes : ColumnHomes) (g : Heading) (k : ℕ) (rows : List (List Datum)) → AreHomesOf homes g k rows → ColumnsFit g k rows → All (IsPlacedBelow end) (plain_from homes g k rows)
       → AreEntries end (length rows) g (entries_of homes g k rows)
@@ -158,9 +160,10 @@ mutual
   entries_fit end no_columns (attribute n e others) k rows s fit placed = absurd s
   entries_fit end (column h rest) no_attributes k rows s fit placed = absurd s
   entries_fit end (column h rest) (attribute n e others) k rows s fit placed =
-      let parts = split_all (IsPlacedBelow end) (plain_in h e (column_of rows k)) (plain_from rest others (k + 1) rows) placed in
-      (subst (λ m. IsEntry end m e (entry_of h e (column_of rows k))) (length-map rows (λ (r : List Datum). get_or r k (integer (pos 0)))) (entry_fits end h e (column_of rows k) s.0 fit.0 parts.0),
-      entries_fit end rest others (k + 1) rows s.1 fit.1 parts.1)
+      let parts = split_all (IsPlacedBelow end) (plain_in h e (column_of rows k)) (plain_from rest others (k + 1) rows) placed in (
+        subst (λ m. IsEntry end m e (entry_of h e (column_of rows k))) (length-map rows (λ (r : List Datum). get_or r k (integer (pos 0)))) (entry_fits end h e (column_of rows k) s.0 fit.0 parts.0),
+        entries_fit end rest others (k + 1) rows s.1 fit.1 parts.1,
+      )
 
 pub each_part : {X Y : Type 0} (P : Y → Type 0) (f : X → List Y) (xs : List X) → All P (flat_map f xs) → All (λ x. All P (f x)) xs
 each_part P f [] h = All-nil (λ x. All P (f x))

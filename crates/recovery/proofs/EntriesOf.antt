@@ -1,13 +1,12 @@
 -- The plain columns of the directory of views are those of the views, in order.
-use Rattle.std.proofs.Common.{◌≡◌, ℕ, ◌+◌, List, [], ◌∷◌, ◌++◌, length, get_or, map, All, pos, refl, ap, sym, subst, ◌∙◌, arith}
-use Rattle.std.specs.List.{AllZip, flat_map}
+use Rattle.std.proofs.Common.{◌≡◌, ℕ, ◌+◌, List, [], ◌∷◌, ◌++◌, length, get_or, map, All, pos, refl, sym}
+use Rattle.std.specs.List.{AllZip}
 use Rattle.std.proofs.lemmas.List.{length-map}
 use Rattle.std.proofs.lemmas.List.Elements.{All-head, All-tail}
-use Rattle.mk_value.specs.declared.span.Span.{Span}
 use Rattle.mk_value.specs.Heading.{Domain, Heading, no_attributes, attribute, heading_of}
 use Rattle.mk_value.specs.Data.{Datum, integer}
 use Rattle.struct_text.specs.Spelling.{spelling}
-use Rattle.dir_codec.specs.Dir.{Entry, NoteEntry, spelled_entries, spelled_entry, spelled_view}
+use Rattle.dir_codec.specs.Dir.{NoteEntry, spelled_entries, spelled_entry, spelled_view}
 use Rattle.dir_codec.specs.Columns.{PlainEntry, dir_columns, plain_bodies, plain_entries, plain_entry, plain_view_entries}
 use Rattle.tables.specs.Homes.{Home, no_home, numbers, strings, tables, PlainColumn, ColumnHomes, no_columns, column, column_homes, RowHomes, no_rows, row, column_of, rows_in}
 use Rattle.tables.specs.Shapes.{AreHomesOf, AreRowHomesOf, HasHomes, IsHomeOf}

@@ -1,20 +1,20 @@
 -- An image that stands for a commit under a mark is not refused under it.
-use Rattle.std.proofs.Common.{◌≡◌, ◌≢◌, ℕ, ◌+◌, ◌<◌, ◌≤◌, ◌^◌, suc, ◌⊎◌, ⊎_elim, List, [], ◌∷◌, ◌++◌, length, get_or, Bool, true, cond, All, Some, refl, ap, sym, subst, ◌∙◌, arith}
-use Rattle.std.specs.Prelude.{Contains, nat_lt, slice_get}
+use Rattle.std.proofs.Common.{◌≡◌, ℕ, ◌+◌, ◌<◌, ◌^◌, suc, ⊎_elim, List, [], ◌∷◌, ◌++◌, length, get_or, Bool, true, cond, All, refl, ap, sym, subst, ◌∙◌, arith}
+use Rattle.std.specs.Prelude.{Contains, nat_lt}
 use Rattle.std.specs.List.{AllZip, filter, flat_map}
 use Rattle.std.proofs.lemmas.Bool.Decides.{Decides-ltb}
 use Rattle.std.proofs.lemmas.Option.{get_or_from_slice_get, slice_get_within}
 use Rattle.std.proofs.lemmas.List.{map-append}
-use Rattle.std.proofs.lemmas.List.Elements.{All-contains, All-head, All-tail, Contains-append_right, filter-append}
+use Rattle.std.proofs.lemmas.List.Elements.{All-contains, Contains-append_right, filter-append}
 use Rattle.std.proofs.lemmas.List.Kept.{AllPairs-filter}
 use Rattle.mk_value.specs.declared.span.Span.{Span}
-use Rattle.mk_value.specs.Data.{Datum, IsOf}
+use Rattle.mk_value.specs.Data.{IsOf}
 use Rattle.host_io.specs.Ranges.{bytes_in}
 use Rattle.free_space.specs.Extents.{AreApart, Meets}
 use Rattle.free_space.specs.Overlaps.{AreFirstToMeet}
 use Rattle.free_space.proofs.OrderLemmas.{apart_permutation}
 use Rattle.commit_marks.specs.Marks.{FitsFile, dir_span}
-use Rattle.commit_writes.specs.Blocks.{Block, StandsAt, span_range, spans_of}
+use Rattle.commit_writes.specs.Blocks.{StandsAt, span_range, spans_of}
 use Rattle.commit_writes.specs.Footprints.{Holds}
 use Rattle.dir_codec.specs.Dir.{Dir, IsDir, spelled}
 use Rattle.dir_codec.specs.Columns.{PlainEntry, dir_columns}
@@ -22,12 +22,11 @@ use Rattle.dir_codec.proofs.Whole.{no_flaw}
 use Rattle.dir_codec.proofs.Spelled.{one_dir}
 use Rattle.tables.specs.Homes.{PlainColumn}
 use Rattle.tables.specs.Shapes.{IsHomeOf}
-use Rattle.tables.specs.Rests.{blocks, blocks_of}
+use Rattle.tables.specs.Rests.{blocks}
 use Rattle.recovery.specs.Commits.{Commit, IsCommit, IsHomed, column_blocks, commit_blocks, dir_block, directory, entry_of, footprint_of, mark_of, plain_views}
-use Rattle.recovery.specs.Standing.{Stands}
 use Rattle.dir_codec.specs.Fields.{IsFirstFlaw}
-use Rattle.recovery.specs.Reading.{IsColumnOf, IsFirstUnreadable, IsReadable, all_spans, home_in, spans_in}
-use Rattle.recovery.specs.Refusals.{HasDir, HasFlaw, HasOverlap, HasUnreadable, IsRefusedAt}
+use Rattle.recovery.specs.Reading.{IsFirstUnreadable, IsReadable, all_spans, home_in, spans_in}
+use Rattle.recovery.specs.Refusals.{HasDir, IsRefusedAt}
 use Rattle.recovery.proofs.Directories.{dir_of_commit, each_part, split_all}
 use Rattle.recovery.proofs.EntriesOf.{IsEntryOf, directory_columns}
 use Rattle.recovery.proofs.PlainParts.{IsPlainPart, all_spans_back, columns_spans, home_back, views_parts}
@@ -109,14 +108,16 @@ module _ (c : Commit) (image : List ℕ) (whole : IsCommit c) (holds : Holds ima
       ap home_in is.entry ∙ home_back pc.home pc.domain pc.values part.kind part.shaped (All-contains IsHomed (plain_views c.views) pc whole.homed found.there) in
       let stand : All (StandsAt image) (column_blocks pc) =
       All-contains (λ (x : PlainColumn). All (StandsAt image) (column_blocks x)) (plain_views c.views) pc
-      (each_part (StandsAt image) column_blocks (plain_views c.views) (split_all (StandsAt image) (flat_map column_blocks (plain_views c.views)) (dir_block c ∷ []) holds.blocks).0) found.there in
-      (pc.values, record {
-        count = sym is.rows;
-        fit = subst (λ x. All (λ v. IsOf v x) pc.values) (sym is.domain) part.fit;
-        shaped = subst (λ h. IsHomeOf h e.domain pc.values) (sym home) (subst (λ x. IsHomeOf pc.home x pc.values) (sym is.domain) part.shaped);
-        entry = is.entry ∙ ap (λ h. entry_of h pc.domain pc.values) (sym home) ∙ ap (λ x. entry_of (home_in e.entry) x pc.values) (sym is.domain);
-        blocks = subst (λ (x : PlainColumn). All (StandsAt image) (column_blocks x)) (same_column pc e home is.domain) stand;
-      })
+      (each_part (StandsAt image) column_blocks (plain_views c.views) (split_all (StandsAt image) (flat_map column_blocks (plain_views c.views)) (dir_block c ∷ []) holds.blocks).0) found.there in (
+        pc.values,
+        record {
+          count = sym is.rows;
+          fit = subst (λ x. All (λ v. IsOf v x) pc.values) (sym is.domain) part.fit;
+          shaped = subst (λ h. IsHomeOf h e.domain pc.values) (sym home) (subst (λ x. IsHomeOf pc.home x pc.values) (sym is.domain) part.shaped);
+          entry = is.entry ∙ ap (λ h. entry_of h pc.domain pc.values) (sym home) ∙ ap (λ x. entry_of (home_in e.entry) x pc.values) (sym is.domain);
+          blocks = subst (λ (x : PlainColumn). All (StandsAt image) (column_blocks x)) (same_column pc e home is.domain) stand;
+        },
+      )
 
   pub not_refused : (slot place : ℕ) → IsRefusedAt image slot (mark_of c) place → ⊥
   not_refused slot place =

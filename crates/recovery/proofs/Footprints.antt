@@ -1,14 +1,13 @@
 -- What a whole commit has in a file is a whole footprint.
-use Rattle.std.proofs.Common.{◌≡◌, ℕ, ◌+◌, ◌<◌, ◌≤◌, ◌^◌, ◌⊎◌, inl, inr, ⊎_elim, Some, List, [], ◌∷◌, ◌++◌, length, map, refl, ap, sym, subst, ◌∙◌, arith}
+use Rattle.std.proofs.Common.{◌≡◌, ℕ, ◌<◌, ◌^◌, ◌⊎◌, inl, inr, ⊎_elim, Some, List, [], ◌∷◌, refl, sym, subst, arith}
 use Rattle.std.specs.Prelude.{Contains}
 use Rattle.std.specs.List.{flat_map}
 use Rattle.std.proofs.lemmas.List.{map-append}
 use Rattle.std.proofs.lemmas.List.Elements.{Contains-append_right}
 use Rattle.mk_value.specs.declared.span.Span.{Span}
-use Rattle.free_space.specs.Extents.{extent_end, extent_len}
 use Rattle.free_space.specs.Sites.{IsSite}
 use Rattle.free_space.proofs.ExtentLemmas.{le-extent_len}
-use Rattle.commit_marks.specs.Marks.{Chooses, IsMark}
+use Rattle.commit_marks.specs.Marks.{Chooses}
 use Rattle.commit_writes.specs.Blocks.{spans_of}
 use Rattle.commit_writes.specs.Footprints.{HasBefore, IsFootprint, StandsFor as PrintStandsFor, MayStand as PrintMayStand}
 use Rattle.dir_codec.specs.Dir.{NoteEntry}

@@ -3,6 +3,12 @@ pub mod EntriesOf
 pub mod Exact
 pub mod Footprints
 mod Memos
+pub mod NumberBlocks
+pub mod NumberColumns
 mod OneRow
 pub mod PlainParts
+pub mod ReadErrors
+mod SameStrings
+pub mod StringBlocks
+pub mod StringColumns
 pub mod Widths

@@ -1,5 +1,5 @@
 -- The memos of a column: their rows ascend, and each has its block.
-use Rattle.std.proofs.Common.{◌≡◌, ℕ, zero, suc, ◌+◌, ◌<◌, ◌≤◌, ⊎_elim, List, [], ◌∷◌, length, get_or, drop, Bool, true, false, cond, All, refl, ap, sym, subst, ◌∙◌, arith}
+use Rattle.std.proofs.Common.{◌≡◌, ℕ, suc, ◌+◌, ◌<◌, ◌≤◌, ⊎_elim, List, [], ◌∷◌, length, get_or, drop, Bool, true, false, cond, All, refl, ap, sym, subst, ◌∙◌, arith}
 use Rattle.std.specs.Prelude.{not}
 use Rattle.std.specs.List.{filter, range_with_len}
 use Rattle.std.proofs.lemmas.Bool.{leb-false}
@@ -10,7 +10,7 @@ use Rattle.bytes_col.specs.Strings.{is_short, long_values, memo_rows}
 use Rattle.commit_writes.specs.Blocks.{Block, IsBlockWithin, IsSited, no_block}
 use Rattle.dir_codec.specs.declared.dir.Memo.{Memo}
 use Rattle.dir_codec.specs.Dir.{AreMemos}
-use Rattle.tables.proofs.Lists.{At, drop_at}
+use Rattle.tables.proofs.Lists.{drop_at}
 use Rattle.recovery.specs.Commits.{blocks_at, memos_at}
 
 -- the rows of the memos among values, the first of which has this row
@@ -54,6 +54,7 @@ memos_fit end (v ∷ values) k rows memos e fit long sited = by_size (is_short v
   where
     longs : (b : Bool) → is_short v ≡ b → long_values (v ∷ values) ≡ cond (not b) (v ∷ long_values values) (long_values values)
     longs b e = ap (λ (t : Bool). cond (not t) (v ∷ long_values values) (long_values values)) e
+
     by_size : (b : Bool) → is_short v ≡ b
         → ((ms : List Span) → length ms ≡ length (long_values values) → All (IsSited end) (blocks_at ms (long_values values)) → AreMemos end rows (k + 1) (memos_at (rows_from (k + 1) values) ms))
         → AreMemos end rows k (memos_at (cond (is_short v) (rows_from (k + 1) values) (k ∷ rows_from (k + 1) values)) memos)
@@ -75,9 +76,14 @@ memos_fit end (v ∷ values) k rows memos e fit long sited = by_size (is_short v
             ⊎_elim
             (λ (none : block m v ≡ no_block). let z = ap (λ (b : Block). length b.bytes) none in absurd (omega (arith, big, z)))
             (λ (site : IsBlockWithin end (block m v)).
-            let n = site.len in
-            (omega arith, omega (arith, e), site.site, omega (arith, n, big), omega (arith, n, size),
-            rest ms (omega (arith, l)) (All-tail (IsSited end) (block m v) (blocks_at ms (long_values values)) s)))
+            let n = site.len in (
+              omega arith,
+              omega (arith, e),
+              site.site,
+              omega (arith, n, big),
+              omega (arith, n, size),
+              rest ms (omega (arith, l)) (All-tail (IsSited end) (block m v) (blocks_at ms (long_values values)) s),
+            ))
             (All-head (IsSited end) (block m v) (blocks_at ms (long_values values)) s)
 
 -- there are as many rows of memos as memos

@@ -1,5 +1,5 @@
 -- The worked commit of one view with one row, computed: its blocks, its directory, and its mark.
-use Rattle.std.proofs.Common.{◌≡◌, refl, ℕ, pos, List, [], ◌∷◌, ◌++◌, ◌+◌, length, codes, replicate, map}
+use Rattle.std.proofs.Common.{◌≡◌, refl, ℕ, pos, List, [], ◌∷◌, ◌++◌, ◌+◌, codes, replicate, map}
 use Rattle.mk_value.specs.declared.span.Span.{Span}
 use Rattle.mk_value.specs.Heading.{Domain}
 use Rattle.mk_value.specs.Data.{Datum}

@@ -1,5 +1,5 @@
 -- The plain columns of a whole commit: their values fit, and a directory has their homes.
-use Rattle.std.proofs.Common.{◌≡◌, ◌≢◌, ℕ, suc, ◌+◌, List, [], ◌∷◌, ◌++◌, length, get_or, map, All, pos, refl, ap, sym, subst, ◌∙◌, arith}
+use Rattle.std.proofs.Common.{◌≡◌, ◌≢◌, ℕ, ◌+◌, List, [], ◌∷◌, ◌++◌, length, map, All, refl, ap, sym, ◌∙◌, arith}
 use Rattle.std.specs.List.{AllZip, flat_map}
 use Rattle.std.proofs.lemmas.List.{map-append}
 use Rattle.std.proofs.lemmas.List.Elements.{All-head, All-tail, All-cons, All-nil, All-append}
@@ -10,7 +10,6 @@ use Rattle.mk_value.specs.Tables.{IsPlainDomain}
 use Rattle.mk_value.proofs.Headings.{attributes_of-heading_of}
 use Rattle.bytes_col.specs.Strings.{long_values, memo_rows}
 use Rattle.commit_writes.specs.Blocks.{Block, spans_of}
-use Rattle.dir_codec.specs.declared.dir.Memo.{Memo}
 use Rattle.dir_codec.specs.Columns.{PlainEntry}
 use Rattle.tables.specs.Homes.{Home, no_home, numbers, strings, tables, PlainColumn, ColumnHomes, no_columns, column, column_homes, RowHomes, no_rows, row, column_of, rows_in}
 use Rattle.tables.specs.Shapes.{AreHomesOf, AreRowHomesOf, HasHomes, IsHomeOf, bytes_in}

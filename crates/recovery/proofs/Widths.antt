@@ -1,18 +1,15 @@
 -- The widths and lengths of packed columns.
-use Rattle.std.proofs.Common.{◌≡◌, ◌≢◌, ℕ, zero, suc, ◌+◌, ◌<◌, ◌≤◌, ◌≤ℤ◌, ◌^◌, ℤ, pos, negsuc, ◌⊎◌, inl, inr, ⊎_elim, List, [], ◌∷◌, ◌++◌, length, get_or, map, drop, All, refl, ap, sym, subst, ◌∙◌, arith}
+use Rattle.std.proofs.Common.{◌≡◌, ℕ, ◌≤◌, ℤ, pos, negsuc, List, [], ◌∷◌, length, map, All, arith}
 use Rattle.std.specs.Prelude.{FitsSigned}
 use Rattle.std.specs.Int.{w32, w64}
-use Rattle.std.specs.List.{flat_map}
 use Rattle.std.proofs.lemmas.Int.{ints}
-use Rattle.std.proofs.lemmas.List.{length-map}
 use Rattle.std.proofs.lemmas.List.Elements.{All-head, All-tail, All-cons, All-nil}
-use Rattle.mk_value.specs.declared.span.Span.{Span}
 use Rattle.mk_value.specs.Limits.{max_bytes}
-use Rattle.mk_value.specs.Heading.{Domain, Heading, no_attributes, attribute, Attribute, attributes_of, heading_of}
-use Rattle.mk_value.specs.Data.{Datum, integer, long, text, bytes, relation, IsOf, IsRowOf}
-use Rattle.mk_value.specs.Tables.{domain_at, number_in}
+use Rattle.mk_value.specs.Heading.{Domain}
+use Rattle.mk_value.specs.Data.{Datum, integer, long, text, bytes, relation, IsOf}
+use Rattle.mk_value.specs.Tables.{number_in}
 use Rattle.bit_pack.specs.declared.widths.Width.{Width}
-use Rattle.bit_pack.specs.declared.widths.Width.TheVariants.{W0, W1, W2, W4, W8, W16, W32, W64}
+use Rattle.bit_pack.specs.declared.widths.Width.TheVariants.{W0, W32, W64}
 use Rattle.bit_pack.specs.Width.{bit_count, Holds, HoldsAll, least_width}
 use Rattle.bit_pack.specs.Packed.{packed, packed_len}
 use Rattle.bit_pack.proofs.Least.{least_width_is_least, packed_is_packed}

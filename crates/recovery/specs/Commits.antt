@@ -1,11 +1,10 @@
 -- A commit: what a file keeps of the views, and where each block of it stands.
-use Rattle.std.specs.Prelude.{◌≡◌, ◌≢◌, ℕ, ◌+◌, ◌^◌, ◌<◌, List, [], ◌∷◌, ◌++◌, length, map, drop, slice_index_or, pos, All}
+use Rattle.std.specs.Prelude.{◌≢◌, ℕ, ◌+◌, ◌^◌, ◌<◌, List, [], ◌∷◌, ◌++◌, length, map, drop, slice_index_or, pos, All}
 use Rattle.std.specs.List.{flat_map}
 use Rattle.mk_value.specs.declared.span.Span.{Span}
-use Rattle.mk_value.specs.Heading.{Domain, Heading, no_attributes, attribute, heading_of}
+use Rattle.mk_value.specs.Heading.{Domain, Heading, attribute, heading_of}
 use Rattle.mk_value.specs.Data.{Datum, integer}
 use Rattle.mk_value.specs.Tables.{number_in}
-use Rattle.bit_pack.specs.declared.widths.Width.{Width}
 use Rattle.bit_pack.specs.declared.widths.Width.TheVariants.{W0}
 use Rattle.bit_pack.specs.Width.{least_width}
 use Rattle.bytes_col.specs.Strings.{sizes_of, memo_rows}
@@ -17,7 +16,7 @@ use Rattle.commit_writes.specs.Blocks.{Block, IsSited, spans_of}
 use Rattle.commit_writes.specs.Footprints.{Footprint}
 use Rattle.dir_codec.specs.declared.dir.Memo.{Memo}
 use Rattle.dir_codec.specs.Dir.{AreNotes, Bodies, no_bodies, body, Dir, Entries, no_entries, entry, Entry, NoteEntry, ViewEntry, spelled}
-use Rattle.tables.specs.Homes.{Home, no_home, numbers, strings, tables, PlainColumn, ColumnHomes, no_columns, column, RowHomes, no_rows, row, column_homes, column_of, rows_in}
+use Rattle.tables.specs.Homes.{Home, no_home, numbers, strings, tables, PlainColumn, ColumnHomes, column, RowHomes, no_rows, row, column_homes, column_of, rows_in}
 use Rattle.tables.specs.Shapes.{HasHomes, bytes_in}
 use Rattle.tables.specs.Blocks.{blocks_of_values, plain_columns}
 use Rattle.tables.specs.Rests.{blocks_of}

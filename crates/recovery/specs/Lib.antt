@@ -1,4 +1,10 @@
+pub mod Causes
 pub mod Commits
+pub mod Blobs
+pub mod Contents
+pub mod Memos
+pub mod Numbers
 pub mod Standing
+pub mod Strings
 pub mod Reading
 pub mod Refusals

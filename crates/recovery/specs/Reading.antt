@@ -2,12 +2,11 @@
 use Rattle.std.specs.Prelude.{◌≡◌, ℕ, nat_lt, List, [], ◌∷◌, ◌++◌, length, map, All}
 use Rattle.std.specs.List.{filter, flat_map}
 use Rattle.mk_value.specs.declared.span.Span.{Span}
-use Rattle.mk_value.specs.Heading.{Domain}
 use Rattle.mk_value.specs.Data.{Datum, IsOf}
 use Rattle.commit_writes.specs.Blocks.{StandsAt}
 use Rattle.dir_codec.specs.Dir.{Dir, Entry}
 use Rattle.dir_codec.specs.Columns.{PlainEntry, dir_columns}
-use Rattle.tables.specs.Homes.{Home, no_home, numbers, strings, PlainColumn}
+use Rattle.tables.specs.Homes.{Home, no_home, numbers, strings}
 use Rattle.tables.specs.Shapes.{IsHomeOf}
 use Rattle.recovery.specs.Commits.{column_blocks, entry_of}
 

@@ -5,7 +5,6 @@ use Rattle.free_space.specs.Extents.{AreApart}
 use Rattle.free_space.specs.Overlaps.{AreFirstToMeet}
 use Rattle.host_io.specs.Ranges.{bytes_in}
 use Rattle.commit_marks.specs.declared.mark.Mark.{Mark}
-use Rattle.commit_marks.specs.declared.error.MarkError.{MarkError}
 use Rattle.commit_marks.specs.declared.error.MarkError.TheVariants as mark_error
 use Rattle.commit_marks.specs.Marks.{Chooses, FitsFile, IsMarkRefusal, dir_span, other_slot, slot_place}
 use Rattle.commit_writes.specs.Blocks.{span_range}

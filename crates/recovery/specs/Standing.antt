@@ -1,5 +1,5 @@
 -- Where a commit stands: the image of a file from which opening gives it.
-use Rattle.std.specs.Prelude.{◌≡◌, ℕ, ◌⊎◌, List, Option, None, Some}
+use Rattle.std.specs.Prelude.{◌≡◌, ℕ, List, Option}
 use Rattle.commit_marks.specs.declared.mark.Mark.{Mark}
 use Rattle.commit_marks.specs.Marks.{Chooses}
 use Rattle.commit_writes.specs.Footprints.{Holds}

@@ -1,2 +1,14 @@
-//! What a file stands for.
+//! What a file stands for, and reading it.
+//!
+//! A file stands for a commit: its views, its notes, and where each block stands. Here is what that means, why a file stands for none,
+//! and how a column is read from its blocks. A file is not opened here yet.
 #![tactic(auto)]
+
+mod contents;
+mod error;
+mod laws;
+mod long_values;
+mod numbers;
+mod strings;
+
+pub use laws::stands_or_refused;

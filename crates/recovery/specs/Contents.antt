@@ -1,0 +1,16 @@
+-- What the values of a column of texts or of byte strings are.
+use Rattle.std.specs.Prelude.{ℕ, ◌≤◌, List, length}
+use Rattle.mk_value.specs.Limits.{max_bytes}
+use Rattle.mk_value.specs.Heading.{Domain}
+use Rattle.tables.specs.Columns.{IsTextValue}
+use Rattle.recovery.specs.declared.contents.Content.{Content}
+use Rattle.recovery.specs.declared.contents.Content.TheVariants.{Texts, Strings}
+
+abbrev pub domain_of : Content → Domain
+domain_of Texts = Domain.text
+domain_of Strings = Domain.bytes
+
+-- a value is one of the column
+abbrev pub FitsContent : Content → List ℕ → Type 0
+FitsContent Texts value = IsTextValue value
+FitsContent Strings value = length value ≤ max_bytes
