@@ -7,6 +7,8 @@
 #[cfg(test)]
 mod call;
 #[cfg(test)]
+mod columns;
+#[cfg(test)]
 mod edits;
 #[cfg(test)]
 mod kept;
