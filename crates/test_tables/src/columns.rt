@@ -21,8 +21,22 @@ const SOURCES: [Source; 5] = [
 /// The rows before, the row that is put in (the first of a view), its place and how often, and the rows after.
 const INSERTED: [(&str, &str, &str, usize, usize, &str); 3] = [
     ("n[i:I]", "{}", "{(7)}", 0, 2, "{(7),(7)}"),
-    ("t[s:S,i:I]", r#"{("a",1),("c",3)}"#, r#"{("b",2)}"#, 1, 1, r#"{("a",1),("b",2),("c",3)}"#),
-    ("v[v[x:I]]", "{({(1)})}", "{({(2),(3)})}", 1, 1, "{({(1)}),({(2),(3)})}"),
+    (
+        "t[s:S,i:I]",
+        r#"{("a",1),("c",3)}"#,
+        r#"{("b",2)}"#,
+        1,
+        1,
+        r#"{("a",1),("b",2),("c",3)}"#,
+    ),
+    (
+        "v[v[x:I]]",
+        "{({(1)})}",
+        "{({(2),(3)})}",
+        1,
+        1,
+        "{({(1)}),({(2),(3)})}",
+    ),
 ];
 
 /// The schema and the rows of a structure text and a view literal.
@@ -87,12 +101,19 @@ fn rows_are_put_in(rt: HostRuntime) -> Result<(), Fail> {
 #[test]
 fn rows_are_removed(rt: HostRuntime) -> Result<(), Fail> {
     let alloc = rt.alloc();
-    let mut table = table(alloc, "t[s:S,v[x:I]]", r#"{("a",{(1)}),("b",{}),("c",{(3)})}"#)?;
+    let mut table = table(
+        alloc,
+        "t[s:S,v[x:I]]",
+        r#"{("a",{(1)}),("b",{}),("c",{(3)})}"#,
+    )?;
     let copy = table.same()?;
     if table.len() == 3 {
         table.remove_rows(1, 1)?;
     }
-    assert_eq!(rt; literal(alloc, &table)?.as_str(), r#"{("a",{(1)}),("c",{(3)})}"#);
+    assert_eq!(rt;
+        literal(alloc, &table)?.as_str(),
+        r#"{("a",{(1)}),("c",{(3)})}"#
+    );
     assert_eq!(rt; copy.len(), 3);
     Ok(())
 }
