@@ -1,6 +1,7 @@
 pub mod Directories
 pub mod EntriesOf
 pub mod Exact
+pub mod Flawed
 pub mod Footprints
 mod Memos
 pub mod NumberBlocks

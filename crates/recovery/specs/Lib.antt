@@ -2,6 +2,7 @@ pub mod Causes
 pub mod Commits
 pub mod Blobs
 pub mod Contents
+pub mod Flaws
 pub mod Memos
 pub mod Numbers
 pub mod Standing

@@ -1,10 +1,11 @@
 //! What a file stands for, and reading it.
 //!
 //! A file stands for a commit: its views, its notes, and where each block stands. Here is what that means, why a file stands for none,
-//! and how a column is read from its blocks. A file is not opened here yet.
+//! and how a directory and a column are read from their blocks. A file is not opened here yet.
 #![tactic(auto)]
 
 mod contents;
+mod directory;
 mod error;
 mod laws;
 mod long_values;
