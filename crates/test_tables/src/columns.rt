@@ -1,5 +1,5 @@
 //! Tables as columns: what they are made of is read back, and an edit leaves copies as they were.
-use crate::tables::{Source, shown_rows};
+use crate::sources::{Source, shown_rows};
 use mk_value::{
     Kind, Row, Rows, Schema, TableRead, Text, Value, fits, row_fits, rows_fit, to_value,
 };

@@ -15,4 +15,4 @@ mod kept;
 #[cfg(test)]
 mod restructuring;
 #[cfg(test)]
-mod tables;
+mod sources;
