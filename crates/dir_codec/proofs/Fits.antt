@@ -64,7 +64,7 @@ site_below end s site = record {
 pub site_above : (end : ℕ) (s : Span) → IsSite (end - end % 16) s → IsSite end s
 site_above end s site = record { aligned = site.aligned; behind = site.behind; some = site.some; within = let w = site.within in omega (arith, w) }
 
-part_length : (at len : ℕ) (bytes : List ℕ) → at + len ≤ length bytes → length (bytes_at at len bytes) ≡ len
+pub part_length : (at len : ℕ) (bytes : List ℕ) → at + len ≤ length bytes → length (bytes_at at len bytes) ≡ len
 part_length at len bytes whole = length-take-le len (drop at bytes) (let l = length-drop at bytes in omega (arith, l, whole))
 
 -- a number that was read of a field is the field's, and spelled so

@@ -1,9 +1,9 @@
 pub mod Ascii
-pub mod Going
 pub mod BodyLists
 pub mod ColumnLists
 pub mod ColumnParts
 pub mod Fits
+pub mod Going
 pub mod MemoLists
 pub mod NoteLists
 pub mod NoteParts
@@ -12,8 +12,8 @@ pub mod OneRow
 pub mod Reading
 pub mod Spelled
 pub mod TextColumns
-pub mod Whole
 pub mod ViewLists
 pub mod ViewParts
+pub mod Whole
 pub mod WholeRead
 pub mod Written

@@ -1,6 +1,6 @@
 -- A view, field by field.
-use Rattle.std.proofs.Common.{◌≡◌, ℕ, ◌+◌, ◌<◌, ◌≤◌, ◌⊎◌, inl, inr, ⊎_elim, List, [], ◌∷◌, ◌++◌, length, length-drop, drop, refl, sym, ◌∙◌, ap, subst, arith, Contains}
-use Rattle.std.proofs.lemmas.List.{append_assoc, length-take-le}
+use Rattle.std.proofs.Common.{◌≡◌, ℕ, ◌+◌, ◌<◌, ◌≤◌, ◌⊎◌, inl, inr, ⊎_elim, List, [], ◌∷◌, ◌++◌, length, drop, refl, sym, ◌∙◌, ap, subst, arith, Contains}
+use Rattle.std.proofs.lemmas.List.{append_assoc}
 use Rattle.byteorder.specs.Endian.{little_bytes}
 use Rattle.mk_value.specs.Heading.{Attribute, heading_of}
 use Rattle.mk_value.specs.Limits.{max_rows, max_structure}
@@ -13,13 +13,11 @@ use Rattle.dir_codec.specs.Dir.{AreEntries, Entry, entries_from, IsViewEntry, sp
 use Rattle.dir_codec.specs.Fields.{Due, number_of_field, row_count, structure, text_length, views_due}
 use Rattle.dir_codec.specs.Parts.{IsNewStructure, names_before, spelled_structure}
 use Rattle.dir_codec.specs.Reads.{bytes_at, Flaws, Leads, Reads}
+use Rattle.dir_codec.proofs.Fits.{part_length}
 use Rattle.dir_codec.proofs.Reading.{flaws_first, flaws_here, flaws_leads, leads_field, leads_joins, leads_more}
 
 abbrev IsLengthAt : List ℕ → ℕ → ℕ → Type 0
 IsLengthAt bytes at n = (at + 4 ≤ length bytes) × ((n ≡ number_of_field (bytes_at at 4 bytes)) × (bytes_at at 4 bytes ≡ little_bytes 4 n) × (0 ≤ n) × (n ≤ max_structure))
-
-long_part : (at len : ℕ) (bytes : List ℕ) → at + len ≤ length bytes → length (bytes_at at len bytes) ≡ len
-long_part at len bytes whole = length-take-le len (drop at bytes) (let l = length-drop at bytes in omega (arith, l, whole))
 
 module _ (number end more : ℕ) (names : List (List ℕ)) (bytes : List ℕ) where
   abbrev one_view : List Due
@@ -62,7 +60,7 @@ module _ (number end more : ℕ) (names : List (List ℕ)) (bytes : List ℕ) wh
   pub structure_leads : (at len : ℕ) (name : List ℕ) (schema : List Attribute) → IsLengthAt bytes at len → at + 4 + len ≤ length bytes → Spells (bytes_at (at + 4) len bytes) name schema → (Contains names name → ⊥)
       → Leads number end one_view bytes at (behind name schema) (at + 4 + len) (spelled_structure name schema)
   structure_leads at len name schema is whole spells new =
-      let long : length (spelling name schema) ≡ len = ap length (sym spells.is) ∙ long_part (at + 4) len bytes whole in
+      let long : length (spelling name schema) ≡ len = ap length (sym spells.is) ∙ part_length (at + 4) len bytes whole in
       let second = leads_field number end bytes (structure len more names) (behind name schema) (at + 4) whole (name, schema, spells, new, refl) in
       let both = leads_joins number end bytes one_view (structure len more names ∷ []) (behind name schema) at (at + 4) (at + 4 + len) (little_bytes 4 len) (bytes_at (at + 4) len bytes) (length_leads at len is) second in
       subst (λ (l : List ℕ). Leads number end one_view bytes at (behind name schema) (at + 4 + len) l)
@@ -91,5 +89,5 @@ is_view end views name schema rows columns new body = record { named = new.named
 pub new_structure : (views : List DirView) (bytes : List ℕ) (at len : ℕ) (name : List ℕ) (schema : List Attribute) → at + len ≤ length bytes → len ≤ max_structure → Spells (bytes_at at len bytes) name schema → (Contains (names_before views) name → ⊥)
     → IsNewStructure views name schema
 new_structure views bytes at len name schema whole few spells new =
-    let long = ap length (sym spells.is) ∙ long_part at len bytes whole in
+    let long = ap length (sym spells.is) ∙ part_length at len bytes whole in
     record { named = spells.named; whole = spells.whole; short = omega (arith, long, few); new = new }

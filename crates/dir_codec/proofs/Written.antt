@@ -1,12 +1,10 @@
 -- What is appended part by part.
-use Rattle.std.proofs.Common.{◌≡◌, ℕ, zero, suc, ◌+◌, ◌<◌, ◌≤◌, List, [], ◌∷◌, ◌++◌, length, drop, get_or, map, refl, sym, ◌∙◌, ap, arith}
+use Rattle.std.proofs.Common.{◌≡◌, ℕ, zero, suc, ◌+◌, ◌<◌, ◌≤◌, List, [], ◌∷◌, ◌++◌, length, drop, get_or, map, sym, ◌∙◌, ap, arith}
 use Rattle.std.proofs.lemmas.List.{append-nil, append_assoc, drop_all}
 use Rattle.mk_value.proofs.Walks.{drop_read}
 use Rattle.dir_codec.specs.declared.dir.DirBody.{DirBody}
 use Rattle.dir_codec.specs.declared.dir.DirCol.{DirCol}
-use Rattle.dir_codec.specs.Dir.{Body, bodies_from}
-use Rattle.dir_codec.specs.DirCode.{bodies_weight, columns_weight, entries_weight, entry_weight, tables_weight}
-use Rattle.dir_codec.specs.Dir.{Entry, entries_from}
+use Rattle.dir_codec.specs.DirCode.{columns_weight, entry_weight, tables_weight}
 use Rattle.dir_codec.specs.Values.{body_of, entry_of}
 
 -- two parts, one behind the other
@@ -24,14 +22,6 @@ module _ {X : Type 0} (part : X → List ℕ) (all : List X → List ℕ) (step 
   at_end xs i whole new none past so_far = sym (append-nil new) ∙ ap (λ (l : List ℕ). new ++ l) (sym (ap all (drop_all i xs past) ∙ none)) ∙ so_far
 
 -- ---- what is inside is smaller
-
-entries_weight-from : (es : List Entry) → entries_weight (entries_from es) ≡ columns_weight es
-entries_weight-from [] = refl
-entries_weight-from (e ∷ rest) = let r = entries_weight-from rest in omega (arith, r)
-
-pub bodies_weight-from : (bs : List Body) → bodies_weight (bodies_from bs) ≡ tables_weight bs
-bodies_weight-from [] = refl
-bodies_weight-from (b ∷ rest) = let c = entries_weight-from b.columns in let r = bodies_weight-from rest in omega (arith, c, r)
 
 pub column_weight : (xs : List DirCol) (i : ℕ) (x : DirCol) → i < length xs → x ≡ get_or xs i x → entry_weight (entry_of x) + 1 ≤ columns_weight (map entry_of xs)
 column_weight [] i x within at = absurd (omega (arith, within))

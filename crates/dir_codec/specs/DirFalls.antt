@@ -16,7 +16,7 @@ entries_weight-from : (es : List Entry) → entries_weight (entries_from es) ≡
 entries_weight-from [] = refl
 entries_weight-from (e ∷ rest) = let r = entries_weight-from rest in omega (arith, r)
 
-bodies_weight-from : (bs : List Body) → bodies_weight (bodies_from bs) ≡ tables_weight bs
+pub bodies_weight-from : (bs : List Body) → bodies_weight (bodies_from bs) ≡ tables_weight bs
 bodies_weight-from [] = refl
 bodies_weight-from (b ∷ rest) = let c = entries_weight-from b.columns in let r = bodies_weight-from rest in omega (arith, c, r)
 

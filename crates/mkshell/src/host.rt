@@ -4,9 +4,10 @@ ghost use Rattle.mkshell.specs.Untold.{untold};
 
 use host_io::{Disk, Failed, Host};
 use std::fs::{File, OpenOptions};
-use std::io;
 use std::io::{ErrorKind, Read, Write};
 use std::os::unix::fs::FileExt;
+use std::path::Path;
+use std::{fs, io};
 
 /// The greatest length of a file.
 const MAX_LEN: u64 = (1 << 63) - 1;
@@ -55,12 +56,37 @@ fn counted<T: Drop>(answer: io::Result<T>, faults: &mut u64) -> Result<T, Failed
     }
 }
 
+/// Opens a regular file, and nothing else: a folder has no bytes, and a device would be written over. What is there is
+/// looked at before it is opened, since opening a pipe waits for its other end, and once more when it is open.
+///
+/// The name of a file that is made, or that stands empty since it was, outlasts a crash of the machine.
 fn open(runtime: &HostRuntime, name: &str, create: bool) -> io::Result<File> {
-    OpenOptions::new()
+    match fs::metadata(runtime, name) {
+        Ok(found) if !found.is_file() => return Err(ErrorKind::InvalidInput.into()),
+        _ => {}
+    }
+    let file = OpenOptions::new()
         .read(true)
         .write(create)
         .create(create)
-        .open(runtime, name)
+        .open(runtime, name)?;
+    let found = file.metadata()?;
+    if !found.is_file() {
+        return Err(ErrorKind::InvalidInput.into());
+    }
+    if create && found.len() == 0 {
+        sync_folder(runtime, name)?;
+    }
+    Ok(file)
+}
+
+/// Makes what the folder of a file holds outlast a crash, so that the file is found there by its name.
+fn sync_folder(runtime: &HostRuntime, name: &str) -> io::Result<()> {
+    let folder = match Path::new(name).parent() {
+        Some(folder) if !folder.as_os_str().is_empty() => folder,
+        _ => Path::new("."),
+    };
+    File::open(runtime, folder)?.sync_all()
 }
 
 /// The file's length, which no file has of 2^63 bytes or more.
@@ -204,6 +230,11 @@ mod tests {
         // A file that ends within a read is a failure.
         assert_eq!(rt; host.read_at(4, &mut piece), Err(Failed));
         assert_eq!(rt; host.disk_faults, 3);
+
+        // A folder and a device are no files to attach.
+        assert_eq!(rt; host.attach(".", false), Err(Failed));
+        assert_eq!(rt; host.attach("/dev/null", true), Err(Failed));
+        assert_eq!(rt; host.disk_faults, 5);
         fs::remove_file(&rt, name.as_str())?;
         Ok(())
     }

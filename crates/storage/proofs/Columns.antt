@@ -56,6 +56,7 @@ settled-is c spans plain long = by_home (is_homed c) refl
   where
     made : PlainColumn
     made = record { domain = c.domain; values = c.values; home = home_at c.domain spans }
+
     by_home : (b : Bool) → is_homed c ≡ b → IsSettledColumn c spans
     by_home true e = kept e (ap (λ (b : Bool). cond b [] (blocks_of_values c.domain c.values)) e) (ap (λ (b : Bool). cond b c made) e)
     by_home false e =

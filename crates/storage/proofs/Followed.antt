@@ -113,7 +113,6 @@ one_apart s = λ i j d p q. absurd (omega (arith, p, q))
 module _ (floor : ℕ) (kept : Commit) (views : List NamedTable) (note : List ℕ) (spans : List Span) (next : Commit)
     (whole : IsCommit kept) (may : MayFollow floor kept views note) (f : FollowsAt floor kept views note spans next)
     (end_few : next.end < last_end) (number_few : next.number < 2 ^ 63) where
-
   abbrev columns : List PlainColumn
   columns = plain_views views
 

@@ -27,9 +27,14 @@ from_dropped number least (suc k) (n ∷ notes) h =
 from_added : (number least : ℕ) (notes : List NoteEntry) (text : List ℕ) → least ≤ number + 1 → IsText text → 0 < length text → length text ≤ 255 → AreNotesFrom number least notes
     → AreNotesFrom (number + 1) least (notes ++ record { number = number + 1; text = text } ∷ [])
 from_added number least [] text p is some few h = (p, omega arith, some, few, is, tt)
-from_added number least (n ∷ notes) text p is some few h =
-    (h.0, (let q = h.1 in omega (arith, q)), h.2, h.3, h.4,
-    from_added number (n.number + 1) notes text (let q = h.1 in omega (arith, q)) is some few h.5)
+from_added number least (n ∷ notes) text p is some few h = (
+  h.0,
+  (let q = h.1 in omega (arith, q)),
+  h.2,
+  h.3,
+  h.4,
+  from_added number (n.number + 1) notes text (let q = h.1 in omega (arith, q)) is some few h.5,
+)
 
 version_two : (notes : List NoteEntry) → 0 < length notes → version_of notes ≡ 2
 version_two [] p = absurd (omega (arith, p))

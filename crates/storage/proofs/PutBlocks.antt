@@ -137,6 +137,7 @@ begin_some floor used (b ∷ blocks) end p sure h = by_test (is_some b) refl (λ
     none_end : is_some b ≡ false → extent_end b.span ≡ 0
     none_end e =
         ⊎_elim (λ (n : b.span ≡ no_span). ap extent_end n ∙ no_extent) (λ (a : 0 < b.span.len). absurd (true≢false (sym ((Decides-ltb 0 b.span.len).1 a) ∙ e))) (All-head IsNoneOrSome b.span (spans_of blocks) sure)
+
     by_test : (t : Bool) → is_some b ≡ t → ((e : ℕ) → end_of floor (b.span ∷ used) ≤ e → BeginWithin e (filter is_some blocks)) → BeginWithin end (filter is_some (b ∷ blocks))
     by_test true e rest =
         subst (λ bs. BeginWithin end bs) (sym (ap (λ (t : Bool). cond t (b ∷ filter is_some blocks) (filter is_some blocks)) e))

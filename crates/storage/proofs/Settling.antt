@@ -144,12 +144,16 @@ settle_all (c ∷ columns) spans plain long = by_column (λ s e. settle_all colu
   where
     made : List Span → PlainColumn
     made s = record { domain = c.domain; values = c.values; home = home_at c.domain s }
+
     whole : length (due_of c ++ blocks_due columns) ≡ length (due_of c) + length (blocks_due columns)
     whole = length-append (due_of c) (blocks_due columns)
+
     front_long : length (take (length (due_of c)) spans) ≡ length (due_of c)
     front_long = length-take-le (length (due_of c)) spans (omega (arith, long, whole))
+
     back_long : length (drop (length (due_of c)) spans) ≡ length (blocks_due columns)
     back_long = let e = ap length (take-append-drop (length (due_of c)) spans) in let f = length-append (take (length (due_of c)) spans) (drop (length (due_of c)) spans) in let g = front_long in omega (arith, e, f, g, long, whole)
+
     by_column : ((s : List Span) → length s ≡ length (blocks_due columns) → AreSettled columns s) → IsSettledColumn c (take (length (due_of c)) spans) → AreSettled (c ∷ columns) spans
     by_column rest (kept e due same) =
         settle_kept c columns spans (All-head IsPlainPart c columns plain) e due (λ s. ap (λ (b : Bool). cond b c (made s)) e)

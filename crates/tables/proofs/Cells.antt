@@ -1,9 +1,8 @@
 -- The values at one place of rows, as a loop over the rows reads them one by one.
-use Rattle.std.proofs.Common.{◌≡◌, ℕ, zero, suc, ◌+◌, ◌<◌, ◌≤◌, List, [], ◌∷◌, ◌++◌, length, get_or, take, map, All, pos, Result, Ok, Err, refl, ap, sym, subst, ◌∙◌, arith}
+use Rattle.std.proofs.Common.{◌≡◌, ℕ, zero, suc, ◌+◌, ◌<◌, ◌≤◌, List, [], ◌∷◌, ◌++◌, length, get_or, take, map, pos, Result, Ok, Err, ap, sym, ◌∙◌, arith}
 use Rattle.std.specs.Prelude.{IfOk}
 use Rattle.std.proofs.lemmas.List.{length-map, get_or-map, take_more, take_all, map-append}
-use Rattle.mk_value.specs.Limits.{max_rows}
-use Rattle.mk_value.specs.Heading.{Attribute, heading_of, attributes_of}
+use Rattle.mk_value.specs.Heading.{Attribute}
 use Rattle.mk_value.specs.Data.{Datum, integer, IsOf, IsRowOf, AreRowsOf}
 use Rattle.mk_value.specs.Tables.{domain_at}
 use Rattle.mk_value.specs.Values.{datum_of}
@@ -12,7 +11,6 @@ use Rattle.mk_value.proofs.Relations.{row_fits_length}
 use Rattle.mk_value.proofs.Walks.{same_default, map_read}
 use Rattle.tables.specs.Homes.{column_of}
 use Rattle.tables.specs.Build.{HasColumn, AreCells}
-use Rattle.tables.proofs.ColumnWith.{cells_fit}
 
 -- a row has a value at the place
 pub place_in_row : (rows items : List (List Datum)) (at i : ℕ) (row : List Datum) (values : List Value) → HasColumn rows at → items ≡ rows → i < length items → row ≡ get_or items i row → map datum_of values ≡ row → at < length values

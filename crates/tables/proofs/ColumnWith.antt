@@ -1,28 +1,29 @@
 -- Columns that are made: of rows, of a column by an edit, each of its domain with the values and the home that the edit gives.
-use Rattle.std.proofs.Common.{◌≡◌, ℕ, zero, suc, ◌+◌, ◌<◌, ◌≤◌, ℤ, FitsSigned, w32, w64, List, [], ◌∷◌, ◌++◌, length, get_or, set, take, drop, replicate, map, All, pos, Option, None, Some, refl, ap, sym, subst, ◌∙◌, arith}
-use Rattle.std.proofs.lemmas.List.{length-map, length-set, get_or-map, map-set}
-use Rattle.std.proofs.lemmas.List.Elements.{All-nil, All-cons, All-head, All-tail, All-set}
+use Rattle.std.proofs.Common.{◌≡◌, ℕ, ◌<◌, ◌≤◌, ℤ, FitsSigned, w32, w64, List, [], ◌∷◌, length, get_or, set, map, All, pos, Option, None, Some, refl, ap, sym, subst, ◌∙◌, arith}
+use Rattle.std.proofs.lemmas.List.{length-map, map-set}
+use Rattle.std.proofs.lemmas.List.Elements.{All-head, All-tail, All-set}
 use Rattle.mk_value.specs.declared.span.Span.{Span}
-use Rattle.mk_value.specs.Limits.{max_bytes, max_rows}
+use Rattle.mk_value.specs.Limits.{max_bytes}
 use Rattle.mk_value.specs.Heading.{Domain, Heading, Attribute, attributes_of, heading_of}
-use Rattle.mk_value.specs.Data.{Datum, integer, Relation, rows_of, relation_of, IsOf, IsText, AreRowsOf}
-use Rattle.mk_value.specs.Tables.{AreNumbers, domain_at, number_in}
+use Rattle.mk_value.specs.Data.{Datum, integer, Relation, rows_of, relation_of, IsOf, AreRowsOf}
+use Rattle.mk_value.specs.Tables.{number_in}
 use Rattle.mk_value.proofs.Relations.{rows_of-relation_of, IsOf-relation}
 use Rattle.mk_value.proofs.Converting.{relation_of-rows_of}
 use Rattle.mk_value.proofs.Headings.{attributes_of-heading_of, heading_of-attributes_of}
 use Rattle.int_col.specs.Numbers.{Numbers}
 use Rattle.bytes_col.specs.declared.home.BytesHome.{BytesHome}
 use Rattle.bytes_col.specs.Strings.{Strings}
-use Rattle.tables.specs.Homes.{Home, no_home, tables, row_homes, each_of, column_of, rows_in, empty_home, empty_homes, empty_homes_from, empty_homes_in}
+use Rattle.tables.specs.Homes.{Home, no_home, tables, row_homes, column_of, rows_in, empty_home, empty_homes_from, empty_homes_in}
 use Rattle.tables.specs.Rows.{inserted, removed, home_inserted, home_removed}
 use Rattle.tables.specs.Shapes.{bytes_in}
 use Rattle.tables.specs.Tables.{StoredTable, home_with, table_without_homes}
 use Rattle.tables.specs.Columns.{StoredColumn, integers, texts, views, home_of, home_of_numbers, home_of_strings, column_values, HasBlocks, IsTextValue, IsTableOf, IsColumnOf, IsColumnWith}
+use Rattle.tables.specs.Cells.{HasNumber, HasString, HasView, with_number, with_string, with_view}
 use Rattle.tables.specs.Read.{IsIntegers, IsTexts, AreViews}
-use Rattle.tables.specs.Build.{HasColumn, AreCells, IsTableOfRows}
+use Rattle.tables.specs.Build.{AreCells, IsTableOfRows}
 use Rattle.tables.proofs.Lists.{map-inserted, map-removed, each_of-row_homes}
 use Rattle.tables.proofs.EditedTables.{empty-shape}
-use Rattle.tables.proofs.Gathering.{All-map, map-map, map-same}
+use Rattle.tables.proofs.Gathering.{All-map, map-map, length-column_values}
 use Rattle.tables.proofs.Rebuilding.{All-inserted, All-removed}
 
 abbrev view_of : StoredTable → Datum
@@ -447,3 +448,89 @@ long_fits Domain.long z h = h
 long_fits Domain.text z h = absurd h
 long_fits Domain.bytes z h = absurd h
 long_fits (Domain.relation g) z h = absurd h
+
+-- A value set.
+pub integer_set : (e : Domain) (n i : ℕ) (col : StoredColumn) (z : ℤ) (homes : List Home) → IsColumnOf n e col → IsOf (Datum.integer z) e → IsColumnWith e (set (column_values e col) i (Datum.integer z)) (home_with i homes (home_of col)) (with_number i z col)
+integer_set Domain.integer n i (integers c) z homes h fits =
+    with_integers (record c { values = set c.values i z; home = None }) _ _ (map-set Datum.integer c.values i z) (All-set (λ y. FitsSigned w32 y) c.values i z fits h.fit) (sym (numbers-with i homes c.home))
+integer_set Domain.integer n i (texts c) z homes h fits = absurd h
+integer_set Domain.integer n i (views c) z homes h fits = absurd h
+integer_set Domain.long n i col z homes h fits = absurd fits
+integer_set Domain.text n i col z homes h fits = absurd fits
+integer_set Domain.bytes n i col z homes h fits = absurd fits
+integer_set (Domain.relation g) n i col z homes h fits = absurd fits
+
+pub long_set : (e : Domain) (n i : ℕ) (col : StoredColumn) (z : ℤ) (homes : List Home) → IsColumnOf n e col → IsOf (Datum.long z) e → IsColumnWith e (set (column_values e col) i (Datum.long z)) (home_with i homes (home_of col)) (with_number i z col)
+long_set Domain.long n i (integers c) z homes h fits =
+    with_longs (record c { values = set c.values i z; home = None }) _ _ (map-set Datum.long c.values i z) (All-set (λ y. FitsSigned w64 y) c.values i z fits h.fit) (sym (numbers-with i homes c.home))
+long_set Domain.long n i (texts c) z homes h fits = absurd h
+long_set Domain.long n i (views c) z homes h fits = absurd h
+long_set Domain.integer n i col z homes h fits = absurd fits
+long_set Domain.text n i col z homes h fits = absurd fits
+long_set Domain.bytes n i col z homes h fits = absurd fits
+long_set (Domain.relation g) n i col z homes h fits = absurd fits
+
+pub text_set : (e : Domain) (n i : ℕ) (col : StoredColumn) (v : List ℕ) (homes : List Home) → IsColumnOf n e col → IsOf (Datum.text v) e → IsColumnWith e (set (column_values e col) i (Datum.text v)) (home_with i homes (home_of col)) (with_string i v col)
+text_set Domain.text n i (texts c) v homes h fits =
+    with_texts (record c { values = set c.values i v; home = None }) _ _ (map-set Datum.text c.values i v) (All-set IsTextValue c.values i v (record { is_text = fits.0; short = fits.1 }) h.fit) refl (sym (strings-with i homes c.home))
+text_set Domain.text n i (integers c) v homes h fits = absurd h
+text_set Domain.text n i (views c) v homes h fits = absurd h
+text_set Domain.integer n i col v homes h fits = absurd fits
+text_set Domain.long n i col v homes h fits = absurd fits
+text_set Domain.bytes n i col v homes h fits = absurd fits
+text_set (Domain.relation g) n i col v homes h fits = absurd fits
+
+pub bytes_set : (e : Domain) (n i : ℕ) (col : StoredColumn) (v : List ℕ) (homes : List Home) → IsColumnOf n e col → IsOf (Datum.bytes v) e → IsColumnWith e (set (column_values e col) i (Datum.bytes v)) (home_with i homes (home_of col)) (with_string i v col)
+bytes_set Domain.bytes n i (texts c) v homes h fits =
+    with_bytes (record c { values = set c.values i v; home = None }) _ _ (map-set Datum.bytes c.values i v) (All-set (λ content. length content ≤ max_bytes) c.values i v fits h.fit) refl (sym (strings-with i homes c.home))
+bytes_set Domain.bytes n i (integers c) v homes h fits = absurd h
+bytes_set Domain.bytes n i (views c) v homes h fits = absurd h
+bytes_set Domain.integer n i col v homes h fits = absurd fits
+bytes_set Domain.long n i col v homes h fits = absurd fits
+bytes_set Domain.text n i col v homes h fits = absurd fits
+bytes_set (Domain.relation g) n i col v homes h fits = absurd fits
+
+-- a table set in a row
+pub view_set : (h : Heading) (n i : ℕ) (col : StoredColumn) (t : StoredTable) → IsColumnOf n (Domain.relation h) col → IsTableOf (attributes_of h) t
+    → IsColumnWith (Domain.relation h) (set (column_values (Domain.relation h) col) i (Datum.relation (relation_of t.rows))) (home_with i t.homes (home_of col)) (with_view i t col)
+view_set h n i (views ts) t whole inner =
+    let homes = λ (u : StoredTable). u.homes in
+    with_views h (set ts i t) _ _ (map-set view_of ts i t) (All-set (IsTableOf (attributes_of h)) ts i t inner whole.whole)
+    (ap (λ hs. tables (row_homes hs)) (map-set homes ts i t ∙ ap (λ hs. set hs i t.homes) (sym (each_of-row_homes (map homes ts)))))
+view_set h n i (integers c) t whole inner = absurd whole
+view_set h n i (texts c) t whole inner = absurd whole
+
+-- the table of a view value
+pub made_view_set : (e : Domain) (n i : ℕ) (col : StoredColumn) (rows : List (List Datum)) (t : StoredTable) → IsColumnOf n e col → IsOf (Datum.relation (relation_of rows)) e → IsTableOfRows e rows t
+    → IsColumnWith e (set (column_values e col) i (Datum.relation (relation_of rows))) (home_with i (empty_homes_in e (Datum.relation (relation_of rows))) (home_of col)) (with_view i t col)
+made_view_set Domain.integer n i col rows t whole fits made = absurd fits
+made_view_set Domain.long n i col rows t whole fits made = absurd fits
+made_view_set Domain.text n i col rows t whole fits made = absurd fits
+made_view_set Domain.bytes n i col rows t whole fits made = absurd fits
+made_view_set (Domain.relation h) n i col rows t whole fits made =
+    let d = Datum.relation (relation_of rows) in
+    let done = view_set h n i col t whole (table_of_rows h rows t made (view_rows h rows fits)) in
+    subst (λ x. IsColumnWith (Domain.relation h) (set (column_values (Domain.relation h) col) i x) (home_with i (empty_homes_in (Domain.relation h) d) (home_of col)) (with_view i t col)) (view_of_rows h rows t made)
+    (subst (λ hs. IsColumnWith (Domain.relation h) (set (column_values (Domain.relation h) col) i (Datum.relation (relation_of t.rows))) (home_with i hs (home_of col)) (with_view i t col)) (homes_of_rows h rows t made) done)
+
+-- a place in the values is one in what is kept
+pub has_number : (e : Domain) (n i : ℕ) (col : StoredColumn) → IsIntegers col → IsColumnOf n e col → i < length (column_values e col) → HasNumber col i
+has_number e n i (integers c) k h p = let a = length-column_values n e (integers c) h in let b = numbers_count e n c h in omega arith
+has_number e n i (texts c) k h p = absurd k
+has_number e n i (views c) k h p = absurd k
+
+pub has_string : (e : Domain) (n i : ℕ) (col : StoredColumn) → IsTexts col → IsColumnOf n e col → i < length (column_values e col) → HasString col i
+has_string e n i (texts c) k h p = let a = length-column_values n e (texts c) h in let b = strings_count e n c h in omega arith
+has_string e n i (integers c) k h p = absurd k
+has_string e n i (views c) k h p = absurd k
+
+pub has_view : (e : Domain) (n i : ℕ) (col : StoredColumn) → AreViews col → IsColumnOf n e col → i < length (column_values e col) → HasView col i
+has_view e n i (views ts) k h p = let a = length-column_values n e (views ts) h in let b = views_count e n ts h in omega arith
+has_view e n i (integers c) k h p = absurd k
+has_view e n i (texts c) k h p = absurd k
+
+-- what a view column keeps are tables
+pub column_of_views : (n : ℕ) (h : Heading) (col : StoredColumn) → IsColumnOf n (Domain.relation h) col → AreViews col
+column_of_views n h (views ts) whole = tt
+column_of_views n h (integers c) whole = whole
+column_of_views n h (texts c) whole = whole

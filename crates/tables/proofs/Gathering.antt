@@ -1,7 +1,7 @@
 -- The rows of columns: each is a row of the schema, the value in a cell is that of its column, and the homes have the shape of the table.
-use Rattle.std.proofs.Common.{◌≡◌, ℕ, zero, suc, ◌+◌, ◌<◌, ◌≤◌, List, [], ◌∷◌, length, get_or, map, All, pos, Option, None, Some, refl, ap, sym, subst, ◌∙◌, arith}
+use Rattle.std.proofs.Common.{◌≡◌, ℕ, zero, suc, ◌+◌, ◌<◌, List, [], ◌∷◌, length, get_or, map, All, pos, Option, None, Some, refl, ap, sym, subst, ◌∙◌, arith}
 use Rattle.std.specs.List.{AllZip, range_with_len}
-use Rattle.std.proofs.lemmas.List.{length-map, get_or-map, same_lists}
+use Rattle.std.proofs.lemmas.List.{length-map, same_lists}
 use Rattle.std.proofs.lemmas.List.Elements.{All-nil, All-cons, All-head, All-tail}
 use Rattle.std.proofs.lemmas.List.FromFn.{fill_by_all, length-map-range_with_len, get_or-map-range_with_len}
 use Rattle.mk_value.specs.declared.span.Span.{Span}
@@ -9,13 +9,13 @@ use Rattle.mk_value.proofs.Walks.{same_default}
 use Rattle.mk_value.specs.Heading.{Domain, Heading, Attribute, attributes_of, heading_of}
 use Rattle.mk_value.specs.Data.{Datum, integer, relation_of, cell, IsOf, IsRowOf, AreRowsOf}
 use Rattle.mk_value.specs.Tables.{domain_at}
-use Rattle.mk_value.proofs.Relations.{rows_of-relation_of, IsOf-relation, row_fits_length}
+use Rattle.mk_value.proofs.Relations.{rows_of-relation_of, IsOf-relation}
 use Rattle.mk_value.proofs.Headings.{heading_of-attributes_of}
 use Rattle.bytes_col.specs.declared.home.BytesHome.{BytesHome}
 use Rattle.bytes_col.specs.Strings.{long_values}
-use Rattle.tables.specs.Homes.{Home, row_homes, column_homes, column_of, rows_in}
+use Rattle.tables.specs.Homes.{row_homes, column_homes, column_of}
 use Rattle.tables.specs.Shapes.{bytes_in, IsHomeOf, AreRowHomesOf, AreHomesOf, HasHomes}
-use Rattle.tables.specs.Tables.{StoredTable, IsTable}
+use Rattle.tables.specs.Tables.{StoredTable}
 use Rattle.tables.specs.Columns.{StoredColumn, integers, texts, views, home_of, home_of_numbers, home_of_strings, column_values, row_of_columns, rows_of_columns, table_of_columns, HasBlocks, IsTableOf, IsColumnOf, AreColumnsOf, no_column}
 
 pub All-map : {X Y : Type 0} (f : X → Y) (P : Y → Type 0) (xs : List X) → All (λ x. P (f x)) xs → All P (map f xs)
@@ -161,10 +161,11 @@ row_homes_fit : (h : Heading) (ts : List StoredTable) → All (IsTableOf (attrib
 row_homes_fit h [] whole = tt
 row_homes_fit h (t ∷ ts) whole =
     let first = All-head (IsTableOf (attributes_of h)) t ts whole in
-    let heading : heading_of t.schema ≡ h = ap heading_of first.same_schema ∙ heading_of-attributes_of h in
-    (subst (λ rows. AreHomesOf (column_homes t.homes) h 0 rows) (sym (rows_of-relation_of t.rows))
-    (subst (λ g. AreHomesOf (column_homes t.homes) g 0 t.rows) heading first.homes),
-    row_homes_fit h ts (All-tail (IsTableOf (attributes_of h)) t ts whole))
+    let heading : heading_of t.schema ≡ h = ap heading_of first.same_schema ∙ heading_of-attributes_of h in (
+      subst (λ rows. AreHomesOf (column_homes t.homes) h 0 rows) (sym (rows_of-relation_of t.rows))
+          (subst (λ g. AreHomesOf (column_homes t.homes) g 0 t.rows) heading first.homes),
+      row_homes_fit h ts (All-tail (IsTableOf (attributes_of h)) t ts whole),
+    )
 
 number_home_fits : (c : Option Span) (values : List Datum) → IsHomeOf (home_of_numbers c) Domain.integer values × IsHomeOf (home_of_numbers c) Domain.long values
 number_home_fits None values = (tt, tt)
@@ -195,10 +196,11 @@ homes_fit_from n k [] [] rows h values = tt
 homes_fit_from n k [] (c ∷ cols) rows h values = absurd h
 homes_fit_from n k (a ∷ schema) [] rows h values = absurd h
 homes_fit_from n k (a ∷ schema) (c ∷ cols) rows h values =
-    let first : column_of rows k ≡ column_values a.domain c = ap (λ j. column_of rows j) (let e : k ≡ k + 0 = omega arith in e) ∙ values 0 (omega arith) in
-    (subst (λ vs. IsHomeOf (home_of c) a.domain vs) (sym first) (home_fits n a.domain c h.0),
-    homes_fit_from n (k + 1) schema cols rows h.1
-    (λ m p. ap (λ j. column_of rows j) (let e : (k + 1) + m ≡ k + suc m = omega arith in e) ∙ values (suc m) (omega arith)))
+    let first : column_of rows k ≡ column_values a.domain c = ap (λ j. column_of rows j) (let e : k ≡ k + 0 = omega arith in e) ∙ values 0 (omega arith) in (
+      subst (λ vs. IsHomeOf (home_of c) a.domain vs) (sym first) (home_fits n a.domain c h.0),
+      homes_fit_from n (k + 1) schema cols rows h.1
+          (λ m p. ap (λ j. column_of rows j) (let e : (k + 1) + m ≡ k + suc m = omega arith in e) ∙ values (suc m) (omega arith)),
+    )
 
 -- the homes of columns have the shape of the table
 pub HasHomes-columns : (n : ℕ) (schema : List Attribute) (cols : List StoredColumn) → AreColumnsOf n schema cols → HasHomes (table_of_columns n schema cols)

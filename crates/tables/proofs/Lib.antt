@@ -12,4 +12,5 @@ pub mod Reading
 pub mod Rebuilding
 pub mod Resting
 pub mod RowHomes
+pub mod Setting
 pub mod Values

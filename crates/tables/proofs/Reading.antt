@@ -1,10 +1,10 @@
 -- A column that is read out of a table: its values are those of the column of the rows.
-use Rattle.std.proofs.Common.{◌≡◌, ℕ, zero, suc, ◌+◌, ◌<◌, ◌≤◌, ℤ, FitsSigned, w32, w64, List, [], ◌∷◌, ◌++◌, length, get_or, map, take, drop, pos, Some, refl, ap, sym, subst, ◌∙◌, arith}
-use Rattle.std.specs.List.{slice_get, AllZip}
+use Rattle.std.proofs.Common.{◌≡◌, ℕ, ◌+◌, ◌<◌, ◌≤◌, ℤ, FitsSigned, w32, w64, List, [], ◌∷◌, ◌++◌, length, get_or, map, take, pos, Some, refl, ap, sym, subst, ◌∙◌, arith}
+use Rattle.std.specs.List.{slice_get}
 use Rattle.std.proofs.lemmas.List.{length-map, get_or-map, take_more, take_all}
 use Rattle.std.proofs.lemmas.Option.{get_or_from_slice_get, slice_get_within}
 use Rattle.mk_value.specs.Heading.{Domain, Heading, no_attributes, attribute, Attribute, attributes_of, attributes_weight, domain_weight, heading_weight}
-use Rattle.mk_value.specs.Data.{Datum, integer, relation_of, rows_of, cell}
+use Rattle.mk_value.specs.Data.{Datum, integer, relation_of}
 use Rattle.mk_value.specs.Lending.{Lends}
 use Rattle.mk_value.specs.declared.table.Lent.TheVariants.{V}
 use Rattle.mk_value.specs.Tables.{domain_at, AreNumbers, number_in, column_numbers}
@@ -13,7 +13,7 @@ use Rattle.mk_value.proofs.Walks.{same_default, map_read}
 use Rattle.int_col.specs.Numbers.{Numbers}
 use Rattle.tables.specs.Homes.{no_home, column_of}
 use Rattle.tables.specs.Tables.{StoredTable, IsTable}
-use Rattle.tables.specs.Columns.{StoredColumn, integers, texts, views, home_of, column_values, rows_of_columns, table_of_columns, IsTableOf, IsColumnOf, AreColumnsOf}
+use Rattle.tables.specs.Columns.{StoredColumn, integers, views, home_of, column_values, rows_of_columns, table_of_columns, IsTableOf, IsColumnOf, AreColumnsOf}
 use Rattle.tables.specs.Stored.{stored_of}
 use Rattle.tables.specs.declared.cols.Col.{Col}
 use Rattle.tables.proofs.Gathering.{map-map, length-rows_of_columns, length-columns, length-column_values, column_at, column_of-columns}

@@ -1,23 +1,22 @@
 -- A table is known by its columns, and what an edit makes of a table is known by what it makes of each column.
-use Rattle.std.proofs.Common.{◌≡◌, ◌≢◌, ℕ, zero, suc, ◌+◌, ◌-◌, ◌<◌, ◌≤◌, ◌⊎◌, ⊎_elim, inl, inr, List, [], ◌∷◌, ◌++◌, length, get_or, set, take, drop, replicate, map, All, pos, refl, ap, sym, subst, ◌∙◌, arith, add-zero, length-append, length-drop}
-use Rattle.std.specs.List.{AllZip}
-use Rattle.std.proofs.lemmas.List.{length-map, length-set, length-replicate, length-take-le, get_or-map, get_or-set_same, get_or-set_other, map-set, get_or_append_left, get_or-append_right, same_lists}
+use Rattle.std.proofs.Common.{◌≡◌, ℕ, zero, suc, ◌+◌, ◌-◌, ◌<◌, ◌≤◌, ◌⊎◌, ⊎_elim, List, [], ◌∷◌, ◌++◌, length, get_or, take, drop, replicate, map, All, pos, refl, ap, sym, subst, ◌∙◌, arith, length-append, length-drop}
+use Rattle.std.proofs.lemmas.List.{length-map, length-replicate, length-take-le, get_or-map, get_or_append_left, get_or-append_right, same_lists}
 use Rattle.std.proofs.lemmas.Bool.{cases_lt}
-use Rattle.std.proofs.lemmas.List.Elements.{All-append, All-take, All-drop, All-replicate, All-cons, All-nil}
+use Rattle.std.proofs.lemmas.List.Elements.{All-append, All-take, All-drop, All-replicate}
 use Rattle.mk_value.specs.Limits.{max_rows}
-use Rattle.mk_value.specs.Heading.{Domain, Heading, Attribute, heading_of}
-use Rattle.mk_value.specs.Data.{Datum, integer, IsRowOf, AreRowsOf, cell}
+use Rattle.mk_value.specs.Heading.{Domain, Attribute, heading_of}
+use Rattle.mk_value.specs.Data.{Datum, integer, IsRowOf, AreRowsOf}
 use Rattle.mk_value.specs.Tables.{domain_at}
 use Rattle.mk_value.proofs.Relations.{row_fits_length}
 use Rattle.mk_value.proofs.Walks.{same_default}
-use Rattle.tables.specs.Homes.{Home, no_home, ColumnHomes, no_columns, column, column_homes, column_of, empty_home, empty_homes}
+use Rattle.tables.specs.Homes.{Home, no_home, column_homes, column_of, empty_home, empty_homes}
 use Rattle.tables.specs.Rows.{inserted, removed, home_inserted, homes_inserted, home_removed, with_rows_inserted, with_rows_removed}
 use Rattle.tables.specs.Shapes.{AreHomesOf, HasHomes}
-use Rattle.tables.specs.Tables.{StoredTable, IsTable, home_with, with_value, table_without_homes}
-use Rattle.tables.specs.Columns.{StoredColumn, no_column, home_of, column_values, rows_of_columns, table_of_columns, IsColumnOf, AreColumnsOf, IsColumnWith, AreColumnsIn}
+use Rattle.tables.specs.Tables.{StoredTable, IsTable, table_without_homes}
+use Rattle.tables.specs.Columns.{StoredColumn, no_column, home_of, rows_of_columns, table_of_columns, IsColumnOf, AreColumnsOf, IsColumnWith, AreColumnsIn}
 use Rattle.tables.proofs.Lists.{map-inserted, map-removed}
 use Rattle.tables.proofs.Homeless.{length-empty_homes_from, get_or-empty}
-use Rattle.tables.proofs.Gathering.{length-rows_of_columns, row-rows_of_columns, AreRowsOf-columns, length-columns, column_at, columns_from, column_of-columns, same_rows}
+use Rattle.tables.proofs.Gathering.{length-rows_of_columns, AreRowsOf-columns, columns_from, column_of-columns, same_rows}
 
 -- the rows of a table are as wide as its schema
 abbrev AreWide : StoredTable → Type 0
@@ -40,7 +39,7 @@ columns_are t cols few h = record {
       subst (λ n. IsColumnOf n (domain_at t.schema k) (get_or cols k no_column)) long (h.each k p).whole);
 }
 
-rows_wide : (n : ℕ) (schema : List Attribute) (cols : List StoredColumn) → AreColumnsOf n schema cols → All (λ row. length row ≡ length schema) (rows_of_columns n schema cols)
+pub rows_wide : (n : ℕ) (schema : List Attribute) (cols : List StoredColumn) → AreColumnsOf n schema cols → All (λ row. length row ≡ length schema) (rows_of_columns n schema cols)
 rows_wide n schema cols h = λ i d p. row_fits_length (get_or (rows_of_columns n schema cols) i d) schema ((AreRowsOf-columns n schema cols h).whole i d p)
 
 -- the columns of a table are the table
@@ -220,7 +219,7 @@ pub record AreRebuilt (n : ℕ) (schema : List Attribute) (cols : List StoredCol
   pub whole : AreColumnsOf n schema cols
   pub table : table_of_columns n schema cols ≡ t
 
-rebuilt_as : (t : StoredTable) (n : ℕ) (schema : List Attribute) (cols : List StoredColumn) → IsRebuilt t → AreColumnsIn t cols → length t.rows ≡ n → t.schema ≡ schema → AreRebuilt n schema cols t
+pub rebuilt_as : (t : StoredTable) (n : ℕ) (schema : List Attribute) (cols : List StoredColumn) → IsRebuilt t → AreColumnsIn t cols → length t.rows ≡ n → t.schema ≡ schema → AreRebuilt n schema cols t
 rebuilt_as t n schema cols known h e f = record {
   whole = subst (λ m. AreColumnsOf m schema cols) e (subst (λ s. AreColumnsOf (length t.rows) s cols) f (columns_rebuilt t cols known h));
   table = ap (λ m. table_of_columns m schema cols) (sym e) ∙ ap (λ s. table_of_columns (length t.rows) s cols) (sym f) ∙ table_rebuilt t cols known h;

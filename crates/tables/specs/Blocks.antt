@@ -1,12 +1,11 @@
 -- The plain columns of a table in the order in which a directory names them, and the blocks of each as bytes.
 use Rattle.std.specs.Prelude.{ℕ, ◌+◌, Bool, true, false, List, [], ◌∷◌, ◌++◌, map, drop, slice_index_or, pos}
-use Rattle.std.specs.List.{flat_map}
-use Rattle.mk_value.specs.Heading.{Domain, Heading, no_attributes, attribute, Attribute, heading_of}
+use Rattle.mk_value.specs.Heading.{Domain, Heading, attribute, heading_of}
 use Rattle.mk_value.specs.Data.{Datum, integer}
 use Rattle.mk_value.specs.Tables.{number_in}
 use Rattle.bit_pack.specs.Packed.{packed}
 use Rattle.bytes_col.specs.Strings.{string_blocks}
-use Rattle.tables.specs.Homes.{Home, no_home, numbers, strings, tables, PlainColumn, ColumnHomes, no_columns, column, RowHomes, no_rows, row, column_homes, column_of, rows_in}
+use Rattle.tables.specs.Homes.{Home, no_home, tables, PlainColumn, ColumnHomes, column, RowHomes, no_rows, row, column_homes, column_of, rows_in}
 use Rattle.tables.specs.Shapes.{bytes_in}
 use Rattle.tables.specs.Tables.{StoredTable}
 

@@ -6,7 +6,7 @@ use Rattle.std.specs.List.{AllZip, range_with_len}
 use Rattle.std.specs.Coded.{Coded, code_by, coded_ℕ, coded_ℤ, coded_list, coded_option, coded×, coded⊎}
 use Rattle.mk_value.specs.declared.span.Span.{Span}
 use Rattle.mk_value.specs.Limits.{max_bytes, max_rows}
-use Rattle.mk_value.specs.Heading.{Domain, Heading, Attribute, attributes_of}
+use Rattle.mk_value.specs.Heading.{Domain, Attribute, attributes_of}
 use Rattle.mk_value.specs.Data.{Datum, integer, relation_of, IsText, AreRowsOf}
 use Rattle.mk_value.specs.Tables.{domain_at}
 use Rattle.int_col.specs.Numbers.{Numbers}

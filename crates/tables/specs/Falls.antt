@@ -7,7 +7,7 @@ use denote.Param.Weighed.{most}
 use Rattle.mk_value.specs.Heading.{Domain, Heading, no_attributes, attribute, Attribute, attributes_of, domain_weight, heading_weight, attributes_weight}
 use Rattle.tables.specs.Tables.{StoredTable}
 use Rattle.tables.specs.Columns.{StoredColumn, integers, texts, views, IsTableOf, IsColumnOf, AreColumnsOf}
-use Rattle.tables.specs.Sizes.{table_size, shared_size, list_size, tables_size, column_size, columns_size}
+use Rattle.tables.specs.Sizes.{shared_size, list_size, tables_size, column_size, columns_size}
 use Rattle.tables.specs.Stored.{stored_of}
 use Rattle.tables.specs.Lists.{tables_of}
 use Rattle.tables.specs.declared.cols.Col.{Col}

@@ -1,5 +1,6 @@
 pub mod Blocks
 pub mod Build
+pub mod Cells
 pub mod Columns
 pub mod Falls
 pub mod HomeCode

@@ -26,3 +26,8 @@ values_read c = column_values (domain_of c.kind.now) (stored_of c.col.now)
 
 abbrev pub IsWhole : Column → Type 0
 IsWhole c = IsColumnOf (length (values_read c)) (domain_of c.kind.now) (stored_of c.col.now)
+
+-- the values of the domain are views
+abbrev pub IsViewDomain : Domain → Type 0
+IsViewDomain (Domain.relation h) = Unit {0}
+IsViewDomain _ = ⊥

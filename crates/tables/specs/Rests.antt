@@ -1,5 +1,5 @@
 -- When a table rests on another: each home in it is one that the same column had there.
-use Rattle.std.specs.Prelude.{◌≡◌, ℕ, ◌+◌, List, [], ◌∷◌, ◌++◌, drop, slice_index_or, All, Contains, pos, Option, None, Some, ◌⊎◌}
+use Rattle.std.specs.Prelude.{ℕ, ◌+◌, List, [], ◌∷◌, ◌++◌, drop, slice_index_or, All, Contains, pos}
 use Rattle.std.specs.List.{flat_map}
 use Rattle.mk_value.specs.declared.span.Span.{Span}
 use Rattle.mk_value.specs.Heading.{Domain, Attribute}

@@ -1,7 +1,7 @@
 -- The homes of a table have its shape: one for each column, of its kind, with a span for each block.
-use Rattle.std.specs.Prelude.{◌≡◌, ℕ, ◌+◌, List, [], ◌∷◌, length, map, drop, slice_index_or, pos}
+use Rattle.std.specs.Prelude.{◌≡◌, ℕ, ◌+◌, List, [], ◌∷◌, length, map}
 use Rattle.mk_value.specs.Heading.{Domain, Heading, no_attributes, attribute, heading_of}
-use Rattle.mk_value.specs.Data.{Datum, integer, text, bytes}
+use Rattle.mk_value.specs.Data.{Datum, text, bytes}
 use Rattle.bytes_col.specs.Strings.{long_values}
 use Rattle.tables.specs.Homes.{Home, no_home, numbers, strings, tables, ColumnHomes, no_columns, column, RowHomes, no_rows, row, column_homes, column_of, rows_in}
 use Rattle.tables.specs.Tables.{StoredTable}

@@ -1,6 +1,4 @@
 -- What a column of the program means.
-use Rattle.std.specs.Prelude.{List, []}
-use Rattle.tables.specs.Tables.{StoredTable}
 use Rattle.tables.specs.Columns.{StoredColumn, integers, texts, views}
 use Rattle.tables.specs.declared.cols.Col.{Col}
 use Rattle.tables.specs.declared.cols.Col.TheVariants.{Ints, Blobs, Views}

@@ -101,12 +101,7 @@ fn col_of_rows(alloc: Global, kind: &Kind, rows: &Rows, at: usize) -> Result<Col
 
 /// The tables of the rows in a view column.
 #[cycle(build)]
-fn views_of_rows(
-    alloc: Global,
-    schema: &Schema,
-    rows: &Rows,
-    at: usize,
-) -> Result<Tables, Memory>
+fn views_of_rows(alloc: Global, schema: &Schema, rows: &Rows, at: usize) -> Result<Tables, Memory>
     requires { AreCells rows.now at (domain_of (Kind.V schema.now)) }
     ensures { IfOk result (λ tables. tables ≡ map (λ d. table_without_homes schema.now (rows_in d)) (column_of rows.now at)) }
 {

@@ -1,11 +1,18 @@
 //! The columns of a table.
-ghost use Rattle.std.specs.Prelude.{◌≡◌, ◌<◌, [], ◌∷◌, ◌++◌, length, map, slice_get, IfOk, OnOk, OnErr};
+ghost use Rattle.std.specs.Prelude.{◌≡◌, ◌<◌, [], ◌∷◌, ◌++◌, length, map, slice_index_or, slice_set, IfOk, OnOk, OnErr};
+ghost use Rattle.mk_value.specs.Data.{IsOf};
+ghost use Rattle.mk_value.specs.Kinds.{domain_of};
+ghost use Rattle.mk_value.specs.Values.{datum_of};
+ghost use Rattle.tables.specs.Cells.{IsWholeColumn, IsSet, IsSetIn, HasNumber, HasString, HasView, with_number, with_string, with_view};
+ghost use Rattle.tables.specs.Columns.{column_values, no_column};
+ghost use Rattle.tables.specs.Homes.{empty_homes_in};
 ghost use Rattle.tables.specs.Stored.{stored_of};
 
-use crate::Tables;
+use crate::build::inner_of_rows;
+use crate::{Shared, Tables};
 use bytes_col::BytesCol;
 use int_col::IntCol;
-use mk_value::Memory;
+use mk_value::{Kind, Memory, Value};
 use std::alloc::Global;
 use std::marker::Model;
 
@@ -85,8 +92,41 @@ impl Cols {
         *self.items.allocator()
     }
 
+    /// Gives the value at a row of a column another. No copy of the column is changed.
+    pub(crate) fn set_value(
+        &mut self,
+        alloc: Global,
+        kind: &Kind,
+        col: usize,
+        row: usize,
+        value: &Value,
+    ) -> Result<(), Memory>
+        requires col { col < length self.old }
+        requires whole { IsWholeColumn (domain_of kind.now) (slice_index_or self.old col no_column) }
+        requires row { row < length (column_values (domain_of kind.now) (slice_index_or self.old col no_column)) }
+        requires fits { IsOf (datum_of value.now) (domain_of kind.now) }
+        ensures ok { OnOk result (IsSetIn self.old col (domain_of kind.now) row (datum_of value.now) (empty_homes_in (domain_of kind.now) (datum_of value.now)) self.new) }
+        ensures err { OnErr result (self.new ≡ self.old) }
+    {
+        set_value(&mut self.items[col], alloc, kind, row, value)
+    }
+
+    /// Puts a table in place of the one at a row of a column of tables. No copy of the column is changed.
+    pub(crate) fn set_view(&mut self, col: usize, row: usize, table: Shared) -> Result<(), Memory>
+        requires col { col < length self.old }
+        requires row { HasView (slice_index_or self.old col no_column) row }
+        ensures ok { OnOk result (self.new ≡ slice_set self.old col (with_view row table (slice_index_or self.old col no_column))) }
+        ensures err { OnErr result (self.new ≡ self.old) }
+    {
+        set_view(&mut self.items[col], row, table)
+    }
+
     /// The same columns, which share all that is kept in them.
-    pub(crate) fn same(&self) -> Result<Cols, Memory>
+    ///
+    /// # Errors
+    ///
+    /// `Memory`.
+    pub fn same(&self) -> Result<Cols, Memory>
         ensures { IfOk result (λ cols. cols ≡ self.now) }
     {
         let mut cols = Cols::new(self.allocator());
@@ -105,5 +145,67 @@ fn same(col: &Col) -> Result<Col, Memory>
         Col::Ints(column) => Ok(Col::Ints(column.same()?)),
         Col::Blobs(column) => Ok(Col::Blobs(column.same()?)),
         Col::Views(tables) => Ok(Col::Views(tables.same()?)),
+    }
+}
+
+/// Sets a number in a column of numbers.
+fn set_number(col: &mut Col, row: usize, number: i64) -> Result<(), Memory>
+    requires { HasNumber (stored_of col.old) row }
+    ensures ok { OnOk result (stored_of col.new ≡ with_number row number (stored_of col.old)) }
+    ensures err { OnErr result (stored_of col.new ≡ stored_of col.old) }
+{
+    let Col::Ints(column) = col else {
+        unreachable!()
+    };
+    column.set(row, number)
+}
+
+/// Sets a text or a byte string in a column of them.
+fn set_blob(col: &mut Col, row: usize, value: &[u8]) -> Result<(), Memory>
+    requires { HasString (stored_of col.old) row }
+    ensures ok { OnOk result (stored_of col.new ≡ with_string row value.now (stored_of col.old)) }
+    ensures err { OnErr result (stored_of col.new ≡ stored_of col.old) }
+{
+    let Col::Blobs(column) = col else {
+        unreachable!()
+    };
+    column.set(row, value)
+}
+
+/// Sets a table in a column of tables.
+fn set_view(col: &mut Col, row: usize, table: Shared) -> Result<(), Memory>
+    requires { HasView (stored_of col.old) row }
+    ensures ok { OnOk result (stored_of col.new ≡ with_view row table (stored_of col.old)) }
+    ensures err { OnErr result (stored_of col.new ≡ stored_of col.old) }
+{
+    let Col::Views(tables) = col else {
+        unreachable!()
+    };
+    tables.set(row, table)
+}
+
+/// Gives the value at a row of a column another.
+fn set_value(
+    col: &mut Col,
+    alloc: Global,
+    kind: &Kind,
+    row: usize,
+    value: &Value,
+) -> Result<(), Memory>
+    requires whole { IsWholeColumn (domain_of kind.now) (stored_of col.old) }
+    requires row { row < length (column_values (domain_of kind.now) (stored_of col.old)) }
+    requires fits { IsOf (datum_of value.now) (domain_of kind.now) }
+    ensures ok { OnOk result (IsSet (stored_of col.old) (domain_of kind.now) row (datum_of value.now) (empty_homes_in (domain_of kind.now) (datum_of value.now)) (stored_of col.new)) }
+    ensures err { OnErr result (stored_of col.new ≡ stored_of col.old) }
+{
+    match value {
+        Value::I(number) => set_number(col, row, i64::from(*number)),
+        Value::L(number) => set_number(col, row, *number),
+        Value::S(text) => set_blob(col, row, text.as_str().as_bytes()),
+        Value::B(bytes) => set_blob(col, row, bytes.as_slice()),
+        Value::V(rows) => {
+            let table = inner_of_rows(alloc, kind, rows)?;
+            set_view(col, row, table)
+        }
     }
 }

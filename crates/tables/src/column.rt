@@ -161,12 +161,7 @@ impl Column<'_> {
 }
 
 /// The numbers with so many more put in at a place. No copy of them is changed.
-fn numbers_inserted(
-    ints: &IntCol,
-    at: usize,
-    number: i64,
-    count: usize,
-) -> Result<IntCol, Memory>
+fn numbers_inserted(ints: &IntCol, at: usize, number: i64, count: usize) -> Result<IntCol, Memory>
     requires at { at ≤ length ints.now.values }
     requires some { 0 < count }
     requires few { length ints.now.values + count ≤ 16777216 }

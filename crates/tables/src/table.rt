@@ -1,18 +1,20 @@
 //! A table.
 ghost use Rattle.std.specs.Prelude.{◌≡◌, ◌+◌, ◌<◌, ◌≤◌, [], length, slice_index_or, IfOk, OnOk, OnErr};
-ghost use Rattle.mk_value.specs.Data.{IsRowOf};
+ghost use Rattle.mk_value.specs.Data.{IsOf, IsRowOf};
+ghost use Rattle.mk_value.specs.Heading.{Domain, heading_of};
 ghost use Rattle.mk_value.specs.Kinds.{domain_of};
 ghost use Rattle.mk_value.specs.Tables.{domain_at};
+ghost use Rattle.mk_value.specs.Values.{datum_of};
 ghost use Rattle.tables.specs.Columns.{AreColumnsIn, AreColumnsOf, home_of, table_of_columns};
-ghost use Rattle.tables.specs.Homes.{column_of, no_home};
-ghost use Rattle.tables.specs.Read.{IsWhole, values_read};
+ghost use Rattle.tables.specs.Homes.{column_of, empty_homes_in, no_home};
+ghost use Rattle.tables.specs.Read.{IsViewDomain, IsWhole, values_read};
 ghost use Rattle.tables.specs.Rows.{with_rows_inserted, with_rows_removed};
 ghost use Rattle.tables.specs.Shapes.{HasHomes};
 ghost use Rattle.tables.specs.Stored.{stored_of};
-ghost use Rattle.tables.specs.Tables.{IsTable};
+ghost use Rattle.tables.specs.Tables.{IsTable, inner_table, with_inner, with_value};
 
-use crate::Cols;
 use crate::column::Column;
+use crate::{Cols, Shared};
 use mk_value::{Lent, Memory, Row, Rows, Schema, TableRead, Value};
 use std::alloc::Global;
 use std::cmp::Ordering;
@@ -167,6 +169,53 @@ impl Table {
         let cols = self.cols_removed(at, count)?;
         self.set_cols(rows, cols);
         Ok(())
+    }
+
+    /// Gives the value at a row and a column another. A plain column has no home then; the table of a view value has none.
+    ///
+    /// # Errors
+    ///
+    /// `Memory`, and the table is as it was.
+    pub fn set_cell(&mut self, row: usize, col: usize, value: &Value) -> Result<(), Memory>
+        requires row_in { row < length self.old.rows }
+        requires col_in { col < length self.old.schema }
+        requires fits { IsOf (datum_of value.now) (domain_at self.old.schema col) }
+        ensures ok { OnOk result (self.new ≡ with_value self.old row col (datum_of value.now) (empty_homes_in (domain_at self.old.schema col) (datum_of value.now))) }
+        ensures err { OnErr result (self.new ≡ self.old) }
+    {
+        let alloc = self.cols.allocator();
+        let prop = &self.schema.get().as_slice()[col];
+        self.cols.set_value(alloc, &prop.kind, col, row, value)
+    }
+
+    /// The table in a cell of a view column.
+    pub fn inner(&self, row: usize, col: usize) -> &Shared
+        requires row_in { row < length self.now.rows }
+        requires col_in { col < length self.now.schema }
+        requires view { IsViewDomain (domain_at self.now.schema col) }
+        ensures value { result.now ≡ inner_table self.now row col }
+        ensures whole { IsTable result.now }
+        ensures homes { HasHomes result.now }
+    {
+        let table = self.column(col).views().get(row);
+        let _rows = table.table().len();
+        table
+    }
+
+    /// Puts a table, with its homes, in place of the one in a cell of a view column.
+    ///
+    /// # Errors
+    ///
+    /// `Memory`, and the table is as it was.
+    pub fn set_inner(&mut self, row: usize, col: usize, table: Shared) -> Result<(), Memory>
+        requires row_in { row < length self.old.rows }
+        requires col_in { col < length self.old.schema }
+        requires view { domain_at self.old.schema col ≡ Domain.relation (heading_of table.schema) }
+        ensures ok { OnOk result (self.new ≡ with_inner self.old row col table) }
+        ensures err { OnErr result (self.new ≡ self.old) }
+    {
+        let _rows = table.table().len();
+        self.cols.set_view(col, row, table)
     }
 
     /// Copies of the columns with rows put in.

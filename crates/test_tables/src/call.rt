@@ -1,5 +1,5 @@
 //! Edits of a root, and looks at it, as data.
-use crate::tables::{Source, first_row, name, put, read_rows, shown};
+use crate::sources::{Source, first_row, name, put, read_rows, shown};
 use mk_value::{MAX_ROWS, Name, Path, TableRead, Text, Value, print_value};
 use std::alloc::Global;
 use std::test::Fail;

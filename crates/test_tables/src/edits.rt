@@ -1,6 +1,6 @@
 //! Views by name, edits of them, and looks at them.
 use crate::call::{Edit, Look};
-use crate::tables::{BOOK, NO_PEOPLE, PEOPLE, Source, path, root, shown_root};
+use crate::sources::{BOOK, NO_PEOPLE, PEOPLE, Source, path, root, shown_root};
 use mk_value::MAX_ROWS;
 use std::alloc::Global;
 use std::process::Abort;

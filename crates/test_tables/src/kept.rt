@@ -1,6 +1,6 @@
 //! What a table of cases cannot say: many rows, and what was taken from a root before an edit.
 use crate::call::Edit;
-use crate::tables::{BOOK, NO_PEOPLE, path, root};
+use crate::sources::{BOOK, NO_PEOPLE, path, root};
 use mk_value::{Same, TableRead};
 use std::alloc::Global;
 use std::test::Fail;

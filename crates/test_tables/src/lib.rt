@@ -7,10 +7,12 @@
 #[cfg(test)]
 mod call;
 #[cfg(test)]
+mod columns;
+#[cfg(test)]
 mod edits;
 #[cfg(test)]
 mod kept;
 #[cfg(test)]
 mod restructuring;
 #[cfg(test)]
-mod tables;
+mod sources;

@@ -1,5 +1,5 @@
 //! Tables under another schema.
-use crate::tables::{Source, shown_rows, table};
+use crate::sources::{Source, shown_rows, table};
 use mk_value::{TableRead, Text};
 use restructure::restructure;
 use std::alloc::Global;

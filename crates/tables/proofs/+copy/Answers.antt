@@ -1,4 +1,4 @@
-use Rattle.std.proofs.Common.{◌≡◌, ◌∙◌, ◌+◌, ◌≤◌, ◌<◌, FitsSigned, to_z, of_z, w32, w64, ap, sym, [], arith, length}
+use Rattle.std.proofs.Common.{◌≡◌, ◌∙◌, to_z, of_z, w32, w64, ap, sym, [], arith, length}
 use Rattle.std.proofs.lemmas.Int.{to_z-of_z}
 use Rattle.mk_value.specs.Data.{integer, long, relation, relation_of}
 use Rattle.mk_value.specs.Heading.{Domain, heading_of, attributes_weight, domain_weight}

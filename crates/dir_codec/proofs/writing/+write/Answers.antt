@@ -1,7 +1,8 @@
 use Rattle.std.proofs.Common.{ap, arith}
 use Rattle.dir_codec.specs.DirCode.{columns_weight, entry_weight, tables_weight}
 use Rattle.dir_codec.specs.Values.{entry_of}
-use Rattle.dir_codec.proofs.Written.{bodies_weight-from, body_weight, column_weight}
+use Rattle.dir_codec.specs.DirFalls.{bodies_weight-from}
+use Rattle.dir_codec.proofs.Written.{body_weight, column_weight}
 use Rattle.dir_codec.proofs.writing.+write.Goals as goal
 
 pub write_bodies-write_body-requires : goal.write_bodies-write_body-requires

@@ -1,17 +1,15 @@
-use Rattle.std.proofs.Common.{◌≡◌, ◌∙◌, ◌<◌, ◌∷◌, [], List, length, get_or, pos, ap, sym, subst, arith, rules}
-use Rattle.std.specs.Prelude.{IfOk}
+use Rattle.std.proofs.Common.{◌∙◌, ◌<◌, [], length, pos, ap, sym, subst, arith}
 use Rattle.mk_value.specs.Heading.{Domain, Attribute, attributes_weight, domain_weight, heading_of}
-use Rattle.mk_value.specs.Data.{Datum, integer, IsOf, AreRowsOf}
+use Rattle.mk_value.specs.Data.{integer, IsOf, AreRowsOf}
 use Rattle.mk_value.specs.Kinds.{domain_of}
-use Rattle.mk_value.specs.Tables.{domain_at}
 use Rattle.mk_value.specs.Values.{datum_of}
-use Rattle.mk_value.proofs.Headings.{attributes_weight-at, heading_weight-heading_of, attributes_of-heading_of}
+use Rattle.mk_value.proofs.Headings.{attributes_weight-at, heading_weight-heading_of}
 use Rattle.mk_value.proofs.Relations.{rows_of-relation_of, IsOf-relation}
 use Rattle.tables.specs.Build.{HasColumn, AreCells}
 use Rattle.tables.specs.Columns.{IsColumnWith, AreColumnsOf, table_of_columns}
 use Rattle.tables.specs.Homes.{column_of, rows_in, empty_home}
 use Rattle.tables.specs.Stored.{stored_of}
-use Rattle.tables.specs.Tables.{StoredTable, table_without_homes}
+use Rattle.tables.specs.Tables.{table_without_homes}
 use Rattle.tables.proofs.Cells.{place_in_row, value_read, column_more, column_read, cells_of_rows, IfOk-then}
 use Rattle.tables.proofs.ColumnWith.{cells_fit, integers_made, longs_made, texts_made, bytes_made, views_made}
 use Rattle.tables.proofs.Reading.{domain_read, length-column_of}

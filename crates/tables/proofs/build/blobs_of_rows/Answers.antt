@@ -1,4 +1,4 @@
-use Rattle.std.proofs.Common.{◌∙◌, ◌∷◌, [], ap, sym, map}
+use Rattle.std.proofs.Common.{◌∙◌, ◌∷◌, [], ap, map}
 use Rattle.std.proofs.lemmas.List.{map-append}
 use Rattle.mk_value.specs.Buffer.{Buffer}
 use Rattle.mk_value.specs.Values.{datum_of}

@@ -1,4 +1,4 @@
-use Rattle.std.proofs.Common.{◌≡◌, ◌∙◌, ap, sym, subst}
+use Rattle.std.proofs.Common.{◌∙◌, ap, sym, subst}
 use Rattle.mk_value.specs.Data.{AreRowsOf}
 use Rattle.mk_value.proofs.Headings.{attributes_of-heading_of}
 use Rattle.mk_value.proofs.Relations.{IsOf-relation}

@@ -1,4 +1,4 @@
-use Rattle.std.proofs.Common.{◌∙◌, to_z, of_z, w64, ap, sym}
+use Rattle.std.proofs.Common.{◌∙◌, to_z, of_z, w64}
 use Rattle.std.proofs.lemmas.Int.{to_z-of_z}
 use Rattle.mk_value.specs.Tables.{number_in}
 use Rattle.mk_value.specs.Values.{datum_of}

@@ -1,7 +1,6 @@
 use Rattle.std.proofs.Common.{refl, [], ◌∷◌, length, arith}
 use Rattle.std.proofs.lemmas.List.Elements.{All-cons, All-nil}
 use Rattle.std.proofs.lemmas.List.Kept.{AllPairs-cons}
-use Rattle.mk_value.specs.declared.span.Span.{Span}
 use Rattle.free_space.specs.Extents.{Meets}
 use Rattle.free_space.proofs.ExtentLemmas.{extent_len-lt}
 use Rattle.commit_writes.specs.Blocks.{Block, IsWritable}

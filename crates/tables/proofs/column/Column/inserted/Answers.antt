@@ -1,6 +1,5 @@
-use Rattle.std.proofs.Common.{◌≡◌, ◌∙◌, to_z, of_z, w32, w64, ap, sym}
+use Rattle.std.proofs.Common.{◌≡◌, ◌∙◌, to_z, of_z, w32, w64, ap}
 use Rattle.std.proofs.lemmas.Int.{to_z-of_z}
-use Rattle.mk_value.specs.Data.{Datum, IsOf, relation_of}
 use Rattle.mk_value.specs.Kinds.{domain_of}
 use Rattle.tables.specs.Rows.{inserted}
 use Rattle.tables.specs.Stored.{stored_of}

@@ -1,7 +1,4 @@
-use Rattle.std.proofs.Common.{◌∙◌, ap, subst}
-use Rattle.std.specs.List.{slice_get}
 use Rattle.mk_value.specs.Heading.{heading_of}
-use Rattle.mk_value.specs.Kinds.{domain_of}
 use Rattle.tables.specs.Stored.{stored_of}
 use Rattle.tables.proofs.Reading.{lent_view}
 use Rattle.tables.proofs.column.Column.lend.Goals as goal

@@ -1,6 +1,4 @@
-use Rattle.std.proofs.Common.{◌∙◌, ap, sym}
 use Rattle.mk_value.specs.Heading.{heading_of}
-use Rattle.mk_value.specs.Kinds.{domain_of}
 use Rattle.tables.specs.Stored.{stored_of}
 use Rattle.tables.proofs.ColumnWith.{integers_removed, longs_removed, texts_removed, bytes_removed, views_removed}
 use Rattle.tables.proofs.column.Column.removed.Goals as goal

@@ -1,11 +1,10 @@
-use Rattle.std.proofs.Common.{◌≡◌, ◌<◌, ◌+◌, ◌≤◌, length, get_or, pos, ap, subst, sym, ◌∙◌, arith}
+use Rattle.std.proofs.Common.{◌<◌, length, ap, subst, sym, ◌∙◌, arith}
 use Rattle.std.proofs.lemmas.List.{length-map}
-use Rattle.mk_value.specs.Data.{integer, IsOf}
+use Rattle.mk_value.specs.Data.{IsOf}
 use Rattle.mk_value.specs.Kinds.{domain_of}
 use Rattle.mk_value.specs.Tables.{domain_at}
 use Rattle.mk_value.specs.Values.{datum_of}
 use Rattle.mk_value.proofs.Relations.{row_fits_length}
-use Rattle.mk_value.proofs.Walks.{map_read, same_default}
 use Rattle.tables.specs.Columns.{home_of}
 use Rattle.tables.specs.Read.{values_read}
 use Rattle.tables.specs.Rows.{with_rows_inserted}

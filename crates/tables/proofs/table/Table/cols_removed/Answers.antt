@@ -1,4 +1,4 @@
-use Rattle.std.proofs.Common.{◌<◌, ◌+◌, ◌≤◌, length, ap, ◌∙◌, arith}
+use Rattle.std.proofs.Common.{length, ap, ◌∙◌, arith}
 use Rattle.mk_value.specs.Kinds.{domain_of}
 use Rattle.tables.specs.Columns.{home_of}
 use Rattle.tables.specs.Read.{values_read}

@@ -1,8 +1,7 @@
 use Rattle.std.proofs.Common.{◌∙◌, ap}
 use Rattle.mk_value.specs.Heading.{Attribute}
 use Rattle.mk_value.specs.Kinds.{domain_of}
-use Rattle.tables.specs.Stored.{stored_of}
-use Rattle.tables.proofs.Reading.{IsColumnAt, column_read, column_within}
+use Rattle.tables.proofs.Reading.{column_read, column_within}
 use Rattle.tables.proofs.table.Table.column.Goals as goal
 
 pub bounds-as_slice-col-2 : goal.bounds-as_slice-col-2

@@ -1,4 +1,4 @@
-use Rattle.std.proofs.Common.{◌≡◌, ◌+◌, ap, sym, ◌∙◌, arith}
+use Rattle.std.proofs.Common.{◌+◌, ap, ◌∙◌}
 use Rattle.tables.proofs.Rebuilding.{inserted_done}
 use Rattle.tables.proofs.table.Table.insert_rows.Goals as goal
 

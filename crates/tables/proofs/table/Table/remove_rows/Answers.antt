@@ -1,4 +1,4 @@
-use Rattle.std.proofs.Common.{◌≡◌, ◌-◌, ap, sym, ◌∙◌, arith}
+use Rattle.std.proofs.Common.{◌-◌, ap, ◌∙◌}
 use Rattle.tables.proofs.Rebuilding.{removed_done}
 use Rattle.tables.proofs.table.Table.remove_rows.Goals as goal
 

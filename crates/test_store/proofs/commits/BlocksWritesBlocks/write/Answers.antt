@@ -1,13 +1,10 @@
-use Rattle.std.proofs.Common.{ℕ, List, [], ◌∷◌, length, Ok, Err, ◌≤◌, arith}
+use Rattle.std.proofs.Common.{ℕ, List, [], ◌∷◌, length}
 use Rattle.std.proofs.lemmas.List.Elements.{All-nil}
 use Rattle.std.proofs.lemmas.Result.{err_from_is_err_and}
-use Rattle.host_io.specs.Outside.{Outside}
-use Rattle.host_io.specs.declared.traits.Failed.{Failed}
-use Rattle.free_space.specs.Extents.{Meets, extent_end}
+use Rattle.free_space.specs.Extents.{Meets}
 use Rattle.block_io.specs.Parts.{rounded}
 use Rattle.block_io.proofs.Rounding.{length-rounded, take-rounded}
 use Rattle.commit_writes.specs.Blocks.{Block}
-use Rattle.commit_writes.specs.Writing.{IsWhole, PutsBlocks}
 use Rattle.commit_writes.proofs.Writers.{IsRounded, next_within, puts_failed, puts_more, puts_none, writable_next}
 use Rattle.test_store.proofs.commits.BlocksWritesBlocks.write.Goals as goal
 
