@@ -1,19 +1,13 @@
 -- A plain column after it was settled.
-use Rattle.std.proofs.Common.{◌≡◌, ℕ, zero, suc, ◌+◌, List, [], ◌∷◌, ◌++◌, length, map, take, drop, Bool, true, false, cond, All, refl, ap, sym, subst, ◌∙◌, arith}
-use Rattle.std.specs.List.{flat_map}
-use Rattle.std.proofs.lemmas.List.{map-append}
-use Rattle.std.proofs.lemmas.List.Elements.{All-head, All-tail, All-cons, All-nil, All-append}
+use Rattle.std.proofs.Common.{◌≡◌, List, [], ◌∷◌, length, Bool, true, false, cond, refl, ap, sym, subst, ◌∙◌, arith}
 use Rattle.mk_value.specs.declared.span.Span.{Span}
-use Rattle.mk_value.specs.Heading.{Domain, Heading, no_attributes, attribute}
+use Rattle.mk_value.specs.Heading.{Domain}
 use Rattle.mk_value.specs.Data.{Datum}
 use Rattle.mk_value.specs.Tables.{IsPlainDomain}
-use Rattle.commit_writes.specs.Blocks.{Block, spans_of}
-use Rattle.tables.specs.Homes.{Home, no_home, numbers, strings, tables, PlainColumn, ColumnHomes, no_columns, column, RowHomes, no_rows, row, column_homes, column_of, rows_in}
-use Rattle.tables.specs.Shapes.{IsHomeOf, AreRowHomesOf, AreHomesOf, HasHomes}
-use Rattle.tables.specs.Rests.{blocks, blocks_of}
-use Rattle.tables.specs.Blocks.{blocks_of_values, has_home, is_homed, plain_in, plain_rows, plain_from, plain_columns}
-use Rattle.tables.specs.Tables.{StoredTable}
-use Rattle.view_store.specs.Views.{NamedTable}
+use Rattle.tables.specs.Homes.{Home, no_home, numbers, strings, tables, PlainColumn}
+use Rattle.tables.specs.Shapes.{IsHomeOf}
+use Rattle.tables.specs.Rests.{blocks_of}
+use Rattle.tables.specs.Blocks.{blocks_of_values, has_home, is_homed}
 use Rattle.recovery.specs.Commits.{blocks_at, column_blocks}
 use Rattle.recovery.proofs.PlainParts.{IsPlainPart}
 use Rattle.storage.specs.Following.{due_of, home_at, settled}

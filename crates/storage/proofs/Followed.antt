@@ -1,5 +1,5 @@
 -- The commit that follows is whole, and it is sound to write its blocks after the one before.
-use Rattle.std.proofs.Common.{◌≡◌, ◌≢◌, ℕ, zero, suc, ◌+◌, ◌<◌, ◌≤◌, ◌^◌, ◌⊎◌, inl, inr, ⊎_elim, min, List, [], ◌∷◌, ◌++◌, length, map, Bool, true, false, cond, All, refl, ap, sym, subst, ◌∙◌, arith, true≢false}
+use Rattle.std.proofs.Common.{◌≡◌, ◌≢◌, ℕ, ◌+◌, ◌<◌, ◌≤◌, ◌^◌, ◌⊎◌, inl, inr, ⊎_elim, min, List, [], ◌∷◌, ◌++◌, length, map, Bool, true, cond, All, refl, ap, sym, subst, ◌∙◌, arith, true≢false}
 use Rattle.std.specs.Prelude.{Contains}
 use Rattle.std.specs.List.{filter, flat_map}
 use Rattle.std.proofs.lemmas.List.{length-append, length-map, map-append}
@@ -7,22 +7,21 @@ use Rattle.std.proofs.lemmas.List.Elements.{All-head, All-tail, All-cons, All-ni
 use Rattle.mk_value.specs.declared.span.Span.{Span}
 use Rattle.free_space.specs.Extents.{AreApart, IsAligned, Meets, extent_end, extent_len}
 use Rattle.free_space.specs.FreeSpace.{IsFree, end_of}
-use Rattle.free_space.specs.Sites.{ArePlaced, IsSite, first_place, no_span}
+use Rattle.free_space.specs.Sites.{ArePlaced, IsSite, no_span}
 use Rattle.free_space.proofs.EndLemmas.{end_of-le, extents-le-end_of, floor-le-end_of}
 use Rattle.free_space.proofs.Placing.{IsApartFrom, IsPut, end_aligned, extent_of_none, placed_apart, placed_begins, placed_free, BeginBelow}
-use Rattle.commit_marks.specs.Marks.{FitsFile}
 use Rattle.commit_writes.specs.Blocks.{Block, IsBlockWithin, IsSited, no_block, spans_of}
 use Rattle.commit_writes.specs.Plans.{IsSoundAfter}
 use Rattle.dir_codec.specs.Dir.{AreNotes, Dir, spelled}
 use Rattle.tables.specs.Homes.{no_home, numbers, strings, tables, Home, PlainColumn}
 use Rattle.tables.specs.Shapes.{HasHomes}
-use Rattle.tables.specs.Rests.{Rest, blocks, blocks_of, homed_columns}
+use Rattle.tables.specs.Rests.{Rest, blocks}
 use Rattle.tables.specs.Blocks.{has_home, is_homed, plain_columns}
 use Rattle.tables.proofs.Apart.{Clear, apart_clear, apart_join, apart_left, blocks_within, in_cons, none_in}
 use Rattle.tables.proofs.PlainColumns.{homed_columns-plain}
 use Rattle.view_store.specs.Views.{NamedTable}
 use Rattle.view_store.specs.Rests.{homed_views}
-use Rattle.recovery.specs.Commits.{Commit, IsCommit, IsHomed, blocks_at, column_blocks, commit_blocks, dir_block, directory, footprint_of, mark_of, plain_views, version_of}
+use Rattle.recovery.specs.Commits.{Commit, IsCommit, IsHomed, blocks_at, column_blocks, commit_blocks, dir_block, directory, footprint_of, plain_views, version_of}
 use Rattle.recovery.proofs.Footprints.{footprint_whole}
 use Rattle.storage.specs.Following.{FollowsAt, MayFollow, blocks_due, commit_spans, is_some, last_end, noted, settled_at, writes_at}
 use Rattle.recovery.proofs.PlainParts.{IsPlainPart, blocks_at-append, columns_spans, spans_of-blocks_at, views_parts}

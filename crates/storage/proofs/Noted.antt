@@ -1,5 +1,5 @@
 -- The notes of the commit that follows are notes as a directory may have them.
-use Rattle.std.proofs.Common.{◌≡◌, ℕ, zero, suc, ◌+◌, ◌-◌, ◌<◌, ◌≤◌, ◌⊎◌, inl, inr, ⊎_elim, List, [], ◌∷◌, ◌++◌, length, drop, refl, ap, sym, subst, ◌∙◌, arith}
+use Rattle.std.proofs.Common.{◌≡◌, ℕ, zero, suc, ◌+◌, ◌-◌, ◌<◌, ◌≤◌, ◌⊎◌, inl, inr, List, [], ◌∷◌, ◌++◌, length, drop, refl, arith}
 use Rattle.std.proofs.lemmas.List.{length-append, length-drop}
 use Rattle.mk_value.specs.Data.{IsText}
 use Rattle.dir_codec.specs.Dir.{AreNotes, AreNotesFrom, NoteEntry}

@@ -1,17 +1,16 @@
 -- Blocks that were placed one after another, as those of a footprint and as what is written.
-use Rattle.std.proofs.Common.{◌≡◌, ℕ, zero, suc, ◌+◌, ◌<◌, ◌≤◌, ◌⊎◌, inl, inr, ⊎_elim, max, List, [], ◌∷◌, ◌++◌, length, map, Bool, true, false, cond, All, refl, ap, sym, subst, ◌∙◌, arith, true≢false}
+use Rattle.std.proofs.Common.{◌≡◌, ℕ, suc, ◌<◌, ◌≤◌, ◌⊎◌, inl, inr, ⊎_elim, max, List, [], ◌∷◌, length, map, Bool, true, false, cond, All, refl, ap, sym, subst, ◌∙◌, arith, true≢false}
 use Rattle.std.specs.Prelude.{Contains, nat_lt}
 use Rattle.std.specs.List.{filter}
-use Rattle.std.proofs.lemmas.Bool.{cases_lt}
 use Rattle.std.proofs.lemmas.Bool.Decides.{Decides-ltb}
-use Rattle.std.proofs.lemmas.List.Elements.{All-head, All-tail, All-cons, All-nil, All-contains, All-weaker}
-use Rattle.std.proofs.lemmas.List.Kept.{AllPairs-filter, AllPairs-cons}
+use Rattle.std.proofs.lemmas.List.Elements.{All-head, All-tail, All-cons, All-nil, All-contains}
+use Rattle.std.proofs.lemmas.List.Kept.{AllPairs-filter}
 use Rattle.tables.proofs.Apart.{in_cons, none_in}
 use Rattle.mk_value.specs.declared.span.Span.{Span}
 use Rattle.free_space.specs.Extents.{AreApart, Meets, extent_end, extent_len}
-use Rattle.free_space.specs.FreeSpace.{IsFree, end_of}
-use Rattle.free_space.specs.Sites.{ArePlaced, IsPlaced, IsSite, first_place, no_span}
-use Rattle.free_space.proofs.Placing.{BeginBelow, IsApartFrom, IsPut, placed_free}
+use Rattle.free_space.specs.FreeSpace.{end_of}
+use Rattle.free_space.specs.Sites.{ArePlaced, IsPlaced, first_place, no_span}
+use Rattle.free_space.proofs.Placing.{BeginBelow, IsApartFrom, IsPut}
 use Rattle.commit_writes.specs.Blocks.{BeginWithin, Block, IsBlockWithin, IsSited, no_block, spans_of}
 use Rattle.recovery.specs.Commits.{blocks_at}
 use Rattle.storage.specs.Following.{is_some}

@@ -1,13 +1,12 @@
 -- Views that differ in their homes alone are whole together.
-use Rattle.std.proofs.Common.{◌≡◌, ◌≢◌, ℕ, ◌≤◌, List, [], ◌∷◌, length, map, All, refl, ap, sym, subst, ◌∙◌, arith}
+use Rattle.std.proofs.Common.{◌≡◌, ◌≢◌, ◌≤◌, List, [], ◌∷◌, length, map, All, refl, ap, sym, subst, ◌∙◌, arith}
 use Rattle.std.specs.Prelude.{AllPairs}
 use Rattle.std.proofs.lemmas.List.{length-map}
-use Rattle.std.proofs.lemmas.List.Elements.{All-map, All-head, All-tail, All-cons, All-nil}
-use Rattle.mk_value.specs.Limits.{max_structure, max_views}
+use Rattle.std.proofs.lemmas.List.Elements.{All-head, All-tail, All-cons, All-nil}
+use Rattle.mk_value.specs.Limits.{max_structure}
 use Rattle.mk_value.specs.Names.{IsName}
 use Rattle.mk_value.specs.Heading.{IsHeading}
 use Rattle.mk_value.specs.Data.{AreRowsOf}
-use Rattle.tables.specs.Tables.{IsTable}
 use Rattle.struct_text.specs.Lengths.{structure_length}
 use Rattle.view_store.specs.Views.{AreViews, IsView, NamedTable, view_names}
 use Rattle.storage.specs.Following.{NamedRows, rows_of_views}
