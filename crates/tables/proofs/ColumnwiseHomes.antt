@@ -41,13 +41,14 @@ pub each_shape : (homes : List Home) (schema : List Attribute) (k : ℕ) (rows :
 each_shape [] [] k rows h = tt
 each_shape [] (a ∷ schema) k rows h = let e = h.long in absurd (omega (arith, e))
 each_shape (x ∷ homes) [] k rows h = let e = h.long in absurd (omega (arith, e))
-each_shape (x ∷ homes) (a ∷ schema) k rows h =
-    (subst (λ j. IsHomeOf x a.domain (column_of rows j)) (let e : k + 0 ≡ k = omega arith in e) (h.each zero (omega arith)),
-    each_shape homes schema (k + 1) rows
-    (record {
-      long = let e = h.long in omega (arith, e);
-      each = λ m p. subst (λ j. IsHomeOf (get_or homes m no_home) (domain_at schema m) (column_of rows j)) (let e : k + suc m ≡ (k + 1) + m = omega arith in e) (h.each (suc m) (omega arith));
-    }))
+each_shape (x ∷ homes) (a ∷ schema) k rows h = (
+  subst (λ j. IsHomeOf x a.domain (column_of rows j)) (let e : k + 0 ≡ k = omega arith in e) (h.each zero (omega arith)),
+  each_shape homes schema (k + 1) rows
+      (record {
+        long = let e = h.long in omega (arith, e);
+        each = λ m p. subst (λ j. IsHomeOf (get_or homes m no_home) (domain_at schema m) (column_of rows j)) (let e : k + suc m ≡ (k + 1) + m = omega arith in e) (h.each (suc m) (omega arith));
+      }),
+)
 
 -- tables of one schema rest on one another where each column does
 pub columns_rest : (new old : List Home) (schema : List Attribute) (k : ℕ) (rows before : List (List Datum)) → length new ≡ length old
