@@ -1,8 +1,6 @@
 //! Tables as columns: what they are made of is read back, and an edit leaves copies as they were.
 use crate::sources::{Source, shown_rows};
-use mk_value::{
-    Kind, Row, Rows, Schema, TableRead, Text, Value, fits, row_fits, rows_fit, to_value,
-};
+use mk_value::{Kind, Row, Rows, Schema, TableRead, Text, Value, row_fits, rows_fit, to_value};
 use std::alloc::Global;
 use std::test::Fail;
 use struct_text::parse;
@@ -115,27 +113,5 @@ fn rows_are_removed(rt: HostRuntime) -> Result<(), Fail> {
         r#"{("a",{(1)}),("c",{(3)})}"#
     );
     assert_eq!(rt; copy.len(), 3);
-    Ok(())
-}
-
-/// Gives the cell at a row and a column another value.
-fn set(table: &mut Table, row: usize, col: usize, value: &Value) -> Result<(), Fail> {
-    let props = table.schema().as_slice();
-    if row >= table.len() || col >= props.len() || !fits(value, &props[col].kind) {
-        return Err(Fail::new("no cell, or no value of its kind"));
-    }
-    table.set_cell(row, col, value)?;
-    Ok(())
-}
-
-#[test]
-fn cells_are_set(rt: HostRuntime) -> Result<(), Fail> {
-    let alloc = rt.alloc();
-    let mut table = table(alloc, "t[i:I,v[x:I]]", "{(1,{(1)}),(2,{})}")?;
-    let copy = table.same()?;
-    set(&mut table, 1, 0, &Value::I(-5))?;
-    set(&mut table, 0, 1, &Value::V(Rows::new(alloc)))?;
-    assert_eq!(rt; literal(alloc, &table)?.as_str(), "{(1,{}),(-5,{})}");
-    assert_eq!(rt; literal(alloc, &copy)?.as_str(), "{(1,{(1)}),(2,{})}");
     Ok(())
 }
