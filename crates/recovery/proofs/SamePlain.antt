@@ -37,7 +37,7 @@ pub record IsThere (image : List ℕ) (c : PlainColumn) : Type 0 where
 width_in : Entry → Width
 width_in (Entry.numbers w block) = w
 width_in (Entry.strings w sizes short memos) = w
-width_in (Entry.tables bodies) = W0
+width_in (Entry.tables inner) = W0
 
 -- a home, from its blocks, by the kind of another
 home_by : Home → List Span → Home

@@ -72,21 +72,21 @@ same_view g (bytes b) f h k same = absurd h
 
 -- the parts of a directory
 bodies_in : Entry → Bodies
-bodies_in (Entry.tables bodies) = bodies
+bodies_in (Entry.tables inner) = inner
 bodies_in (Entry.numbers w block) = no_bodies
 bodies_in (Entry.strings w sizes short memos) = no_bodies
 
 first_rows : Bodies → ℕ
 first_rows no_bodies = 0
-first_rows (body n entries rest) = n
+first_rows (body n own rest) = n
 
 first_entries : Bodies → Entries
 first_entries no_bodies = no_entries
-first_entries (body n entries rest) = entries
+first_entries (body n own rest) = own
 
 other_bodies : Bodies → Bodies
 other_bodies no_bodies = no_bodies
-other_bodies (body n entries rest) = rest
+other_bodies (body n own rest) = rest
 
 first_entry : Entry → Entries → Entry
 first_entry other no_entries = other
