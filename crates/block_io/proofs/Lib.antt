@@ -1,4 +1,4 @@
 mod Pieces
 pub mod Putting
-mod Looking
+pub mod Looking
 pub mod Rounding

@@ -18,6 +18,7 @@ pub fn read_block<D: Disk>(alloc: Global, disk: &mut D, span: Span) -> Result<By
     requires within { D.tells → span.place + span.len ≤ length (D.outside disk.old).now.disk.seen }
     ensures counts { CountsFaults (IsErrOf result BlockError.Failed) (D.outside disk.old) (D.outside disk.new) }
     ensures same { D.tells → Looks (D.outside disk.old) (D.outside disk.new) }
+    ensures len { IfOk result (λ b. length b.bytes ≡ span.len) }
     ensures bytes { D.tells → IfOk result (λ b. b.bytes ≡ take span.len (drop span.place (D.outside disk.old).now.disk.seen)) }
 {
     let mut bytes = Bytes::new(alloc);
@@ -46,6 +47,7 @@ fn read_piece<D: Disk>(
     requires within { D.tells → place + count ≤ length (D.outside disk.old).now.disk.seen }
     ensures counts { CountsFaults (IsErrOf result BlockError.Failed) (D.outside disk.old) (D.outside disk.new) }
     ensures same { D.tells → Looks (D.outside disk.old) (D.outside disk.new) }
+    ensures len { OnOk result (length bytes.new.bytes ≡ length bytes.old.bytes + count) }
     ensures bytes { D.tells → OnOk result (bytes.new.bytes ≡ bytes.old.bytes ++ take count (drop place (D.outside disk.old).now.disk.seen)) }
 {
     let mut piece = [0; MAX_WRITE];

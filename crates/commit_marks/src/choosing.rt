@@ -5,7 +5,7 @@ ghost use Rattle.commit_marks.specs.Slots.{HasSlot, IsHeadOf, GivesMarks};
 ghost use Rattle.commit_marks.specs.declared.error.MarkError.TheVariants as mark_error;
 
 use crate::error::MarkError;
-use crate::mark::{HEADER, Marks, fits_file};
+use crate::mark::{HEADER, Marks};
 use crate::slot::{Slot, read_slot};
 use std::cmp::Ordering;
 
@@ -66,7 +66,7 @@ pub(crate) fn choose(head: &[u8], len: u64) -> Result<Marks, MarkError>
         return Err(MarkError::NotAStore);
     }
     let marks = pick(read_slot(&head[64..128]), read_slot(&head[128..192]))?;
-    if fits_file(&marks.chosen, len) {
+    if marks.chosen.fits_file(len) {
         Ok(marks)
     } else {
         Err(MarkError::BadMark(64 + 64 * u64::from(marks.slot)))

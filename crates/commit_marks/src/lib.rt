@@ -16,4 +16,5 @@ mod writing;
 pub use error::MarkError;
 pub use mark::{HEADER, Mark, Marks};
 pub use reading::read_marks;
-pub use writing::{close_other, open_gate, write_body};
+pub use slot::slot_bytes;
+pub use writing::{close_other, open_gate, slot_place, write_body};

@@ -45,14 +45,14 @@ impl Mark {
             len: self.len,
         }
     }
-}
 
-/// Whether the mark fits a file of `len` bytes: its end is within the file, and its directory within its end.
-pub(crate) fn fits_file(mark: &Mark, len: u64) -> bool
-    ensures { IsTrue result ↔ FitsFile len mark.now }
-{
-    if !mark.end.is_multiple_of(16) {
-        return false;
+    /// Whether the mark fits a file of `len` bytes: its end is within the file, and its directory within its end.
+    pub fn fits_file(&self, len: u64) -> bool
+        ensures { IsTrue result ↔ FitsFile len self.now }
+    {
+        if !self.end.is_multiple_of(16) {
+            return false;
+        }
+        FIRST_PLACE <= self.end && self.end <= len && is_site(self.end, &self.dir())
     }
-    FIRST_PLACE <= mark.end && mark.end <= len && is_site(mark.end, &mark.dir())
 }

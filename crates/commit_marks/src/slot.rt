@@ -22,8 +22,8 @@ pub(crate) enum Slot {
     Open(Mark),
 }
 
-/// The bytes of an open slot with this mark.
-pub(crate) fn slot_bytes(mark: &Mark) -> [u8; 64]
+/// The 64 bytes of an open slot with this mark.
+pub fn slot_bytes(mark: &Mark) -> [u8; 64]
     ensures { result ≡ open_byte ∷ body_bytes mark.now }
 {
     let mut slot = [0; 64];

@@ -12,7 +12,7 @@ use host_io::{Disk, Failed};
 const CLOSED: u8 = 0;
 
 /// Where a slot begins, which is its gate.
-fn slot_place(slot: u8) -> u64
+pub fn slot_place(slot: u8) -> u64
     requires { slot ≤ 1 }
     ensures { result ≡ slot_place slot }
 {

@@ -18,3 +18,13 @@ mod SameValues
 pub mod StringBlocks
 pub mod StringColumns
 pub mod Widths
+pub mod DirSpans
+pub mod FirstUnreadable
+pub mod FoundTables
+pub mod Restored
+pub mod Roots
+pub mod PlainColumnsRead
+pub mod ReadSoFar
+pub mod ViewsSoFar
+pub mod Refused
+pub mod Starts

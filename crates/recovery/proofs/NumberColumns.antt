@@ -11,7 +11,7 @@ use Rattle.mk_value.specs.Data.{Datum, integer, long, IsOf}
 use Rattle.mk_value.specs.Tables.{number_in}
 use Rattle.bit_pack.specs.declared.widths.Width.{Width}
 use Rattle.bit_pack.specs.declared.widths.Width.TheVariants.{W0, W32, W64}
-use Rattle.bit_pack.specs.Width.{Holds, HoldsAll, bit_count, least_width}
+use Rattle.bit_pack.specs.Width.{Holds, HoldsAll, IsLeastWidth, bit_count, least_width}
 use Rattle.bit_pack.specs.Packed.{Packed, packed}
 use Rattle.bit_pack.proofs.Least.{least_is, packed_is, packed_is_packed}
 use Rattle.bit_pack.proofs.LeastWidth.{HoldsAll-wider, held_fits}
@@ -25,8 +25,9 @@ use Rattle.tables.specs.Shapes.{IsHomeOf}
 use Rattle.tables.specs.Blocks.{blocks_of_values}
 use Rattle.tables.specs.Columns.{integers, column_values, IsColumnOf as IsStoredOf}
 use Rattle.recovery.specs.Commits.{blocks_at}
-use Rattle.recovery.specs.Reading.{IsColumnOf, IsReadable}
-use Rattle.recovery.specs.Numbers.{AreHeld, AreNumbersAt, IsNumberEntry}
+use Rattle.recovery.specs.Found.{HasLength}
+use Rattle.recovery.specs.Reading.{IsColumnBy, IsColumnOf, IsReadable}
+use Rattle.recovery.specs.Numbers.{AreHeld, AreNumbersAt, ArePackedIn, IsNumberEntry}
 use Rattle.recovery.proofs.Widths.{integers_held, longs_held}
 
 -- the widths of entries, and entries that are one
@@ -66,25 +67,26 @@ numbers_of_longs : (values : List ℤ) → map number_in (map long values) ≡ v
 numbers_of_longs [] = refl
 numbers_of_longs (z ∷ values) = ap (λ zs. z ∷ zs) (numbers_of_longs values)
 
-module _ (image : List ℕ) (w : Width) (block : Span) (rows start : ℕ) (domain : Domain)
+module _ (w : Width) (block : Span) (rows start : ℕ) (domain : Domain)
     (held : (ds : List Datum) → All (λ d. IsOf d domain) ds → HoldsAll W64 (map number_in ds))
     (shape : (ds : List Datum) → IsHomeOf (numbers block) domain ds)
     (packs : (ds : List Datum) → blocks_of_values domain ds ≡ packed (map number_in ds) ∷ []) where
   one_block : List Datum → Block
   one_block ds = record { span = block; bytes = packed (map number_in ds) }
 
-  to_column : (ds : List Datum) (values : List ℤ) → map number_in ds ≡ values → All (λ d. IsOf d domain) ds → length ds ≡ length values → AreNumbersAt image w block rows values → IsColumnOf image (number_entry start domain rows w block) ds
-  to_column ds values nums fit same at = record {
-    count = same ∙ at.count;
+  to_column : (P : Block → Type 0) (ds : List Datum) (values : List ℤ) → map number_in ds ≡ values → All (λ d. IsOf d domain) ds → length ds ≡ length values → length values ≡ rows → IsLeastWidth w values
+      → P (record { span = block; bytes = packed values }) → IsColumnBy P (number_entry start domain rows w block) ds
+  to_column P ds values nums fit same count least has = record {
+    count = same ∙ count;
     fit = fit;
     shaped = shape ds;
-    entry = ap (λ u. Entry.numbers u block) (least_is w values at.packed.least ∙ ap least_width (sym nums));
-    blocks = subst (λ bs. All (StandsAt image) (blocks_at (block ∷ []) bs)) (sym (packs ds))
-        (All-cons (StandsAt image) (record { span = block; bytes = packed (map number_in ds) }) [] (packed_is w values (bytes_in image (span_range block)) at.packed ∙ ap packed (sym nums)) (All-nil (StandsAt image)));
+    entry = ap (λ u. Entry.numbers u block) (least_is w values least ∙ ap least_width (sym nums));
+    blocks = subst (λ bs. All P (blocks_at (block ∷ []) bs)) (sym (packs ds))
+        (All-cons P (record { span = block; bytes = packed (map number_in ds) }) [] (subst (λ vs. P (record { span = block; bytes = packed vs })) (sym nums) has) (All-nil P));
   }
 
-  of_column : (ds : List Datum) → IsColumnOf image (number_entry start domain rows w block) ds → AreNumbersAt image w block rows (map number_in ds)
-  of_column ds is =
+  of_column : (image : List ℕ) (ds : List Datum) → IsColumnOf image (number_entry start domain rows w block) ds → AreNumbersAt image w block rows (map number_in ds)
+  of_column image ds is =
       let vs = map number_in ds in
       let narrow : w ≡ least_width vs = ap width_in is.entry in
       let stands : bytes_in image (span_range block) ≡ packed vs =
@@ -97,19 +99,29 @@ module _ (image : List ℕ) (w : Width) (block : Span) (rows start : ℕ) (domai
 narrow : (w : Width) (values : List ℤ) → bit_count w ≤ 32 → HoldsAll w values → HoldsAll W32 values
 narrow w values p h = HoldsAll-wider w W32 values (omega (arith, p)) h
 
+-- numbers of the least width, one for each row, are those of the column
+made_column : (P : Block → Type 0) (w : Width) (block : Span) (rows : ℕ) (c : Numbers) → length c.values ≡ rows → IsLeastWidth w c.values → HoldsAll w c.values → P (record { span = block; bytes = packed c.values })
+    → (e : PlainEntry) → IsNumberEntry rows w block e → IsColumnBy P e (column_values e.domain (integers c))
+made_column P w block rows c count least holds has e is = by_domain is.domain
+  where
+    by_domain : ((e.domain ≡ Domain.integer) × (bit_count w ≤ 32)) ⊎ (e.domain ≡ Domain.long) → IsColumnBy P e (column_values e.domain (integers c))
+    by_domain (inl d) =
+        subst (λ (x : PlainEntry). IsColumnBy P x (column_values x.domain (integers c))) (sym (the_entry e Domain.integer rows w block d.0 is.rows_are is.entry))
+        (to_column w block rows e.start Domain.integer (λ ds h. HoldsAll-wider W32 W64 (map number_in ds) (omega arith) (integers_held ds h)) (λ _. tt) (λ _. refl)
+        P (map integer c.values) c.values (numbers_of_integers c.values) (integers_fit c.values (narrow w c.values d.1 holds).each) (length-map c.values integer) count least has)
+    by_domain (inr d) =
+        subst (λ (x : PlainEntry). IsColumnBy P x (column_values x.domain (integers c))) (sym (the_entry e Domain.long rows w block d is.rows_are is.entry))
+        (to_column w block rows e.start Domain.long longs_held (λ _. tt) (λ _. refl)
+        P (map long c.values) c.values (numbers_of_longs c.values) (longs_fit w c.values holds.each) (length-map c.values long) count least has)
+
 -- the numbers at the block are those of the column
 pub read_column : (image : List ℕ) (w : Width) (block : Span) (rows : ℕ) (c : Numbers) → AreNumbersAt image w block rows c.values → (e : PlainEntry) → IsNumberEntry rows w block e → IsColumnOf image e (column_values e.domain (integers c))
-read_column image w block rows c at e is = by_domain is.domain
-  where
-    by_domain : ((e.domain ≡ Domain.integer) × (bit_count w ≤ 32)) ⊎ (e.domain ≡ Domain.long) → IsColumnOf image e (column_values e.domain (integers c))
-    by_domain (inl d) =
-        subst (λ (x : PlainEntry). IsColumnOf image x (column_values x.domain (integers c))) (sym (the_entry e Domain.integer rows w block d.0 is.rows_are is.entry))
-        (to_column image w block rows e.start Domain.integer (λ ds h. HoldsAll-wider W32 W64 (map number_in ds) (omega arith) (integers_held ds h)) (λ _. tt) (λ _. refl)
-        (map integer c.values) c.values (numbers_of_integers c.values) (integers_fit c.values (narrow w c.values d.1 at.packed.packed.held).each) (length-map c.values integer) at)
-    by_domain (inr d) =
-        subst (λ (x : PlainEntry). IsColumnOf image x (column_values x.domain (integers c))) (sym (the_entry e Domain.long rows w block d is.rows_are is.entry))
-        (to_column image w block rows e.start Domain.long longs_held (λ _. tt) (λ _. refl)
-        (map long c.values) c.values (numbers_of_longs c.values) (longs_fit w c.values at.packed.packed.held.each) (length-map c.values long) at)
+read_column image w block rows c at =
+    made_column (StandsAt image) w block rows c at.count at.packed.least at.packed.packed.held (packed_is w c.values (bytes_in image (span_range block)) at.packed)
+
+-- and where no image is known, they have the length of the block
+pub long_column : (w : Width) (block : Span) (rows : ℕ) (c : Numbers) → ArePackedIn w block rows c.values → (e : PlainEntry) → IsNumberEntry rows w block e → IsColumnBy HasLength e (column_values e.domain (integers c))
+long_column w block rows c held = made_column HasLength w block rows c held.count held.packed.least held.packed.packed.held (held.long ∙ ap length (packed_is w c.values held.bytes held.packed))
 
 -- a column whose blocks are those of some values has numbers at its block
 pub read_numbers : (image : List ℕ) (w : Width) (block : Span) (rows : ℕ) (e : PlainEntry) → IsNumberEntry rows w block e → IsReadable image e → (values : List ℤ) × AreNumbersAt image w block rows values
@@ -118,12 +130,12 @@ read_numbers image w block rows e is readable = by_domain is.domain
     by_domain : ((e.domain ≡ Domain.integer) × (bit_count w ≤ 32)) ⊎ (e.domain ≡ Domain.long) → (values : List ℤ) × AreNumbersAt image w block rows values
     by_domain (inl d) = (
       map number_in readable.0,
-      of_column image w block rows e.start Domain.integer (λ ds h. HoldsAll-wider W32 W64 (map number_in ds) (omega arith) (integers_held ds h)) (λ _. tt) (λ _. refl) readable.0
+      of_column w block rows e.start Domain.integer (λ ds h. HoldsAll-wider W32 W64 (map number_in ds) (omega arith) (integers_held ds h)) (λ _. tt) (λ _. refl) image readable.0
           (subst (λ (x : PlainEntry). IsColumnOf image x readable.0) (the_entry e Domain.integer rows w block d.0 is.rows_are is.entry) readable.1),
     )
     by_domain (inr d) = (
       map number_in readable.0,
-      of_column image w block rows e.start Domain.long longs_held (λ _. tt) (λ _. refl) readable.0
+      of_column w block rows e.start Domain.long longs_held (λ _. tt) (λ _. refl) image readable.0
           (subst (λ (x : PlainEntry). IsColumnOf image x readable.0) (the_entry e Domain.long rows w block d is.rows_are is.entry) readable.1),
     )
 

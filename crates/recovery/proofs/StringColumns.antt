@@ -1,5 +1,5 @@
 -- The texts or byte strings of blocks are the values of the column that a directory has there.
-use Rattle.std.proofs.Common.{◌≡◌, ℕ, ◌≤◌, pos, List, [], ◌∷◌, length, map, All, Some, refl, ap, sym, subst, ◌∙◌, arith}
+use Rattle.std.proofs.Common.{◌≡◌, ℕ, ◌≤◌, pos, List, [], ◌∷◌, length, get_or, drop, map, All, Some, refl, ap, sym, subst, ◌∙◌, arith}
 use Rattle.std.proofs.lemmas.List.{length-map}
 use Rattle.std.proofs.lemmas.List.Elements.{All-head, All-tail, All-cons, All-nil}
 use Rattle.mk_value.specs.declared.span.Span.{Span}
@@ -8,7 +8,7 @@ use Rattle.mk_value.specs.Heading.{Domain}
 use Rattle.mk_value.specs.Data.{Datum, integer, long, text, bytes, relation, IsOf}
 use Rattle.bit_pack.specs.declared.widths.Width.{Width}
 use Rattle.bit_pack.specs.declared.widths.Width.TheVariants.{W0, W32, W64}
-use Rattle.bit_pack.specs.Width.{least_width}
+use Rattle.bit_pack.specs.Width.{IsLeastWidth, least_width}
 use Rattle.bit_pack.specs.Packed.{Packed, packed}
 use Rattle.bit_pack.proofs.Least.{least_is, packed_is, packed_is_packed}
 use Rattle.bit_pack.proofs.LeastWidth.{HoldsAll-wider}
@@ -28,8 +28,9 @@ use Rattle.recovery.specs.declared.contents.Content.TheVariants as content
 use Rattle.recovery.specs.Commits.{blocks_at, memos_at}
 use Rattle.recovery.specs.Contents.{FitsContent}
 use Rattle.recovery.specs.Memos.{memo_bytes}
-use Rattle.recovery.specs.Reading.{IsColumnOf, IsReadable}
-use Rattle.recovery.specs.Strings.{AreCounted, AreStringsAt, IsStringEntry, Parts, home_at}
+use Rattle.recovery.specs.Found.{HasLength}
+use Rattle.recovery.specs.Reading.{IsColumnBy, IsColumnOf, IsReadable}
+use Rattle.recovery.specs.Strings.{AreAsLong, AreCounted, AreStringsAt, IsStringEntry, Parts, home_at}
 use Rattle.recovery.proofs.Memos.{memo_rows-from, rows_long}
 use Rattle.recovery.proofs.SameStrings.{one_list}
 use Rattle.recovery.proofs.Widths.{sizes_held}
@@ -76,33 +77,68 @@ memos_of image (m ∷ memos) (v ∷ values) e h =
     ap (λ x. x ∷ memo_bytes image memos) first
     ∙ ap (λ xs. v ∷ xs) (memos_of image memos values (omega (arith, e)) (All-tail (StandsAt image) (record { span = m.span; bytes = v }) (blocks_at (map (λ m. m.span) memos) values) h))
 
+-- each block of the values has the property, and the width is the least of their sizes
+record HasStrings (P : Block → Type 0) (p : Parts) (rows : ℕ) (values : List (List ℕ)) : Type 0 where
+  count : length (sizes_of values) ≡ rows
+  least : IsLeastWidth p.width (sizes_of values)
+  as_many : length p.memos ≡ length (long_values values)
+  sizes : P (record { span = p.sizes; bytes = packed (sizes_of values) })
+  brief : P (record { span = p.short; bytes = short_bytes values })
+  memos : All P (blocks_at (map (λ m. m.span) p.memos) (long_values values))
+
+-- strings that stand in an image, and those that are as long as their blocks
+standing : (image : List ℕ) (p : Parts) (rows : ℕ) (values : List (List ℕ)) → AreStringsAt image p rows values → HasStrings (StandsAt image) p rows values
+standing image p rows values at = record {
+  count = at.sized.count;
+  least = at.sized.packed.least;
+  as_many = sym (length-map p.memos (λ m. bytes_in image (span_range m.span))) ∙ ap length at.long;
+  sizes = packed_is p.width (sizes_of values) (bytes_in image (span_range p.sizes)) at.sized.packed;
+  brief = at.brief;
+  memos = subst (λ vs. All (StandsAt image) (blocks_at (map (λ m. m.span) p.memos) vs)) at.long (memos_stand image p.memos);
+}
+
+memos_long : (memos : List Memo) (values : List (List ℕ)) → map (λ (m : Memo). m.span.len) memos ≡ map length values → All HasLength (blocks_at (map (λ (m : Memo). m.span) memos) values)
+memos_long [] values e = All-nil HasLength
+memos_long (m ∷ memos) [] e = All-nil HasLength
+memos_long (m ∷ memos) (v ∷ values) e =
+    let first : m.span.len ≡ length v = ap (λ (ns : List ℕ). get_or ns 0 0) e in
+    All-cons HasLength (record { span = m.span; bytes = v }) (blocks_at (map (λ (m : Memo). m.span) memos) values) first (memos_long memos values (ap (λ (ns : List ℕ). drop 1 ns) e))
+
+as_long : (p : Parts) (rows : ℕ) (values : List (List ℕ)) → AreAsLong p rows values → HasStrings HasLength p rows values
+as_long p rows values at = record {
+  count = at.sized.count;
+  least = at.sized.packed.least;
+  as_many = sym (length-map p.memos (λ m. m.span.len)) ∙ ap length at.long ∙ length-map (long_values values) length;
+  sizes = at.sized.long ∙ ap length (packed_is p.width (sizes_of values) at.sized.bytes at.sized.packed);
+  brief = at.brief;
+  memos = memos_long p.memos (long_values values) at.long;
+}
+
 abbrev record_block : Span → List ℕ → Block
 record_block span held = record { span = span; bytes = held }
 
-module _ (image : List ℕ) (p : Parts) (rows start : ℕ) (domain : Domain)
+module _ (p : Parts) (rows start : ℕ) (domain : Domain)
     (fits : (ds : List Datum) → All (λ d. IsOf d domain) ds → All (λ v. length v ≤ max_bytes) (map content_of ds))
     (shape : (ds : List Datum) → (length (map (λ m. m.span) p.memos) ≡ length (long_values (map content_of ds))) → IsHomeOf (strings p.sizes p.short (map (λ m. m.span) p.memos)) domain ds)
     (shape_of : (ds : List Datum) → IsHomeOf (strings p.sizes p.short (map (λ m. m.span) p.memos)) domain ds → length (map (λ m. m.span) p.memos) ≡ length (long_values (map content_of ds)))
     (blocks_are : (ds : List Datum) → blocks_of_values domain ds ≡ packed (sizes_of (map content_of ds)) ∷ short_bytes (map content_of ds) ∷ long_values (map content_of ds)) where
-  to_column : (ds : List Datum) (values : List (List ℕ)) → map content_of ds ≡ values → All (λ d. IsOf d domain) ds → length ds ≡ length values
-      → AreStringsAt image p rows values → map (λ m. m.row) p.memos ≡ memo_rows values → IsColumnOf image (string_entry start domain rows p) ds
-  to_column ds values contents fit same at in_order = record {
-    count = same ∙ sym (length-map values (λ v. pos (length v))) ∙ at.sized.count;
+  to_column : (P : Block → Type 0) (ds : List Datum) (values : List (List ℕ)) → map content_of ds ≡ values → All (λ d. IsOf d domain) ds → length ds ≡ length values
+      → HasStrings P p rows values → map (λ m. m.row) p.memos ≡ memo_rows values → IsColumnBy P (string_entry start domain rows p) ds
+  to_column P ds values contents fit same at in_order = record {
+    count = same ∙ sym (length-map values (λ v. pos (length v))) ∙ at.count;
     fit = fit;
-    shaped = shape ds (length-map p.memos (λ m. m.span) ∙ sym (length-map p.memos (λ m. bytes_in image (span_range m.span))) ∙ ap length (at.long ∙ ap long_values (sym contents)));
-    entry = ap (λ u. Entry.strings u p.sizes p.short p.memos) (least_is p.width (sizes_of values) at.sized.packed.least ∙ ap (λ vs. least_width (sizes_of vs)) (sym contents))
+    shaped = shape ds (length-map p.memos (λ m. m.span) ∙ at.as_many ∙ ap (λ vs. length (long_values vs)) (sym contents));
+    entry = ap (λ u. Entry.strings u p.sizes p.short p.memos) (least_is p.width (sizes_of values) at.least ∙ ap (λ vs. least_width (sizes_of vs)) (sym contents))
         ∙ ap (λ ms. Entry.strings (least_width (sizes_of (map content_of ds))) p.sizes p.short ms)
         (sym (rejoined p.memos) ∙ ap (λ rs. memos_at rs (map (λ m. m.span) p.memos)) (in_order ∙ ap memo_rows (sym contents)));
-    blocks = subst (λ bs. All (StandsAt image) (blocks_at (p.sizes ∷ p.short ∷ map (λ m. m.span) p.memos) bs))
+    blocks = subst (λ bs. All P (blocks_at (p.sizes ∷ p.short ∷ map (λ m. m.span) p.memos) bs))
         (sym (blocks_are ds ∙ ap (λ vs. packed (sizes_of vs) ∷ short_bytes vs ∷ long_values vs) contents))
-        (All-cons (StandsAt image) (record { span = p.sizes; bytes = packed (sizes_of values) }) (blocks_at (p.short ∷ map (λ m. m.span) p.memos) (short_bytes values ∷ long_values values))
-        (packed_is p.width (sizes_of values) (bytes_in image (span_range p.sizes)) at.sized.packed)
-        (All-cons (StandsAt image) (record { span = p.short; bytes = short_bytes values }) (blocks_at (map (λ m. m.span) p.memos) (long_values values)) at.brief
-        (subst (λ vs. All (StandsAt image) (blocks_at (map (λ m. m.span) p.memos) vs)) at.long (memos_stand image p.memos))));
+        (All-cons P (record { span = p.sizes; bytes = packed (sizes_of values) }) (blocks_at (p.short ∷ map (λ m. m.span) p.memos) (short_bytes values ∷ long_values values)) at.sizes
+        (All-cons P (record { span = p.short; bytes = short_bytes values }) (blocks_at (map (λ m. m.span) p.memos) (long_values values)) at.brief at.memos));
   }
 
-  of_column : (ds : List Datum) → IsColumnOf image (string_entry start domain rows p) ds → AreStringsAt image p rows (map content_of ds) × (map (λ m. m.row) p.memos ≡ memo_rows (map content_of ds))
-  of_column ds is =
+  of_column : (image : List ℕ) (ds : List Datum) → IsColumnOf image (string_entry start domain rows p) ds → AreStringsAt image p rows (map content_of ds) × (map (λ m. m.row) p.memos ≡ memo_rows (map content_of ds))
+  of_column image ds is =
       let vs = map content_of ds in
       let long : length (map (λ m. m.span) p.memos) ≡ length (long_values vs) = shape_of ds is.shaped in
       let least : p.width ≡ least_width (sizes_of vs) = ap width_in is.entry in
@@ -168,17 +204,27 @@ fit_bytes (relation r ∷ ds) h = absurd (All-head (λ d. IsOf d Domain.bytes) (
 short_texts : (vs : List (List ℕ)) → All IsTextValue vs → All (λ v. length v ≤ max_bytes) vs
 short_texts vs h = λ k d within. (h k d within).short
 
+-- values whose blocks have the property are those of the column
+made_column : (P : Block → Type 0) (kind : Content) (p : Parts) (rows : ℕ) (c : Strings) → HasStrings P p rows c.values → map (λ m. m.row) p.memos ≡ memo_rows c.values → All (FitsContent kind) c.values
+    → (e : PlainEntry) → IsStringEntry rows kind p e → IsColumnBy P e (column_values e.domain (texts c))
+made_column P content.Texts p rows c at in_order fit e is =
+    subst (λ (x : PlainEntry). IsColumnBy P x (column_values x.domain (texts c))) (sym (the_entry e Domain.text rows p is.domain is.rows_are is.entry))
+    (to_column p rows e.start Domain.text (λ ds h. short_texts (map content_of ds) (fit_texts ds h)) (λ ds l. l) (λ ds l. l) (λ _. refl)
+    P (map text c.values) c.values (contents_of_texts c.values) (texts_fit c.values fit) (length-map c.values text) at in_order)
+made_column P content.Strings p rows c at in_order fit e is =
+    subst (λ (x : PlainEntry). IsColumnBy P x (column_values x.domain (texts c))) (sym (the_entry e Domain.bytes rows p is.domain is.rows_are is.entry))
+    (to_column p rows e.start Domain.bytes fit_bytes (λ ds l. l) (λ ds l. l) (λ _. refl)
+    P (map bytes c.values) c.values (contents_of_bytes c.values) (bytes_fit c.values fit) (length-map c.values bytes) at in_order)
+
 -- the values of the blocks are those of the column
 pub read_column : (image : List ℕ) (kind : Content) (p : Parts) (rows : ℕ) (c : Strings) → AreStringsAt image p rows c.values → map (λ m. m.row) p.memos ≡ memo_rows c.values → All (FitsContent kind) c.values
     → (e : PlainEntry) → IsStringEntry rows kind p e → IsColumnOf image e (column_values e.domain (texts c))
-read_column image content.Texts p rows c at in_order fit e is =
-    subst (λ (x : PlainEntry). IsColumnOf image x (column_values x.domain (texts c))) (sym (the_entry e Domain.text rows p is.domain is.rows_are is.entry))
-    (to_column image p rows e.start Domain.text (λ ds h. short_texts (map content_of ds) (fit_texts ds h)) (λ ds l. l) (λ ds l. l) (λ _. refl)
-    (map text c.values) c.values (contents_of_texts c.values) (texts_fit c.values fit) (length-map c.values text) at in_order)
-read_column image content.Strings p rows c at in_order fit e is =
-    subst (λ (x : PlainEntry). IsColumnOf image x (column_values x.domain (texts c))) (sym (the_entry e Domain.bytes rows p is.domain is.rows_are is.entry))
-    (to_column image p rows e.start Domain.bytes fit_bytes (λ ds l. l) (λ ds l. l) (λ _. refl)
-    (map bytes c.values) c.values (contents_of_bytes c.values) (bytes_fit c.values fit) (length-map c.values bytes) at in_order)
+read_column image kind p rows c at = made_column (StandsAt image) kind p rows c (standing image p rows c.values at)
+
+-- and where no image is known, they have the lengths of the blocks
+pub long_column : (kind : Content) (p : Parts) (rows : ℕ) (c : Strings) → AreAsLong p rows c.values → map (λ m. m.row) p.memos ≡ memo_rows c.values → All (FitsContent kind) c.values
+    → (e : PlainEntry) → IsStringEntry rows kind p e → IsColumnBy HasLength e (column_values e.domain (texts c))
+long_column kind p rows c at = made_column HasLength kind p rows c (as_long p rows c.values at)
 
 -- the values that the blocks of a readable column have
 pub record HasValues (image : List ℕ) (kind : Content) (p : Parts) (rows : ℕ) : Type 0 where
@@ -190,11 +236,11 @@ pub record HasValues (image : List ℕ) (kind : Content) (p : Parts) (rows : ℕ
 pub readable_values : (image : List ℕ) (kind : Content) (p : Parts) (rows : ℕ) (e : PlainEntry) → IsStringEntry rows kind p e → IsReadable image e → HasValues image kind p rows
 readable_values image content.Texts p rows e is readable =
     let here = subst (λ (x : PlainEntry). IsColumnOf image x readable.0) (the_entry e Domain.text rows p is.domain is.rows_are is.entry) readable.1 in
-    let found = of_column image p rows e.start Domain.text (λ ds h. short_texts (map content_of ds) (fit_texts ds h)) (λ ds l. l) (λ ds l. l) (λ _. refl) readable.0 here in
+    let found = of_column p rows e.start Domain.text (λ ds h. short_texts (map content_of ds) (fit_texts ds h)) (λ ds l. l) (λ ds l. l) (λ _. refl) image readable.0 here in
     record { values = map content_of readable.0; at = found.0; in_order = found.1; fit = fit_texts readable.0 here.fit }
 readable_values image content.Strings p rows e is readable =
     let here = subst (λ (x : PlainEntry). IsColumnOf image x readable.0) (the_entry e Domain.bytes rows p is.domain is.rows_are is.entry) readable.1 in
-    let found = of_column image p rows e.start Domain.bytes fit_bytes (λ ds l. l) (λ ds l. l) (λ _. refl) readable.0 here in
+    let found = of_column p rows e.start Domain.bytes fit_bytes (λ ds l. l) (λ ds l. l) (λ _. refl) image readable.0 here in
     record { values = map content_of readable.0; at = found.0; in_order = found.1; fit = fit_bytes readable.0 here.fit }
 
 -- the same blocks have no other values

@@ -14,3 +14,8 @@ domain_of Strings = Domain.bytes
 abbrev pub FitsContent : Content → List ℕ → Type 0
 FitsContent Texts value = IsTextValue value
 FitsContent Strings value = length value ≤ max_bytes
+
+-- what the values of a plain column that is not one of numbers are
+abbrev pub content_in : Domain → Content
+content_in Domain.text = Texts
+content_in _ = Strings

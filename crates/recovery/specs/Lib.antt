@@ -3,9 +3,13 @@ pub mod Commits
 pub mod Blobs
 pub mod Contents
 pub mod Flaws
+pub mod Keeping
 pub mod Memos
 pub mod Numbers
 pub mod Standing
 pub mod Strings
 pub mod Reading
 pub mod Refusals
+pub mod Found
+pub mod Opening
+pub mod Spans

@@ -20,6 +20,13 @@ pub record AreNumbersAt (image : List ℕ) (w : Width) (block : Span) (rows : �
   pub count : length values ≡ rows
   pub packed : Packed w values (bytes_in image (span_range block))
 
+-- so many numbers, packed at this width in some bytes as many as the block has
+pub record ArePackedIn (w : Width) (block : Span) (rows : ℕ) (values : List ℤ) : Type 0 where
+  pub count : length values ≡ rows
+  pub bytes : List ℕ
+  pub long : block.len ≡ length bytes
+  pub packed : Packed w values bytes
+
 -- a directory has this width and this block of a column of so many numbers, which take at most 32 bits where they are integers
 pub record IsNumberEntry (rows : ℕ) (w : Width) (block : Span) (e : PlainEntry) : Type 0 where
   pub domain : ((e.domain ≡ Domain.integer) × (bit_count w ≤ 32)) ⊎ (e.domain ≡ Domain.long)

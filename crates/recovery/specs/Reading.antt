@@ -3,7 +3,7 @@ use Rattle.std.specs.Prelude.{◌≡◌, ℕ, nat_lt, List, [], ◌∷◌, ◌++
 use Rattle.std.specs.List.{filter, flat_map}
 use Rattle.mk_value.specs.declared.span.Span.{Span}
 use Rattle.mk_value.specs.Data.{Datum, IsOf}
-use Rattle.commit_writes.specs.Blocks.{StandsAt}
+use Rattle.commit_writes.specs.Blocks.{Block, StandsAt}
 use Rattle.dir_codec.specs.Dir.{Dir, Entry}
 use Rattle.dir_codec.specs.Columns.{PlainEntry, dir_columns}
 use Rattle.tables.specs.Homes.{Home, no_home, numbers, strings}
@@ -16,14 +16,18 @@ home_in (Entry.numbers w block) = numbers block
 home_in (Entry.strings w sizes short memos) = strings sizes short (map (λ m. m.span) memos)
 home_in _ = no_home
 
--- The column is that of these values in the image: as many as the directory says, each of the domain; the entry is the one that a
--- directory has of them, and their blocks stand where it says.
-pub record IsColumnOf (image : List ℕ) (e : PlainEntry) (values : List Datum) : Type 0 where
+-- The column is that of these values: as many as the directory says, each of the domain; the entry is the one that a directory has of
+-- them, and each of their blocks has the property where it says.
+pub record IsColumnBy (P : Block → Type 0) (e : PlainEntry) (values : List Datum) : Type 0 where
   pub count : length values ≡ e.rows
   pub fit : All (λ d. IsOf d e.domain) values
   pub shaped : IsHomeOf (home_in e.entry) e.domain values
   pub entry : e.entry ≡ entry_of (home_in e.entry) e.domain values
-  pub blocks : All (StandsAt image) (column_blocks (record { domain = e.domain; values = values; home = home_in e.entry }))
+  pub blocks : All P (column_blocks (record { domain = e.domain; values = values; home = home_in e.entry }))
+
+-- the same in an image, where the blocks stand
+abbrev pub IsColumnOf : List ℕ → PlainEntry → List Datum → Type 0
+IsColumnOf image e values = IsColumnBy (StandsAt image) e values
 
 -- the blocks of the column are those of some values
 abbrev pub IsReadable : List ℕ → PlainEntry → Type 0

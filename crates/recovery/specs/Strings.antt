@@ -12,7 +12,7 @@ use Rattle.dir_codec.specs.Columns.{PlainEntry}
 use Rattle.recovery.specs.declared.contents.Content.{Content}
 use Rattle.recovery.specs.Contents.{domain_of}
 use Rattle.recovery.specs.Memos.{memo_bytes}
-use Rattle.recovery.specs.Numbers.{AreNumbersAt}
+use Rattle.recovery.specs.Numbers.{AreNumbersAt, ArePackedIn}
 
 -- the blocks of a column: the width of the sizes, their block, the block of the short values, and the memos
 pub record Parts : Type 0 where
@@ -26,6 +26,12 @@ pub record AreStringsAt (image : List ℕ) (p : Parts) (rows : ℕ) (values : Li
   pub sized : AreNumbersAt image p.width p.sizes rows (sizes_of values)
   pub brief : bytes_in image (span_range p.short) ≡ short_bytes values
   pub long : memo_bytes image p.memos ≡ long_values values
+
+-- the blocks are as long as those of these values, one for each row
+pub record AreAsLong (p : Parts) (rows : ℕ) (values : List (List ℕ)) : Type 0 where
+  pub sized : ArePackedIn p.width p.sizes rows (sizes_of values)
+  pub brief : p.short.len ≡ length (short_bytes values)
+  pub long : map (λ m. m.span.len) p.memos ≡ map length (long_values values)
 
 -- a directory has these blocks of a column of so many texts or byte strings
 pub record IsStringEntry (rows : ℕ) (content : Content) (p : Parts) (e : PlainEntry) : Type 0 where

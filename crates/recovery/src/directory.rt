@@ -3,7 +3,7 @@ ghost use Rattle.std.specs.Prelude.{◌≡◌, ℕ, ◌+◌, ◌^◌, ◌<◌, �
 ghost use Rattle.host_io.specs.Calls.{CountsFaults, Looks};
 ghost use Rattle.free_space.specs.Sites.{IsSite};
 ghost use Rattle.commit_marks.specs.Marks.{FitsFile, IsMark, dir_span};
-ghost use Rattle.dir_codec.specs.Dir.{IsDir};
+ghost use Rattle.dir_codec.specs.Dir.{IsDir, spelled};
 ghost use Rattle.dir_codec.specs.Values.{dir_of};
 ghost use Rattle.recovery.specs.Refusals.{HasDir};
 ghost use Rattle.recovery.specs.Flaws.{NamesFlaw, cause_of_dir, cause_of_reading};
@@ -64,6 +64,8 @@ pub(crate) fn read_directory<D: Disk>(
     ensures counts { CountsFaults (IsErrOf result DirectoryError.Failed) (D.outside disk.old) (D.outside disk.new) }
     ensures same { D.tells → Looks (D.outside disk.old) (D.outside disk.new) }
     ensures whole { IfOk result (λ dir. IsDir mark.now.version mark.now.number mark.now.end (dir_of dir)) }
+    ensures long { IfOk result (λ dir. mark.now.len ≡ length (spelled (dir_of dir))) }
+    ensures small { IfOk result (λ dir. length (spelled (dir_of dir)) < 2 ^ 64) }
     ensures found { D.tells → IfOk result (λ dir. HasDir (D.outside disk.old).now.disk.seen mark.now (dir_of dir)) }
     ensures flawed { D.tells → IfErr result (NamesFlaw (D.outside disk.old).now.disk.seen mark.now) }
 {

@@ -1,5 +1,5 @@
 // The long values of a column.
-ghost use Rattle.std.specs.Prelude.{◌≡◌, ℕ, ◌+◌, ◌-◌, ◌^◌, ◌<◌, ◌≤◌, length, IfOk, IsErrOf};
+ghost use Rattle.std.specs.Prelude.{◌≡◌, ℕ, ◌+◌, ◌-◌, ◌^◌, ◌<◌, ◌≤◌, length, map, IfOk, IsErrOf};
 ghost use Rattle.host_io.specs.Calls.{CountsFaults, Looks};
 ghost use Rattle.recovery.specs.Memos.{EndWithin, memo_bytes};
 
@@ -20,6 +20,7 @@ pub(crate) fn read_memos<D: Disk>(
     ensures counts { CountsFaults (IsErrOf result BlockError.Failed) (D.outside disk.old) (D.outside disk.new) }
     ensures same { D.tells → Looks (D.outside disk.old) (D.outside disk.new) }
     ensures count { IfOk result (λ held. length held ≡ length memos.now) }
+    ensures lens { IfOk result (λ held. map length held ≡ map (λ m. m.span.len) memos.now) }
     ensures bytes { D.tells → IfOk result (λ held. held ≡ memo_bytes (D.outside disk.old).now.disk.seen memos.now) }
 {
     let mut held = Memos::new(alloc);

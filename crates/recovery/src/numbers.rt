@@ -3,8 +3,9 @@ ghost use Rattle.std.specs.Prelude.{◌≡◌, ℕ, ℤ, ◌+◌, ◌^◌, ◌<�
 ghost use Rattle.host_io.specs.Calls.{CountsFaults, Looks};
 ghost use Rattle.dir_codec.specs.Columns.{PlainEntry};
 ghost use Rattle.tables.specs.Columns.{column_values, integers, IsColumnOf as IsStoredOf};
-ghost use Rattle.recovery.specs.Reading.{IsColumnOf, IsReadable};
-ghost use Rattle.recovery.specs.Numbers.{AreHeld, AreNumbersAt, IsNumberEntry};
+ghost use Rattle.recovery.specs.Found.{HasLength};
+ghost use Rattle.recovery.specs.Reading.{IsColumnBy, IsColumnOf, IsReadable};
+ghost use Rattle.recovery.specs.Numbers.{AreHeld, AreNumbersAt, ArePackedIn, IsNumberEntry};
 
 use crate::error::ReadError;
 use bit_pack::Width;
@@ -34,6 +35,8 @@ pub(crate) fn read_numbers<D: Disk>(
     ensures same { D.tells → Looks (D.outside disk.old) (D.outside disk.new) }
     ensures home { IfOk result (λ column. column.home ≡ Some block) }
     ensures whole { IfOk result (λ column. (e : PlainEntry) → IsNumberEntry rows width block e → IsStoredOf rows e.domain (integers column)) }
+    ensures made { IfOk result (λ column. (e : PlainEntry) → IsNumberEntry rows width block e
+        → IsColumnBy HasLength e (column_values e.domain (integers column))) }
     ensures column { D.tells → IfOk result (λ column. (e : PlainEntry) → IsNumberEntry rows width block e
         → IsColumnOf (D.outside disk.old).now.disk.seen e (column_values e.domain (integers column))) }
     ensures unreadable { D.tells → IsErrOf result ReadError.Unreadable → (e : PlainEntry) → IsNumberEntry rows width block e
@@ -61,6 +64,7 @@ pub(crate) fn read_ints<D: Disk>(
     ensures counts { CountsFaults (IsErrOf result ReadError.Failed) (D.outside disk.old) (D.outside disk.new) }
     ensures same { D.tells → Looks (D.outside disk.old) (D.outside disk.new) }
     ensures held { IfOk result (λ column. AreHeld width rows column.values) }
+    ensures packed { IfOk result (λ column. ArePackedIn width block rows column.values) }
     ensures home { IfOk result (λ column. column.home ≡ Some block) }
     ensures values { D.tells → IfOk result (λ column. AreNumbersAt (D.outside disk.old).now.disk.seen width block rows column.values) }
     ensures unreadable { D.tells → IsErrOf result ReadError.Unreadable → (values : List ℤ)

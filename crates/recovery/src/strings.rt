@@ -5,8 +5,9 @@ ghost use Rattle.recovery.specs.Blobs.{parts_of};
 ghost use Rattle.recovery.specs.Memos.{EndWithin};
 ghost use Rattle.dir_codec.specs.Columns.{PlainEntry};
 ghost use Rattle.tables.specs.Columns.{column_values, texts, IsColumnOf as IsStoredOf};
-ghost use Rattle.recovery.specs.Reading.{IsColumnOf, IsReadable};
-ghost use Rattle.recovery.specs.Strings.{AreCounted, AreStringsAt, IsStringEntry, home_at};
+ghost use Rattle.recovery.specs.Found.{HasLength};
+ghost use Rattle.recovery.specs.Reading.{IsColumnBy, IsColumnOf, IsReadable};
+ghost use Rattle.recovery.specs.Strings.{AreAsLong, AreCounted, AreStringsAt, IsStringEntry, home_at};
 
 use crate::contents::{Content, all_fit, are_rows_of};
 use crate::error::ReadError;
@@ -70,6 +71,8 @@ pub(crate) fn read_strings<D: Disk>(
     ensures home { IfOk result (λ column. column.home ≡ Some (home_at (parts_of blocks memos.now))) }
     ensures whole { IfOk result (λ column. (e : PlainEntry) → IsStringEntry rows content (parts_of blocks memos.now) e
         → IsStoredOf rows e.domain (texts column)) }
+    ensures made { IfOk result (λ column. (e : PlainEntry) → IsStringEntry rows content (parts_of blocks memos.now) e
+        → IsColumnBy HasLength e (column_values e.domain (texts column))) }
     ensures column { D.tells → IfOk result (λ column. (e : PlainEntry) → IsStringEntry rows content (parts_of blocks memos.now) e
         → IsColumnOf (D.outside disk.old).now.disk.seen e (column_values e.domain (texts column))) }
     ensures unreadable { D.tells → IsErrOf result ReadError.Unreadable → (e : PlainEntry)
@@ -105,6 +108,7 @@ fn read_values<D: Disk>(
     ensures same { D.tells → Looks (D.outside disk.old) (D.outside disk.new) }
     ensures home { IfOk result (λ column. column.home ≡ Some (home_at (parts_of blocks memos.now))) }
     ensures counted { IfOk result (λ column. AreCounted rows (parts_of blocks memos.now) column.values) }
+    ensures long { IfOk result (λ column. AreAsLong (parts_of blocks memos.now) rows column.values) }
     ensures values { D.tells → IfOk result (λ column. AreStringsAt (D.outside disk.old).now.disk.seen (parts_of blocks memos.now) rows column.values) }
     ensures unreadable { D.tells → IsErrOf result ReadError.Unreadable → (values : List (List ℕ))
         → ¬ AreStringsAt (D.outside disk.old).now.disk.seen (parts_of blocks memos.now) rows values }

@@ -1,7 +1,9 @@
 pub mod Back
+pub mod Converted
+pub mod Kept
+pub mod Lists
+pub mod Made
 pub mod Placing
-pub mod Plain
-pub mod Rows
 pub mod Same
 pub mod Texts
 pub mod Whole

@@ -17,9 +17,9 @@ use Rattle.tables.specs.Rests.{homed_in, homed_rows, homed_from, homed_columns, 
 use Rattle.tables.specs.Tables.{StoredTable, IsTable}
 use Rattle.tables.proofs.Resting.{homed_in-empty, Rest-none}
 use Rattle.view_store.proofs.Walking.{place_within}
-use Rattle.restructure.specs.Restructuring.{restructured_value, row_under, value_under, restructured_rows, zip_with, restructured_home, homes_under, restructured}
+use Rattle.restructure.specs.Restructuring.{restructured_value, row_under, value_under, restructured_rows, zip_with, restructured_home, home_under, homes_under, restructured}
 use Rattle.tables.proofs.Apart.{flat, FromPlace, AreFromPlaces, Differ, Rest-self, Rest-append, Rest-parts}
-use Rattle.restructure.proofs.Plain.{map-same, map_twice, behind, home_under}
+use Rattle.restructure.proofs.Lists.{map-same, map_twice, behind}
 use Rattle.tables.proofs.Lists.{At, drop_at}
 use Rattle.restructure.proofs.Same.{no_attribute, value_same}
 use Rattle.tables.proofs.Values.{column_fits, rows_inside}
@@ -39,12 +39,12 @@ part_at (h ∷ homes) schema k zero rows = ap (λ m. homed_in h (domain_at schem
 part_at (h ∷ homes) schema k (suc j) rows =
     part_at homes schema (k + 1) j rows ∙ ap (λ m. homed_in (get_or homes j no_home) (domain_at schema m) (column_of rows m)) (let e : (k + 1) + j ≡ k + suc j = omega arith in e)
 
-columns_back : (homes : ColumnHomes) → column_homes (columns_of homes) ≡ homes
+pub columns_back : (homes : ColumnHomes) → column_homes (columns_of homes) ≡ homes
 columns_back ColumnHomes.no_columns = refl
 columns_back (ColumnHomes.column h rest) = ap (λ hs. ColumnHomes.column h hs) (columns_back rest)
 
 -- a column of the same kind keeps its values
-values_kept : (f : Datum → Datum) (e : Domain) → ((d : Datum) → IsOf d e → f d ≡ d) → (values : List Datum) → All (λ d. IsOf d e) values → map f values ≡ values
+pub values_kept : (f : Datum → Datum) (e : Domain) → ((d : Datum) → IsOf d e → f d ≡ d) → (values : List Datum) → All (λ d. IsOf d e) values → map f values ≡ values
 values_kept f e same [] h = refl
 values_kept f e same (d ∷ ds) h =
     ap (λ x. x ∷ map f ds) (same d (All-head (λ x. IsOf x e) d ds h)) ∙ ap (λ xs. d ∷ xs) (values_kept f e same ds (All-tail (λ x. IsOf x e) d ds h))

@@ -12,8 +12,7 @@ use Rattle.mk_value.specs.Tables.{domain_at}
 use Rattle.mk_value.proofs.Converting.{relation_of-rows_of}
 use Rattle.mk_value.proofs.Headings.{AreAttributes-heading_of, attributes_of-heading_of}
 use Rattle.mk_value.proofs.Relations.{row_fits_length}
-use Rattle.tables.proofs.Lists.{At, drop_at}
-use Rattle.tables.specs.Tables.{StoredTable, IsTable, HasNoHomes, table_without_homes}
+use Rattle.tables.proofs.Lists.{drop_at}
 use Rattle.restructure.specs.Restructuring.{restructured_value, row_under, value_under, restructured_row, restructured_rows}
 use Rattle.tables.proofs.Values.{rows_inside, value_is_of}
 
@@ -26,7 +25,7 @@ other_name true xs ys e ne = absurd (ne (same_text xs ys (sym e)))
 other_name false xs ys e ne = refl
 
 -- the first property of the name of the one at a place is that one, where names are distinct
-find_at : (schema : List Attribute) (k : ℕ) (n : List ℕ) → HaveDistinctNames schema → k < length schema → (get_or schema k no_attribute).name ≡ n → find schema n ≡ Some k
+pub find_at : (schema : List Attribute) (k : ℕ) (n : List ℕ) → HaveDistinctNames schema → k < length schema → (get_or schema k no_attribute).name ≡ n → find schema n ≡ Some k
 find_at schema k n distinct p e =
     let test = λ (a : Attribute). same_bytes a.name n in
     let place : position_or_len test schema ≡ k =
@@ -41,10 +40,10 @@ rows_same f schema same (row ∷ rest) h =
     ap (λ r. r ∷ map f rest) (same row (All-head (λ r. IsRowOf r schema) row rest h))
     ∙ ap (λ rs. row ∷ rs) (rows_same f schema same rest (All-tail (λ r. IsRowOf r schema) row rest h))
 
-drop_next : {X : Type 0} (xs : List X) (k : ℕ) (d : X) → k < length xs → drop k xs ≡ get_or xs k d ∷ drop (k + 1) xs
+pub drop_next : {X : Type 0} (xs : List X) (k : ℕ) (d : X) → k < length xs → drop k xs ≡ get_or xs k d ∷ drop (k + 1) xs
 drop_next xs k d p = rw add-one (drop-cons xs k d p)
 
-drop_none : {X Y : Type 0} (xs : List X) (ys : List Y) (k : ℕ) → length xs ≡ length ys → drop k xs ≡ [] → [] ≡ drop k ys
+pub drop_none : {X Y : Type 0} (xs : List X) (ys : List Y) (k : ℕ) → length xs ≡ length ys → drop k xs ≡ [] → [] ≡ drop k ys
 drop_none [] [] zero e f = refl
 drop_none [] [] (suc k) e f = refl
 drop_none [] (y ∷ ys) k e f = absurd (omega arith)
@@ -89,9 +88,3 @@ rows_kept schema rows heading whole =
     rows_same (restructured_row schema schema) schema
     (λ row fits. row_same (heading_of schema) schema 0 row heading.limits.distinct fits (sym (attributes_of-heading_of schema)) (AreAttributes-heading_of schema heading.attributes))
     rows whole.whole
-
--- a whole table no column of which has a home, under its own schema
-pub table_kept : (t : StoredTable) (new : List Attribute) → HasNoHomes t → IsTable t → t.schema ≡ new → table_without_homes new (restructured_rows t.schema new t.rows) ≡ t
-table_kept t new plain whole e =
-    subst (λ s. table_without_homes s (restructured_rows t.schema s t.rows) ≡ t) e
-    (ap (λ rows. table_without_homes t.schema rows) (rows_kept t.schema t.rows whole.schema whole.rows) ∙ sym plain)

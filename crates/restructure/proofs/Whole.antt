@@ -1,15 +1,14 @@
 -- What a restructuring makes is of the new schema.
-use Rattle.std.proofs.Common.{◌≡◌, ℕ, zero, suc, ◌<◌, ◌≤◌, ◌^◌, ℤ, pos, negsuc, Bool, true, false, cond, leb, ◌&&◌, List, [], ◌∷◌, length, get_or, map, All, Option, Some, None, refl, ap, sym, subst, ◌∙◌, arith}
+use Rattle.std.proofs.Common.{◌≡◌, ℕ, ◌<◌, ◌≤◌, ◌^◌, ℤ, pos, negsuc, Bool, true, false, cond, leb, ◌&&◌, List, [], ◌∷◌, length, get_or, map, All, Option, Some, None, refl, ap, ◌∙◌, arith}
 use Rattle.std.specs.Int.{w32, w64}
 use Rattle.std.specs.Prelude.{FitsSigned}
 use Rattle.std.proofs.lemmas.List.{length-map}
-use Rattle.std.proofs.lemmas.List.Elements.{All-head, All-tail, All-nil}
+use Rattle.std.proofs.lemmas.List.Elements.{All-head, All-tail}
 use Rattle.mk_value.specs.Limits.{max_bytes}
-use Rattle.mk_value.specs.Heading.{Domain, Heading, no_attributes, attribute, Attribute, attributes_of, heading_of, find}
-use Rattle.mk_value.specs.Data.{Datum, integer, long, text, bytes, relation, tuple_of, rows_of, relation_of, IsText, IsOf, IsTupleOf, AreTuplesOf, IsRowOf, AreRowsOf}
+use Rattle.mk_value.specs.Heading.{Domain, Heading, no_attributes, attribute, Attribute, heading_of, find}
+use Rattle.mk_value.specs.Data.{Datum, integer, long, text, bytes, relation, tuple_of, relation_of, IsText, IsOf, IsTupleOf, AreTuplesOf, IsRowOf, AreRowsOf}
 use Rattle.mk_value.specs.Tables.{domain_at}
-use Rattle.mk_value.proofs.Converting.{default_is_of, relation_of-rows_of}
-use Rattle.mk_value.proofs.Headings.{heading_of-attributes_of}
+use Rattle.mk_value.proofs.Converting.{default_is_of}
 use Rattle.mk_value.proofs.Relations.{rows_of-relation_of, IsOf-relation, row_fits}
 use Rattle.tables.specs.Homes.{rows_in}
 use Rattle.tables.specs.Tables.{inner_schema}
@@ -40,10 +39,10 @@ narrowed_by : (b : Bool) (z : ℤ) → (b ≡ true → FitsSigned w32 z) → Fit
 narrowed_by true z h = h refl
 narrowed_by false z h = default_is_of Domain.integer
 
-narrowed_fits : (z : ℤ) → FitsSigned w32 (narrowed z)
+pub narrowed_fits : (z : ℤ) → FitsSigned w32 (narrowed z)
 narrowed_fits z = narrowed_by (is_within (2 ^ 31) z) z (is_of_tells (integer z) Domain.integer).0
 
-widened_fits : (z : ℤ) → FitsSigned w32 z → FitsSigned w64 z
+pub widened_fits : (z : ℤ) → FitsSigned w32 z → FitsSigned w64 z
 widened_fits (pos n) h = record { sfits = let p = h.sfits in omega arith }
 widened_fits (negsuc n) h = record { sfits = let p = h.sfits in omega arith }
 
@@ -51,7 +50,7 @@ text_by : (b : Bool) (content : List ℕ) → (b ≡ true → IsOf (text content
 text_by true content h = h refl
 text_by false content h = default_is_of Domain.text
 
-text_fits : (content : List ℕ) → length content ≤ max_bytes → IsOf (text (text_or_empty content)) Domain.text
+pub text_fits : (content : List ℕ) → length content ≤ max_bytes → IsOf (text (text_or_empty content)) Domain.text
 text_fits content p =
     let short : leb (length content) max_bytes ≡ true = (is_of_tells (bytes content) Domain.bytes).1 p in
     text_by _ content (λ e. (is_of_tells (text content) Domain.text).0 (ap (λ b. b && leb (length content) max_bytes) e ∙ short))

@@ -86,6 +86,12 @@ abbrev mutual
       (empty_home new (map (λ _. default_of new) rows))
       ∷ homes_under old rest homes rows
 
+-- the home of the column of a property that has this place in the old schema, or none
+abbrev pub home_under : List Attribute → Option ℕ → Domain → List Home → List (List Datum) → Home
+home_under old place new homes rows =
+    unwrap_or (option_map (λ k. restructured_home (domain_at old k) new (slice_index_or homes k no_home) (column_of rows k)) place)
+    (empty_home new (map (λ _. default_of new) rows))
+
 -- a table under a new schema
 abbrev pub restructured : StoredTable → List Attribute → StoredTable
 restructured t new = record {

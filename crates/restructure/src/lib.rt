@@ -1,10 +1,9 @@
 //! Restructuring: a table under another schema.
 //!
-//! Each row is made anew, property by property of the new schema: a property takes the value of the old one of its name, as far as
-//! the kinds allow, and its default where they do not or where there was none. Views inside are restructured row by row. A plain
-//! column whose name and kind stay keeps its home.
+//! Each column is made of the old one of its name, as far as the kinds allow, and of defaults where they do not or where there was none.
+//! Views inside are restructured row by row. A plain column whose name and kind stay is shared with the old table, and keeps its home.
 //!
-//! It stands on the tables of `view_store`, and knows nothing of files, of commands, or of how structures are written.
+//! It stands on the columns of `tables`, and knows nothing of files, of commands, or of how structures are written.
 #![tactic(auto)]
 
 mod conversion;

@@ -1,16 +1,19 @@
-//! Tables, rows and values under another schema.
-ghost use Rattle.std.specs.Prelude.{◌≡◌, ◌<◌, length, map, IfOk, MatchOption};
-ghost use Rattle.mk_value.specs.Data.{AreRowsOf, IsOf, IsRowOf};
-ghost use Rattle.mk_value.specs.Heading.{find};
+//! Tables and columns under another schema.
+ghost use Rattle.std.specs.Prelude.{◌≡◌, ◌<◌, ◌≤◌, All, length, map, IfOk, MatchOption};
+ghost use Rattle.mk_value.specs.Heading.{Domain, heading_of};
 ghost use Rattle.mk_value.specs.Kinds.{domain_of};
-ghost use Rattle.mk_value.specs.Values.{datum_of};
+ghost use Rattle.mk_value.specs.Limits.{max_rows};
+ghost use Rattle.tables.specs.Columns.{AreColumnsIn, IsTableOf};
+ghost use Rattle.tables.specs.Read.{IsWhole, values_read};
 ghost use Rattle.tables.specs.Rests.{RestsOn};
-ghost use Rattle.restructure.specs.Restructuring.{places_in, restructured, restructured_row, restructured_rows, restructured_value, value_under};
+ghost use Rattle.tables.specs.Stored.{stored_of};
+ghost use Rattle.restructure.specs.Columns.{IsColumnUnder, IsUnder};
+ghost use Rattle.restructure.specs.Restructuring.{restructured};
 
-use crate::conversion::convert;
-use mk_value::{Kind, Memory, Row, Rows, Schema, TableRead, Value, default_of};
+use crate::conversion::{to_bytes, to_integers, to_longs, to_texts};
+use mk_value::{Kind, Memory, Schema, TableRead};
 use std::alloc::Global;
-use view_store::{Table, from_rows};
+use tables::{Col, Cols, Column, Shared, Table, Tables, default_column, share};
 
 /// The table under a new schema. Each property of it takes, row by row, what the old property of its name has:
 ///
@@ -20,7 +23,8 @@ use view_store::{Table, from_rows};
 ///   the empty text;
 /// - the default where the kinds are others, or where the old schema has no property of that name.
 ///
-/// Properties that the new schema lacks are gone. It costs what the values of both tables hold.
+/// Properties that the new schema lacks are gone. A plain column whose values stay as they are is shared with the old table, and costs a
+/// count; it keeps its home where the kind is the same. Any other costs its values.
 ///
 /// # Errors
 ///
@@ -30,93 +34,122 @@ pub fn restructure(alloc: Global, old: &Table, schema: &Schema) -> Result<Table,
     ensures rests { IfOk result (λ table. RestsOn table old.now) }
     ensures same { old.now.schema ≡ schema.now → IfOk result (λ table. table ≡ old.now) }
 {
-    let rows = restructure_rows(alloc, old.rows(), old.schema(), schema)?;
-    from_rows(schema.copy()?, rows)
+    // Both are whole: so the new table rests on the old one.
+    let _rows = old.len();
+    let _properties = schema.len();
+    let schema = segments::Shared::of(alloc, schema.copy()?)?;
+    restructure_table(alloc, old, &schema)
 }
 
-/// The rows under a new schema.
+/// The table under a new schema, which it has together with others.
 #[cycle(restructure)]
-fn restructure_rows(alloc: Global, rows: &Rows, old: &Schema, new: &Schema) -> Result<Rows, Memory>
-    requires { AreRowsOf rows.now old.now }
-    ensures value { IfOk result (λ made. made ≡ restructured_rows old.now new.now rows.now) }
-    ensures whole { IfOk result (λ made. AreRowsOf made new.now) }
-{
-    if rows.is_empty() {
-        return Ok(Rows::new(alloc));
-    }
-    let places = find_places(alloc, old, new)?;
-    let mut made = Rows::new(alloc);
-    for row in rows.as_slice() {
-        made.push(restructure_row(alloc, row, old, new, &places)?)?;
-    }
-    Ok(made)
-}
-
-/// The place of each new property in the old schema.
-fn find_places(alloc: Global, old: &Schema, new: &Schema) -> Result<Vec<Option<usize>>, Memory>
-    ensures { IfOk result (λ places. places.items ≡ places_in old.now new.now) }
-{
-    let mut places = Vec::new(alloc);
-    for prop in new.as_slice() {
-        places.push(old.find(prop.name.as_str()))?;
-    }
-    Ok(places)
-}
-
-/// The row under a new schema, whose properties stand at these places of the old one.
-#[cycle(restructure)]
-fn restructure_row(
+fn restructure_table(
     alloc: Global,
-    row: &Row,
-    old: &Schema,
-    new: &Schema,
-    places: &[Option<usize>],
-) -> Result<Row, Memory>
-    requires row { IsRowOf row.now old.now }
-    requires places { places.now ≡ places_in old.now new.now }
-    ensures { IfOk result (λ made. made ≡ restructured_row old.now new.now row.now) }
+    old: &Table,
+    new: &segments::Shared<Schema>,
+) -> Result<Table, Memory>
+    ensures { IfOk result (λ table. table ≡ restructured old.now new.now) }
+{
+    let cols = restructure_cols(alloc, old, new.get())?;
+    Table::of_columns(new, old.len(), cols)
+}
+
+/// A column for each property of the new schema.
+#[cycle(restructure)]
+fn restructure_cols(alloc: Global, old: &Table, new: &Schema) -> Result<Cols, Memory>
+    ensures { IfOk result (AreColumnsIn (restructured old.now new.now)) }
 {
     let props = new.as_slice();
-    let mut made = Row::new(alloc);
+    let mut cols = Cols::new(alloc);
     for at in 0..props.len() {
         let prop = &props[at];
-        made.push(restructure_cell(alloc, row, old, places[at], &prop.kind)?)?;
+        let place = old.schema().find(prop.name.as_str());
+        cols.push(restructure_place(alloc, old, place, &prop.kind)?)?;
     }
-    Ok(made)
+    Ok(cols)
 }
 
-/// The value of a row under a property that has this place in the old schema.
+/// The column of a new property that has this place in the old schema, or none.
 #[cycle(restructure)]
-fn restructure_cell(
+fn restructure_place(
     alloc: Global,
-    row: &Row,
-    old: &Schema,
+    old: &Table,
     place: Option<usize>,
     kind: &Kind,
-) -> Result<Value, Memory>
-    requires row { IsRowOf row.now old.now }
-    requires place { MatchOption place (Unit {0}) (λ k. k < length old.now) }
-    ensures { IfOk result (λ made. datum_of made ≡ value_under old.now place (domain_of kind.now) row.now) }
+) -> Result<Col, Memory>
+    requires { MatchOption place (Unit {0}) (λ k. k < length old.now.schema) }
+    ensures { IfOk result (λ col. IsColumnUnder old.now place (domain_of kind.now) (stored_of col)) }
 {
     match place {
-        Some(col) => {
-            let prop = &old.as_slice()[col];
-            restructure_value(alloc, &row.as_slice()[col], &prop.kind, kind)
-        }
-        None => Ok(default_of(alloc, kind)),
+        Some(at) => restructure_column(alloc, old.column(at), old.len(), kind),
+        None => default_column(alloc, kind, old.len()),
     }
 }
 
-/// The value of a kind under a new kind.
+/// The column of so many rows under a kind.
 #[cycle(restructure)]
-fn restructure_value(alloc: Global, value: &Value, old: &Kind, new: &Kind) -> Result<Value, Memory>
-    requires { IsOf (datum_of value.now) (domain_of old.now) }
-    ensures { IfOk result (λ made. datum_of made ≡ restructured_value (domain_of old.now) (domain_of new.now) (datum_of value.now)) }
+fn restructure_column(
+    alloc: Global,
+    old: Column<'_>,
+    rows: usize,
+    kind: &Kind,
+) -> Result<Col, Memory>
+    requires whole { IsWhole old }
+    requires rows { rows ≡ length (values_read old) }
+    requires few { rows ≤ max_rows }
+    ensures { IfOk result (λ col. IsUnder (domain_of old.entry.kind.now) (domain_of kind.now) (stored_of old.entry.col.now) (stored_of col)) }
 {
-    match (value, old, new) {
-        (Value::V(rows), Kind::V(old), Kind::V(new)) => {
-            Ok(Value::V(restructure_rows(alloc, rows, old, new)?))
-        }
-        _ => convert(alloc, value, new),
+    match kind {
+        Kind::I => to_integers(alloc, old, rows),
+        Kind::L => to_longs(alloc, old, rows),
+        Kind::S => to_texts(alloc, old, rows),
+        Kind::B => to_bytes(alloc, old, rows),
+        Kind::V(schema) => to_views(alloc, old, rows, schema),
     }
+}
+
+/// The column as one of views of a schema.
+#[cycle(restructure)]
+fn to_views(alloc: Global, old: Column<'_>, rows: usize, schema: &Schema) -> Result<Col, Memory>
+    requires whole { IsWhole old }
+    requires rows { rows ≡ length (values_read old) }
+    requires few { rows ≤ max_rows }
+    ensures { IfOk result (λ col. IsUnder (domain_of old.entry.kind.now) (Domain.relation (heading_of schema.now)) (stored_of old.entry.col.now) (stored_of col)) }
+{
+    match old.kind {
+        Kind::V(_) => Ok(Col::Views(restructure_views(alloc, old.views(), schema)?)),
+        _ => {
+            let kind = Kind::V(schema.copy()?);
+            default_column(alloc, &kind, rows)
+        }
+    }
+}
+
+/// The tables in the rows of a view column under a new schema.
+#[cycle(restructure)]
+fn restructure_views(alloc: Global, old: &Tables, new: &Schema) -> Result<Tables, Memory>
+    ensures made { IfOk result (λ tables. tables ≡ map (λ t. restructured t new.now) old.now) }
+    ensures whole { IfOk result (All (IsTableOf new.now)) }
+{
+    let schema = segments::Shared::of(alloc, new.copy()?)?;
+    let mut tables = Tables::new(alloc);
+    for at in 0..old.len() {
+        tables.push(restructure_inner(alloc, old.get(at), &schema)?)?;
+    }
+    Ok(tables)
+}
+
+/// The table in a row of a view column under a new schema.
+#[cycle(restructure)]
+fn restructure_inner(
+    alloc: Global,
+    old: &Shared,
+    new: &segments::Shared<Schema>,
+) -> Result<Shared, Memory>
+    ensures made { IfOk result (λ table. table ≡ restructured old.now new.now) }
+    ensures whole { IfOk result (IsTableOf new.now) }
+{
+    let table = restructure_table(alloc, old.table(), new)?;
+    let _rows = table.len();
+    share(alloc, table)
 }

@@ -1,29 +1,28 @@
 -- Edits that are due no refusal.
-use Rattle.std.proofs.Common.{◌≡◌, ℕ, zero, suc, ◌+◌, ◌<◌, ◌≤◌, Bool, true, false, cond, ltb, leb, List, [], ◌∷◌, length, get_or, Option, Some, None, Result, Ok, Err, refl, ap, sym, subst, ◌∙◌, arith}
+use Rattle.std.proofs.Common.{◌≡◌, ℕ, ◌+◌, ◌<◌, ◌≤◌, true, false, cond, ltb, leb, List, [], ◌∷◌, length, Option, Some, None, Result, Ok, Err, refl, ap, sym, subst, ◌∙◌, arith}
 use Rattle.std.specs.Option.{option_map, option_or, unwrap_or}
 use Rattle.std.proofs.lemmas.Bool.Decides.{nat_tests}
 use Rattle.mk_value.specs.declared.path.Step.{Step}
-use Rattle.mk_value.specs.Heading.{Domain, Attribute, find}
+use Rattle.mk_value.specs.Heading.{Attribute, find}
 use Rattle.mk_value.specs.Data.{Datum, IsOf, cell}
 use Rattle.mk_value.specs.Limits.{max_rows}
 use Rattle.mk_value.specs.Paths.{Route}
 use Rattle.mk_value.specs.Tables.{domain_at}
-use Rattle.cmd_text.specs.declared.refusal.Refusal.{Refusal}
 use Rattle.cmd_text.specs.declared.refusal.Refusal.TheVariants.{NoProp, Range}
 use Rattle.std.specs.Result.{result_unwrap_or}
 use Rattle.view_store.specs.declared.error.EditError.TheVariants as edits
 use Rattle.view_store.specs.declared.error.EditError.{EditError}
 use Rattle.view_store.specs.declared.error.EditError.TheVariants.{NoView, OutOfRange}
 use Rattle.view_store.specs.Edits.{Edit, table_at}
-use Rattle.view_store.specs.Fitting.{is_of, are_of}
+use Rattle.view_store.specs.Fitting.{are_of}
 use Rattle.tables.specs.Homes.{rows_in}
-use Rattle.view_store.specs.Refusals.{at_view, due, due_in, kind_refusal, look_due, look_due_in, or_at_end, range_refusal, rows_at, schema_at, schema_in, schema_of, value_refusal}
+use Rattle.view_store.specs.Refusals.{at_view, due, due_in, kind_refusal, look_due_in, or_at_end, range_refusal, rows_at, schema_at, schema_in, schema_of, value_refusal}
 use Rattle.tables.specs.Tables.{StoredTable, inner_schema, inner_table, place_of_property}
-use Rattle.view_store.specs.Views.{NamedTable, table_of, view_at}
+use Rattle.view_store.specs.Views.{NamedTable, table_of}
 use Rattle.view_store.proofs.Fitting.{is_of_tells}
 use Rattle.session.specs.Refusals.{by_rows, by_schema, literal_refusal, refusal_of_edit, row_refusal, rows_refusal}
 use Rattle.session.proofs.Fitted.{unless_none}
-use Rattle.session.specs.Values.{domain_named, rows_named, schema_named, size_named, values_for}
+use Rattle.session.specs.Values.{domain_named, schema_named, size_named, values_for}
 
 some_none : {X : Type 0} (x : X) → Some x ≡ None → ⊥
 some_none x e = let f : ◌≡◌ {A = Option _} (Some x) None = e in cc

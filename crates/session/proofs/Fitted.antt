@@ -1,10 +1,9 @@
 -- The tests whether a literal fits and is short tell just that.
-use Rattle.std.proofs.Common.{◌≡◌, ◌↔◌, ℕ, ◌+◌, ◌<◌, ◌≤◌, ◌^◌, ℤ, pos, negsuc, Bool, true, false, cond, leb, IsTrue, List, [], ◌∷◌, ◌++◌, length, drop, Option, Some, None, refl, ap, sym, subst, ◌∙◌, arith, ◌&&◌, append_assoc, append-nil, inl, inr}
+use Rattle.std.proofs.Common.{◌≡◌, ◌↔◌, ℕ, ◌+◌, ◌≤◌, ◌^◌, ℤ, pos, negsuc, Bool, true, false, leb, IsTrue, List, [], ◌∷◌, ◌++◌, length, drop, Option, Some, None, refl, ap, sym, ◌∙◌, arith, ◌&&◌, append_assoc, append-nil, inl, inr}
 use Rattle.std.specs.Prelude.{◌⊎◌}
 use Rattle.std.specs.Bool.{Decides}
 use Rattle.std.specs.Int.{w32}
 use Rattle.std.specs.Prelude.{FitsSigned}
-use Rattle.std.specs.List.{list_all}
 use Rattle.std.proofs.lemmas.Bool.{false≢true}
 use Rattle.std.proofs.lemmas.List.{drop_all}
 use Rattle.std.proofs.lemmas.Bool.Decides.{Decides-ltb, Decides-and, same_from_decides, nat_tests}
@@ -13,7 +12,7 @@ use Rattle.mk_value.specs.Limits.{max_bytes, max_rows}
 use Rattle.mk_value.specs.Heading.{Domain, Heading, no_attributes, attribute, Attribute, find}
 use Rattle.mk_value.specs.Data.{Datum, integer, long, text, bytes, relation, Tuple, no_values, value, Relation, no_tuples, tuple, rows_of, IsOf}
 use Rattle.mk_value.specs.Tables.{domain_at}
-use Rattle.view_store.specs.Fitting.{is_within, is_of, are_of}
+use Rattle.view_store.specs.Fitting.{is_within, are_of}
 use Rattle.view_store.proofs.Fitting.{is_of_tells}
 use Rattle.cmd_text.specs.declared.refusal.Refusal.TheVariants.{Kind, Limit, Memory}
 use Rattle.cmd_text.specs.declared.refusal.Refusal.{Refusal}

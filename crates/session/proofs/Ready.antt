@@ -1,6 +1,5 @@
 -- An empty file is as every world of the session needs it.
 use Rattle.std.proofs.Common.{◌≡◌, ℕ, ◌≤◌, List, [], ◌∷◌, length, refl, arith}
-use Rattle.host_io.specs.Disk.{DiskState}
 use Rattle.lines.specs.Machine.{State}
 use Rattle.lines.specs.Crash.{IsReady}
 use Rattle.session.specs.World.{World}

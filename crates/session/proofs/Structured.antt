@@ -1,5 +1,5 @@
 -- A view under another structure.
-use Rattle.std.proofs.Common.{◌≡◌, ℕ, Bool, true, false, cond, List, Some, refl, ap, ◌∙◌}
+use Rattle.std.proofs.Common.{◌≡◌, ℕ, true, false, cond, List, Some, refl, ap, ◌∙◌}
 use Rattle.mk_value.specs.Heading.{Attribute, IsHeading}
 use Rattle.mk_value.specs.Names.{IsName, same_bytes}
 use Rattle.restructure.specs.Restructuring.{restructured}

@@ -1,9 +1,9 @@
 -- Texts that were made of a list one by one.
-use Rattle.std.proofs.Common.{◌≡◌, ℕ, zero, suc, ◌+◌, ◌<◌, ◌≤◌, List, [], ◌∷◌, ◌++◌, length, map, drop, refl, ap, sym, ◌∙◌, arith, append_assoc, append-nil}
+use Rattle.std.proofs.Common.{◌≡◌, ℕ, ◌+◌, ◌≤◌, List, [], ◌∷◌, ◌++◌, length, map, drop, refl, ap, sym, ◌∙◌, arith, append_assoc, append-nil}
 use Rattle.std.specs.List.{flat_map}
 use Rattle.std.proofs.lemmas.List.{length-append, drop_all}
 use Rattle.mk_value.specs.Buffer.{Buffer}
-use Rattle.cmd_text.specs.Replies.{contents, reply_line, lines_text}
+use Rattle.cmd_text.specs.Replies.{contents, reply_line}
 use Rattle.struct_text.specs.Spelling.{spelling}
 use Rattle.tables.specs.Tables.{StoredTable}
 use Rattle.view_store.specs.Views.{NamedTable, view_names}

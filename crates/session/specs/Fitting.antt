@@ -1,5 +1,5 @@
 -- Whether a literal fits a property, and whether it is as short as a value may be: as tests.
-use Rattle.std.specs.Prelude.{◌^◌, Bool, true, false, ◌&&◌, nat_le, List, [], ◌∷◌, length}
+use Rattle.std.specs.Prelude.{◌^◌, Bool, true, false, ◌&&◌, nat_le, List, ◌∷◌, length}
 use Rattle.std.specs.List.{list_all}
 use Rattle.mk_value.specs.Limits.{max_bytes, max_rows}
 use Rattle.mk_value.specs.Heading.{Domain, Heading, no_attributes, attribute, Attribute}

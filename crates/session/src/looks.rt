@@ -11,9 +11,9 @@ ghost use Rattle.session.specs.Values.{rows_named, size_named};
 use crate::Session;
 use crate::refusals::{of_edit, of_memory};
 use cmd_text::Refusal;
-use mk_value::{Memory, Name, Path, Row, Rows, Schema, TableRead, Text, Texts, print_row};
+use mk_value::{Memory, Name, Path, Row, Schema, TableRead, Text, Texts, print_row};
 use std::alloc::Global;
-use view_store::Table;
+use tables::{Shared, Table};
 
 impl Session {
     /// The number of rows of a view.
@@ -32,8 +32,8 @@ impl Session {
         ensures due { AnswersDue (by_rows self.now.root path.now) result }
         ensures texts { IfOk result (λ texts. contents texts ≡ map row_text (rows_named self.now.root path.now)) }
     {
-        match self.root.rows(path) {
-            Ok(rows) => row_texts(self.alloc, rows).map_err(of_memory),
+        match self.root.table_at(path) {
+            Ok(table) => row_texts(self.alloc, table.table()).map_err(of_memory),
             Err(error) => Err(of_edit(error)),
         }
     }
@@ -51,13 +51,14 @@ impl Session {
     }
 }
 
-/// The texts of rows.
-fn row_texts(alloc: Global, rows: &Rows) -> Result<Texts, Memory>
-    ensures { IfOk result (λ texts. contents texts ≡ map row_text rows.now) }
+/// The texts of the rows of a table, in order. Beside the texts one row at a time takes memory.
+fn row_texts(alloc: Global, table: &Table) -> Result<Texts, Memory>
+    ensures { IfOk result (λ texts. contents texts ≡ map row_text table.now.rows) }
 {
     let mut texts = Texts::new(alloc);
-    for row in rows.as_slice() {
-        texts.push(text_of_row(alloc, row)?)?;
+    for at in 0..table.len() {
+        let row = table.row(alloc, at)?;
+        texts.push(text_of_row(alloc, &row)?)?;
     }
     Ok(texts)
 }
@@ -71,7 +72,7 @@ fn text_of_row(alloc: Global, row: &Row) -> Result<Text, Memory>
 }
 
 /// The structure texts of names and their tables.
-fn structure_texts(alloc: Global, names: &[Name], tables: &[Table]) -> Result<Texts, Memory>
+fn structure_texts(alloc: Global, names: &[Name], tables: &[Shared]) -> Result<Texts, Memory>
     requires { length names.now ≡ length tables.now }
     ensures { IfOk result (λ texts. contents texts ≡ texts_of names.now tables.now) }
 {

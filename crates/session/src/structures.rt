@@ -16,7 +16,7 @@ use cmd_text::Refusal;
 use mk_value::{MAX_VIEWS, Name, Schema, TableRead, Text};
 use restructure::restructure;
 use std::alloc::Global;
-use view_store::{Table, empty_table};
+use tables::{Table, empty_table};
 
 impl Session {
     /// Gives the view of a name a structure, and gives its text.

@@ -1,6 +1,5 @@
-mod Columns
-mod Followed
-mod Noted
-mod PutBlocks
-mod SameRows
-mod Settling
+pub mod Committed
+pub mod Homeless
+pub mod Marked
+pub mod NewStore
+pub mod Resting

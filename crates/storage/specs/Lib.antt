@@ -1,1 +1,11 @@
-pub mod Following
+pub mod Causes
+pub mod Committing
+pub mod Marking
+pub mod NewStore
+pub mod Planning
+pub mod Reverting
+pub mod Seen
+pub mod Spaces
+pub mod Stored
+pub mod StoredCode
+pub mod Syncing

@@ -1,10 +1,24 @@
-//! A store over a file: the commit that follows another.
+//! A store over its file: it is made in an empty file or opened, its views are edited, and its commits outlast a crash.
 //!
-//! So far it has the definition of the commit that follows (`specs/Following.antt`): which columns of the views are due to be written, where
-//! their blocks go, what the directory and the mark of that commit are. Its law says that such a commit is whole and sound to write. It
-//! stands on `recovery` for what a commit is and where it stands, and on `commit_writes` for the order of writes.
+//! A `Store` holds the commit that its file stands for and the views as they were edited since. It stands on `recovery` for what a file
+//! stands for, on `commit_plan` for the commit that follows, and on `commit_writes` for the order of writes. It knows nothing of
+//! commands.
 #![tactic(auto)]
 
+mod checking;
+mod creation;
+mod edits;
+mod error;
 mod laws;
+mod marks;
+mod mode;
+mod reverting;
+mod space;
+mod store;
 
-pub use laws::{a_crash_leaves_a_commit, the_next_commit_is_sound};
+pub use checking::check;
+pub use error::{PlanError, RevertError};
+pub use laws::a_crash_leaves_a_commit;
+pub use mode::Mode;
+pub use space::{Report, Space};
+pub use store::Store;

@@ -1,11 +1,11 @@
 -- The homes of a table column by column, and those of a view column row by row.
-use Rattle.std.proofs.Common.{◌≡◌, ℕ, zero, suc, ◌+◌, ◌<◌, List, [], ◌∷◌, ◌++◌, length, get_or, set, take, drop, replicate, pos, refl, ap, sym, subst, ◌∙◌, arith}
-use Rattle.mk_value.specs.Heading.{Domain, Heading, Attribute, heading_of}
-use Rattle.mk_value.specs.Data.{Datum, integer}
+use Rattle.std.proofs.Common.{◌≡◌, ℕ, zero, suc, ◌+◌, ◌<◌, List, [], ◌∷◌, length, get_or, refl, ap, subst, ◌∙◌, arith}
+use Rattle.mk_value.specs.Heading.{Attribute, heading_of}
+use Rattle.mk_value.specs.Data.{Datum}
 use Rattle.mk_value.specs.Tables.{domain_at}
-use Rattle.tables.specs.Homes.{PlainColumn, Home, no_home, ColumnHomes, no_columns, column, columns_of, column_homes, RowHomes, no_rows, row, each_of, row_homes, column_of, rows_in}
-use Rattle.tables.specs.Rests.{homed_in, homed_rows, homed_from, Rest}
-use Rattle.tables.specs.Shapes.{IsHomeOf, AreRowHomesOf, AreHomesOf}
+use Rattle.tables.specs.Homes.{Home, no_home, ColumnHomes, no_columns, column, columns_of, column_homes, RowHomes, no_rows, row, each_of, row_homes, column_of}
+use Rattle.tables.specs.Rests.{homed_in, homed_from, Rest}
+use Rattle.tables.specs.Shapes.{IsHomeOf, AreHomesOf}
 use Rattle.tables.proofs.Apart.{Rest-append}
 use Rattle.tables.proofs.Resting.{Rest-none}
 

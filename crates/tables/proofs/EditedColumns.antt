@@ -1,10 +1,10 @@
 -- One column after an edit: its home has its shape, and the homed columns in it are among those before.
-use Rattle.std.proofs.Common.{◌≡◌, ℕ, zero, suc, ◌+◌, ◌<◌, List, [], ◌∷◌, ◌++◌, length, get_or, set, map, take, drop, replicate, pos, refl, ap, sym, subst, ◌∙◌, arith}
+use Rattle.std.proofs.Common.{◌≡◌, ℕ, ◌+◌, ◌<◌, List, [], ◌∷◌, ◌++◌, length, get_or, set, map, take, drop, replicate, pos, refl, ap, sym, subst, ◌∙◌}
 use Rattle.std.proofs.lemmas.List.{take-append-drop, drop-drop}
-use Rattle.mk_value.specs.Heading.{Domain, Heading, no_attributes, attribute, Attribute, attributes_of}
+use Rattle.mk_value.specs.Heading.{Domain, Heading, no_attributes, attribute, attributes_of}
 use Rattle.mk_value.specs.Data.{Datum, integer}
-use Rattle.tables.specs.Homes.{PlainColumn, Home, no_home, tables, column_homes, each_of, row_homes, column_of, rows_in, empty_home, empty_homes_from, empty_homes_in}
-use Rattle.tables.specs.Tables.{inner_schema, homes_in, home_with}
+use Rattle.tables.specs.Homes.{PlainColumn, Home, tables, column_homes, each_of, column_of, rows_in, empty_home, empty_homes_from}
+use Rattle.tables.specs.Tables.{homes_in, home_with}
 use Rattle.tables.specs.Rows.{inserted, removed, home_inserted, home_removed}
 use Rattle.tables.specs.Rests.{homed_in, homed_rows, homed_from, Rest}
 use Rattle.tables.specs.Shapes.{IsHomeOf, AreRowHomesOf, AreHomesOf}

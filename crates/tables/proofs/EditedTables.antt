@@ -1,22 +1,21 @@
 -- A table after an edit: its homes have its shape, and it rests on the table before.
-use Rattle.std.proofs.Common.{◌≡◌, ◌≢◌, ℕ, zero, suc, ◌+◌, ◌<◌, ◌≤◌, ◌⊎◌, ⊎_elim, List, [], ◌∷◌, length, get_or, set, map, pos, refl, ap, sym, subst, ◌∙◌, arith, zero-add}
+use Rattle.std.proofs.Common.{◌≡◌, ◌≢◌, ℕ, zero, suc, ◌<◌, ⊎_elim, List, [], ◌∷◌, length, get_or, set, map, pos, refl, ap, sym, subst, ◌∙◌, arith, zero-add}
 use Rattle.std.proofs.lemmas.List.{get_or-map, get_or-set_same, get_or-set_other, length-map, length-set}
 use Rattle.mk_value.specs.Heading.{Domain, Heading, Attribute, attributes_of, heading_of}
 use Rattle.mk_value.specs.Data.{Datum, integer, relation, relation_of, cell}
 use Rattle.mk_value.specs.Tables.{domain_at}
 use Rattle.mk_value.proofs.Headings.{heading_of-attributes_of}
 use Rattle.mk_value.proofs.Relations.{rows_of-relation_of}
-use Rattle.tables.specs.Homes.{PlainColumn, Home, no_home, tables, column_homes, each_of, column_of, rows_in, empty_homes_from, empty_homes_in}
+use Rattle.tables.specs.Homes.{Home, no_home, column_homes, column_of, rows_in, empty_homes_in}
 use Rattle.tables.specs.Tables.{StoredTable, inner_schema, inner_table, homes_in, home_with, with_value, with_inner, table_without_homes}
 use Rattle.tables.specs.Rows.{inserted, removed, home_inserted, homes_inserted, home_removed, with_rows_inserted, with_rows_removed}
-use Rattle.tables.specs.Rests.{homed_in, homed_from, Rest, RestsOn}
-use Rattle.tables.specs.Shapes.{IsHomeOf, AreRowHomesOf, AreHomesOf, HasHomes}
+use Rattle.tables.specs.Rests.{homed_in, homed_from, homed_columns, Rest, RestsOn}
+use Rattle.tables.specs.Shapes.{IsHomeOf, AreHomesOf, HasHomes}
 use Rattle.tables.proofs.Apart.{Rest-self}
 use Rattle.tables.proofs.Homeless.{same_or_not, column-set, column-set_same}
 use Rattle.tables.proofs.Lists.{map-inserted, map-removed}
 use Rattle.tables.proofs.Resting.{Rest-none, homed_from-empty}
-use Rattle.tables.proofs.ColumnwiseHomes.{HaveShape, shape_each, each_shape, columns_rest, row_homes-each_of}
-use Rattle.tables.proofs.RowHomes.{AreEach, each-at}
+use Rattle.tables.proofs.ColumnwiseHomes.{HaveShape, shape_each, each_shape, columns_rest}
 use Rattle.tables.proofs.EditedColumns.{empty_homes-shape, home_inserted-shape, home_inserted-rests, home_removed-shape, home_removed-rests, HaveShapeIn, RestIn, home_with-shape, home_with-rests, homes_in-shape}
 
 abbrev value_at : List Datum → ℕ → Datum
@@ -234,3 +233,7 @@ inner-shape t i k g h p q same =
 -- A table in which no column has a home.
 pub empty-shape : (schema : List Attribute) (rows : List (List Datum)) → HasHomes (table_without_homes schema rows)
 empty-shape schema rows = empty_homes-shape (heading_of schema) 0 rows
+
+-- A table rests on itself.
+pub RestsOn-self : (t : StoredTable) → RestsOn t t
+RestsOn-self t = Rest-self (homed_columns t)

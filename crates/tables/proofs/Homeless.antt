@@ -19,7 +19,7 @@ same_or_not m k = ⊎_elim (λ h. inr (λ e. absurd (omega arith))) (λ h. ⊎_e
 abbrev value_at : List Datum → ℕ → Datum
 value_at row k = get_or row k (integer (pos 0))
 
-empty_home-inserted : (e : Domain) (at n : ℕ) (d : Datum) (values : List Datum) → empty_home e (inserted at n d values) ≡ home_inserted at n e d (empty_home e values)
+pub empty_home-inserted : (e : Domain) (at n : ℕ) (d : Datum) (values : List Datum) → empty_home e (inserted at n d values) ≡ home_inserted at n e d (empty_home e values)
 empty_home-inserted Domain.integer at n d values = refl
 empty_home-inserted Domain.long at n d values = refl
 empty_home-inserted Domain.text at n d values = refl

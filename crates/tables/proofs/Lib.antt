@@ -2,6 +2,7 @@ pub mod Apart
 pub mod Cells
 pub mod ColumnWith
 pub mod ColumnwiseHomes
+pub mod Defaults
 pub mod EditedColumns
 pub mod EditedTables
 pub mod Gathering
@@ -10,6 +11,7 @@ pub mod Lists
 pub mod PlainColumns
 pub mod Reading
 pub mod Rebuilding
+pub mod Rested
 pub mod Resting
 pub mod RowHomes
 pub mod Setting

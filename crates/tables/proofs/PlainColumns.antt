@@ -1,9 +1,9 @@
 -- The columns that have a home are those among the plain columns.
-use Rattle.std.proofs.Common.{◌≡◌, ℕ, zero, ◌+◌, List, [], ◌∷◌, ◌++◌, drop, get_or, pos, refl, ap, sym, subst, ◌∙◌}
+use Rattle.std.proofs.Common.{◌≡◌, ℕ, ◌+◌, List, [], ◌∷◌, ◌++◌, drop, refl, ap, sym, ◌∙◌}
 use Rattle.std.specs.List.{filter}
 use Rattle.std.proofs.lemmas.List.Elements.{filter-append}
 use Rattle.mk_value.specs.Heading.{Domain, Heading, no_attributes, attribute, Attribute, attributes_of, heading_of}
-use Rattle.mk_value.specs.Data.{Datum, integer}
+use Rattle.mk_value.specs.Data.{Datum}
 use Rattle.mk_value.specs.Tables.{domain_at}
 use Rattle.mk_value.proofs.Headings.{attributes_of-heading_of}
 use Rattle.tables.specs.Homes.{Home, no_home, numbers, strings, tables, ColumnHomes, no_columns, column, RowHomes, no_rows, row, column_homes, column_of, rows_in}
@@ -11,7 +11,7 @@ use Rattle.tables.specs.Tables.{StoredTable}
 use Rattle.tables.specs.Rests.{homed_in, homed_rows, homed_from, homed_columns}
 use Rattle.tables.specs.Shapes.{IsHomeOf, AreRowHomesOf, AreHomesOf, HasHomes}
 use Rattle.tables.specs.Blocks.{is_homed, plain_in, plain_rows, plain_from, plain_columns}
-use Rattle.tables.proofs.Lists.{At, drop_at}
+use Rattle.tables.proofs.Lists.{drop_at}
 
 mutual
   pub homed_in-plain : (h : Home) (e : Domain) (values : List Datum) → IsHomeOf h e values → homed_in h e values ≡ filter is_homed (plain_in h e values)

@@ -1,13 +1,12 @@
 -- The homes of a view column row by row: their shape, and the homed columns in them.
-use Rattle.std.proofs.Common.{◌≡◌, ℕ, zero, suc, ◌+◌, ◌<◌, List, [], ◌∷◌, ◌++◌, length, get_or, set, take, drop, replicate, pos, refl, ap, sym, subst, ◌∙◌, arith, append_assoc}
-use Rattle.mk_value.specs.Heading.{Domain, Heading, attributes_of}
+use Rattle.std.proofs.Common.{◌≡◌, ℕ, zero, suc, ◌<◌, List, [], ◌∷◌, ◌++◌, length, get_or, set, take, drop, replicate, pos, refl, ap, sym, ◌∙◌, arith, append_assoc}
+use Rattle.mk_value.specs.Heading.{Domain, Heading}
 use Rattle.mk_value.specs.Data.{Datum, integer}
 use Rattle.tables.specs.Homes.{PlainColumn, Home, column_homes, row_homes, rows_in}
 use Rattle.tables.specs.Tables.{inner_schema}
 use Rattle.tables.specs.Rests.{homed_rows, homed_from, Rest}
 use Rattle.tables.specs.Shapes.{AreRowHomesOf, AreHomesOf}
 use Rattle.tables.proofs.Apart.{Rest-self, Rest-append}
-use Rattle.tables.proofs.Resting.{Rest-none}
 
 -- the homes of the tables in the rows of a view column have their shape
 abbrev pub AreEach : List (List Home) → Heading → List Datum → Type 0

@@ -54,7 +54,7 @@ column_there n k schema cols e h p f =
     let many = length-column_values n e (get_or cols k no_column) column in
     record { whole = subst (λ m. IsColumnOf m e (get_or cols k no_column)) (sym many) column; many = many; column = column }
 
-known_of_columns : (n : ℕ) (schema : List Attribute) (cols : List StoredColumn) → AreColumnsOf n schema cols → IsRebuilt (table_of_columns n schema cols)
+pub known_of_columns : (n : ℕ) (schema : List Attribute) (cols : List StoredColumn) → AreColumnsOf n schema cols → IsRebuilt (table_of_columns n schema cols)
 known_of_columns n schema cols h =
     let long = length-rows_of_columns n schema cols in
     let few = h.few in

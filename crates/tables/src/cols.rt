@@ -131,20 +131,28 @@ impl Cols {
     {
         let mut cols = Cols::new(self.allocator());
         for col in self.items.iter() {
-            cols.push(same(col)?)?;
+            cols.push(col.same()?)?;
         }
         Ok(cols)
     }
 }
 
-/// The same column, which shares all that is kept in it.
-fn same(col: &Col) -> Result<Col, Memory>
-    ensures { IfOk result (λ copy. stored_of copy ≡ stored_of col.now) }
-{
-    match col {
-        Col::Ints(column) => Ok(Col::Ints(column.same()?)),
-        Col::Blobs(column) => Ok(Col::Blobs(column.same()?)),
-        Col::Views(tables) => Ok(Col::Views(tables.same()?)),
+impl Col {
+    ghost use Rattle.tables.specs.Stored.{stored_of};
+
+    /// The same column, which shares all that is kept in it.
+    ///
+    /// # Errors
+    ///
+    /// `Memory`.
+    pub fn same(&self) -> Result<Col, Memory>
+        ensures { IfOk result (λ copy. stored_of copy ≡ stored_of self.now) }
+    {
+        match self {
+            Col::Ints(column) => Ok(Col::Ints(column.same()?)),
+            Col::Blobs(column) => Ok(Col::Blobs(column.same()?)),
+            Col::Views(tables) => Ok(Col::Views(tables.same()?)),
+        }
     }
 }
 

@@ -1,7 +1,7 @@
 //! A column of a table as it is read.
-ghost use Rattle.std.specs.Prelude.{◌≡◌, None, ◌+◌, ◌<◌, ◌≤◌, length, map, take, drop, slice_index_or, pos, IfOk};
+ghost use Rattle.std.specs.Prelude.{◌≡◌, None, ◌+◌, ◌<◌, ◌≤◌, [], length, map, take, drop, replicate, slice_index_or, pos, IfOk};
 ghost use Rattle.std.specs.Str.{IsUtf8};
-ghost use Rattle.mk_value.specs.Data.{Datum, integer, IsOf};
+ghost use Rattle.mk_value.specs.Data.{Datum, default_of as default_datum, integer, IsOf};
 ghost use Rattle.mk_value.specs.Heading.{Domain};
 ghost use Rattle.mk_value.specs.Kinds.{domain_of};
 ghost use Rattle.mk_value.specs.Lending.{Lends};
@@ -9,6 +9,7 @@ ghost use Rattle.mk_value.specs.Order.{value_cmp};
 ghost use Rattle.mk_value.specs.Tables.{AreNumbers, IsComparable, IsPlainDomain, number_in};
 ghost use Rattle.mk_value.specs.Values.{datum_of};
 ghost use Rattle.tables.specs.Columns.{IsColumnWith, home_of, integers, texts, views};
+ghost use Rattle.tables.specs.Homes.{empty_home};
 ghost use Rattle.tables.specs.Rows.{inserted, removed, home_inserted, home_removed};
 ghost use Rattle.tables.specs.Stored.{stored_of};
 ghost use Rattle.tables.specs.Read.{IsIntegers, IsTexts, AreViews, IsWhole, values_read};
@@ -19,20 +20,20 @@ use crate::shared::Shared;
 use crate::tables::Tables;
 use bytes_col::BytesCol;
 use int_col::IntCol;
-use mk_value::{Kind, Lent, Memory, Text, Value};
+use mk_value::{Kind, Lent, Memory, Text, Value, default_of};
 use std::alloc::Global;
 use std::cmp::Ordering;
 
 /// A column, beside the kind of its values.
 #[derive(Clone, Copy)]
-pub(crate) struct Column<'a> {
-    pub(crate) kind: &'a Kind,
-    pub(crate) col: &'a Col,
+pub struct Column<'a> {
+    pub kind: &'a Kind,
+    pub col: &'a Col,
 }
 
 impl<'a> Column<'a> {
     /// The numbers of a column that keeps numbers.
-    fn ints(&self) -> &'a IntCol
+    pub fn ints(&self) -> &'a IntCol
         requires { IsIntegers (stored_of self.now.col.now) }
         ensures { stored_of self.now.col.now ≡ integers result.now }
     {
@@ -43,7 +44,7 @@ impl<'a> Column<'a> {
     }
 
     /// The byte strings of a column that keeps texts or byte strings.
-    fn blobs(&self) -> &'a BytesCol
+    pub fn blobs(&self) -> &'a BytesCol
         requires { IsTexts (stored_of self.now.col.now) }
         ensures { stored_of self.now.col.now ≡ texts result.now }
     {
@@ -54,7 +55,7 @@ impl<'a> Column<'a> {
     }
 
     /// The tables of a column that keeps tables.
-    pub(crate) fn views(&self) -> &'a Tables
+    pub fn views(&self) -> &'a Tables
         requires { AreViews (stored_of self.now.col.now) }
         ensures { stored_of self.now.col.now ≡ views result.now }
     {
@@ -291,5 +292,36 @@ impl Column<'_> {
             Kind::B => Ok(Col::Blobs(blobs_removed(self.blobs(), at, count)?)),
             Kind::V(_) => Ok(Col::Views(views_removed(self.views(), at, count)?)),
         }
+    }
+}
+
+/// The column of so many defaults of a kind. It has no home.
+///
+/// # Errors
+///
+/// `Memory`.
+pub fn default_column(alloc: Global, kind: &Kind, count: usize) -> Result<Col, Memory>
+    requires { count ≤ 16777216 }
+    ensures { IfOk result (λ col. IsColumnWith (domain_of kind.now) (replicate count (default_datum (domain_of kind.now))) (empty_home (domain_of kind.now) (replicate count (default_datum (domain_of kind.now)))) (stored_of col)) }
+{
+    let empty = empty_column(alloc, kind)?;
+    if count == 0 {
+        return Ok(empty);
+    }
+    let value = default_of(alloc, kind);
+    let column = Column { kind, col: &empty };
+    column.inserted(alloc, 0, &value, count)
+}
+
+/// The column of a kind that has no values.
+fn empty_column(alloc: Global, kind: &Kind) -> Result<Col, Memory>
+    ensures { IfOk result (λ col. IsColumnWith (domain_of kind.now) [] (empty_home (domain_of kind.now) []) (stored_of col)) }
+{
+    match kind {
+        Kind::I => Ok(Col::Ints(IntCol::from_values(alloc, &[], None)?)),
+        Kind::L => Ok(Col::Ints(IntCol::from_values(alloc, &[], None)?)),
+        Kind::S => Ok(Col::Blobs(BytesCol::from_values(alloc, &[], None)?)),
+        Kind::B => Ok(Col::Blobs(BytesCol::from_values(alloc, &[], None)?)),
+        Kind::V(_) => Ok(Col::Views(Tables::new(alloc))),
     }
 }

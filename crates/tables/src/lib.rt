@@ -13,6 +13,7 @@ mod tables;
 
 pub use build::{empty_table, from_rows};
 pub use cols::{Col, Cols};
+pub use column::{Column, default_column};
 pub use shared::{Shared, share};
 pub use table::{Table, from_cols};
 pub use tables::Tables;

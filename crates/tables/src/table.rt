@@ -8,6 +8,7 @@ ghost use Rattle.mk_value.specs.Values.{datum_of};
 ghost use Rattle.tables.specs.Columns.{AreColumnsIn, AreColumnsOf, home_of, table_of_columns};
 ghost use Rattle.tables.specs.Homes.{column_of, empty_homes_in, no_home};
 ghost use Rattle.tables.specs.Read.{IsViewDomain, IsWhole, values_read};
+ghost use Rattle.tables.specs.Rests.{RestsOn};
 ghost use Rattle.tables.specs.Rows.{with_rows_inserted, with_rows_removed};
 ghost use Rattle.tables.specs.Shapes.{HasHomes};
 ghost use Rattle.tables.specs.Stored.{stored_of};
@@ -66,8 +67,12 @@ pub fn from_cols(alloc: Global, schema: Schema, rows: u32, cols: Cols) -> Result
 }
 
 impl Table {
-    /// The table of these columns, which has the schema together with others.
-    pub(crate) fn of_columns(
+    /// The table of these columns, with their homes. It has the schema together with others.
+    ///
+    /// # Errors
+    ///
+    /// `Memory`.
+    pub fn of_columns(
         schema: &segments::Shared<Schema>,
         rows: usize,
         cols: Cols,
@@ -101,7 +106,7 @@ impl Table {
     }
 
     /// A column, beside the kind of its values.
-    pub(crate) fn column(&self, col: usize) -> Column<'_>
+    pub fn column(&self, col: usize) -> Column<'_>
         requires { col < length self.now.schema }
         ensures values { values_read result ≡ column_of self.now.rows col }
         ensures whole { IsWhole result }
@@ -142,6 +147,7 @@ impl Table {
         requires row { IsRowOf row.now self.old.schema }
         ensures ok { OnOk result (self.new ≡ with_rows_inserted at row.now count self.old) }
         ensures err { OnErr result (self.new ≡ self.old) }
+        ensures rests { RestsOn self.new self.old }
     {
         if count == 0 {
             return Ok(());
@@ -161,6 +167,7 @@ impl Table {
         requires { at + count ≤ length self.old.rows }
         ensures ok { OnOk result (self.new ≡ with_rows_removed at count self.old) }
         ensures err { OnErr result (self.new ≡ self.old) }
+        ensures rests { RestsOn self.new self.old }
     {
         if count == 0 {
             return Ok(());
@@ -182,6 +189,7 @@ impl Table {
         requires fits { IsOf (datum_of value.now) (domain_at self.old.schema col) }
         ensures ok { OnOk result (self.new ≡ with_value self.old row col (datum_of value.now) (empty_homes_in (domain_at self.old.schema col) (datum_of value.now))) }
         ensures err { OnErr result (self.new ≡ self.old) }
+        ensures rests { RestsOn self.new self.old }
     {
         let alloc = self.cols.allocator();
         let prop = &self.schema.get().as_slice()[col];
@@ -213,6 +221,7 @@ impl Table {
         requires view { domain_at self.old.schema col ≡ Domain.relation (heading_of table.schema) }
         ensures ok { OnOk result (self.new ≡ with_inner self.old row col table) }
         ensures err { OnErr result (self.new ≡ self.old) }
+        ensures rests { RestsOn table (inner_table self.old row col) → RestsOn self.new self.old }
     {
         let _rows = table.table().len();
         self.cols.set_view(col, row, table)
@@ -274,8 +283,12 @@ impl Table {
     }
 
     /// A row, with memory of its own.
+    ///
+    /// # Errors
+    ///
+    /// `Memory`.
     #[cycle(copy)]
-    fn row(&self, alloc: Global, at: usize) -> Result<Row, Memory>
+    pub fn row(&self, alloc: Global, at: usize) -> Result<Row, Memory>
         requires { at < length self.now.rows }
         ensures { IfOk result (λ row. row ≡ slice_index_or self.now.rows at []) }
     {

@@ -83,70 +83,138 @@ fn refuses<R: Abort + AllocGlobal>(rt: &R, sizes: &IntCol, short: &[u8], memos: 
     }
 }
 
-/// Blocks of an empty value, b, 512 bytes c and a memo of 513 bytes d, and what is none: a byte too few or too many, no memo or one of
-/// another size, and a negative size.
+/// The memo of 513 bytes d, alone.
+fn one_memo(alloc: Global) -> Result<Memos, Fail> {
+    let mut memos = Memos::new(alloc);
+    memos.push(Bytes::from_slice(alloc, &MEMO)?)?;
+    Ok(memos)
+}
+
+/// b, and then so many bytes c.
+fn b_and_more(alloc: Global, count: usize) -> Result<Vec<u8>, Fail> {
+    let mut bytes = vec![in alloc; b'b'; 1]?;
+    for _more in 0..count {
+        bytes.push(b'c')?;
+    }
+    Ok(bytes)
+}
+
+/// Blocks of an empty value, b, 512 bytes c and a memo of 513 bytes d.
 #[test]
 fn blocks(rt: HostRuntime) -> Result<(), Fail> {
     let column = of_all_sizes(rt.alloc())?;
-    let mut short = [b'c'; 514];
-    short[0] = b'b';
-    let none = Memos::new(rt.alloc());
-    let mut memos = Memos::new(rt.alloc());
-    memos.push(Bytes::from_slice(rt.alloc(), &MEMO)?)?;
-    let mut longer = Memos::new(rt.alloc());
-    longer.push(Bytes::from_slice(rt.alloc(), &short)?)?;
-    match BytesCol::from_blocks(rt.alloc(), column.sizes(), &short[..513], &memos, None) {
-        Ok(back) => hold(&rt, &back, &[b"", b"b", &SHORT, &MEMO])?,
-        Err(_error) => assert!(rt; false),
+    let short = b_and_more(rt.alloc(), 512)?;
+    let memos = one_memo(rt.alloc())?;
+    match BytesCol::from_blocks(rt.alloc(), column.sizes(), &short, &memos, None) {
+        Ok(back) => hold(&rt, &back, &[b"", b"b", &SHORT, &MEMO]),
+        Err(_error) => {
+            assert!(rt; false);
+            Ok(())
+        }
     }
-    refuses(&rt, column.sizes(), &short[..512], &memos);
-    refuses(&rt, column.sizes(), &short, &memos);
-    refuses(&rt, column.sizes(), &short[..513], &none);
-    refuses(&rt, column.sizes(), &short[..513], &longer);
-    let sizes = IntCol::from_values(rt.alloc(), &[-1], None)?;
-    refuses(&rt, &sizes, &[], &none);
+}
+
+/// What is no column: a byte too few or too many beside its memo.
+#[test]
+fn short_bytes_of_no_column(rt: HostRuntime) -> Result<(), Fail> {
+    let column = of_all_sizes(rt.alloc())?;
+    let memos = one_memo(rt.alloc())?;
+    for count in [511, 513] {
+        let short = b_and_more(rt.alloc(), count)?;
+        refuses(&rt, column.sizes(), &short, &memos);
+    }
     Ok(())
 }
 
-/// Values of 0, 1, 512 and 513 bytes: what they are, their blocks, and their order. The short ones joined are b and then c 512 times; the
-/// last is a memo.
+/// What is no column: no memo, or one of another size.
 #[test]
-fn worked_values(rt: HostRuntime) -> Result<(), Fail> {
+fn memos_of_no_column(rt: HostRuntime) -> Result<(), Fail> {
+    let column = of_all_sizes(rt.alloc())?;
+    let short = b_and_more(rt.alloc(), 512)?;
+    let longer = b_and_more(rt.alloc(), 513)?;
+    let mut memos = Memos::new(rt.alloc());
+    refuses(&rt, column.sizes(), &short, &memos);
+    memos.push(Bytes::from_slice(rt.alloc(), &longer)?)?;
+    refuses(&rt, column.sizes(), &short, &memos);
+    Ok(())
+}
+
+/// What is no column: a negative size.
+#[test]
+fn sizes_of_no_column(rt: HostRuntime) -> Result<(), Fail> {
+    let sizes = IntCol::from_values(rt.alloc(), &[-1], None)?;
+    refuses(&rt, &sizes, &[], &Memos::new(rt.alloc()));
+    Ok(())
+}
+
+/// A column of no values.
+#[test]
+fn no_values(rt: HostRuntime) -> Result<(), Fail> {
     let none = BytesCol::from_values(rt.alloc(), &[], None)?;
     assert!(rt; none.is_empty() && none.short_len() == 0);
     comes_in_pieces(&rt, &none, b"");
+    Ok(())
+}
 
+/// Values of 0, 1, 512 and 513 bytes: what they are, and their sizes. The last is a memo.
+#[test]
+fn worked_values(rt: HostRuntime) -> Result<(), Fail> {
     let column = of_all_sizes(rt.alloc())?;
-    assert!(rt; column.len() == 4 && !column.is_empty());
-    holds(&rt, &column, 0, b"")?;
-    holds(&rt, &column, 1, b"b")?;
-    holds(&rt, &column, 2, &SHORT)?;
-    holds(&rt, &column, 3, &MEMO)?;
-
+    hold(&rt, &column, &[b"", b"b", &SHORT, &MEMO])?;
     let sizes = column.sizes();
     assert!(rt; sizes.len() == 4);
     assert!(rt; sizes.get(0) == 0 && sizes.get(2) == 512 && sizes.get(3) == 513);
     let rows = column.memo_rows(rt.alloc())?;
     assert!(rt; rows.as_slice() == [3].as_slice());
+    Ok(())
+}
+
+/// Asserts the two short bytes from a place on.
+fn fills_short<R: Abort>(rt: &R, column: &BytesCol, from: u64, want: [u8; 2]) {
+    assert!(rt; 2 <= column.short_len() && from <= column.short_len() - 2);
     let mut bytes = [0; 2];
+    column.fill_short(from, &mut bytes);
+    assert!(rt; bytes == want);
+}
+
+/// The short values joined are b and then c 512 times.
+#[test]
+fn worked_short_bytes(rt: HostRuntime) -> Result<(), Fail> {
+    let column = of_all_sizes(rt.alloc())?;
     assert!(rt; column.short_len() == 513);
-    column.fill_short(0, &mut bytes);
-    assert!(rt; bytes == *b"bc");
-    column.fill_short(511, &mut bytes);
-    assert!(rt; bytes == *b"cc");
-    let mut short = [b'c'; 513];
-    short[0] = b'b';
-    comes_in_pieces(&rt, &column, &short);
+    fills_short(&rt, &column, 0, *b"bc");
+    fills_short(&rt, &column, 511, *b"cc");
+    comes_in_pieces(&rt, &column, &b_and_more(rt.alloc(), 512)?);
+    Ok(())
+}
+
+/// The last two bytes of the memo.
+#[test]
+fn worked_memo(rt: HostRuntime) -> Result<(), Fail> {
+    let column = of_all_sizes(rt.alloc())?;
     assert!(rt; column.len() == 4);
     assert!(rt; column.get(3)?.len() == 513);
+    let mut bytes = [0; 2];
     column.fill_memo(3, 511, &mut bytes);
     assert!(rt; bytes == *b"dd");
+    Ok(())
+}
 
+/// The order of the worked values, and of one of them beside other bytes.
+#[test]
+fn worked_order(rt: HostRuntime) -> Result<(), Fail> {
+    let column = of_all_sizes(rt.alloc())?;
+    assert!(rt; column.len() == 4);
     assert!(rt; column.cmp_at(0, 1) == Ordering::Less);
     assert!(rt; column.cmp_at(3, 2) == Ordering::Greater);
     assert!(rt; column.cmp_with(1, b"bb") == Ordering::Less);
     assert!(rt; column.cmp_with(1, b"b") == Ordering::Equal);
-    // One byte decides, wherever it stands in the blocks in which texts are compared.
+    Ok(())
+}
+
+/// One byte decides, wherever it stands in the blocks in which texts are compared.
+#[test]
+fn one_byte_decides(rt: HostRuntime) -> Result<(), Fail> {
     for len in [1, 31, 32, 33, 63, 64, 65, 100, 513] {
         let mut text = vec![in rt.alloc(); b'm'; len]?;
         let value = Bytes::from_slice(rt.alloc(), &text)?;
@@ -202,10 +270,9 @@ fn stands<R: Abort>(rt: &R, column: &BytesCol, place: u64) {
     }
 }
 
-/// What edits leave: an edit of no values keeps the home, any other takes it, and copies keep their homes and values. A value that is set to
-/// others of its size leaves each other as it was: those beside it, a memo that shares its bytes, and those of a copy.
+/// A copy of a home has its spans, and takes another alone.
 #[test]
-fn homes_and_copies(rt: HostRuntime) -> Result<(), Fail> {
+fn homes(rt: HostRuntime) -> Result<(), Fail> {
     let first = home(rt.alloc(), 208)?;
     let mut other = first.copy(rt.alloc())?;
     assert!(rt; other.sizes == Span { place: 192, len: 9 } && other.short == other.sizes);
@@ -214,23 +281,61 @@ fn homes_and_copies(rt: HostRuntime) -> Result<(), Fail> {
         len: 600,
     })?;
     assert!(rt; first.memos.len() == 1 && other.memos.len() == 2);
+    Ok(())
+}
 
-    let mut column = of_all_sizes(rt.alloc())?;
-    column.settle(first);
+/// The column of values of all sizes, at the home whose memo stands at 208.
+fn at_home(alloc: Global) -> Result<BytesCol, Fail>
+    ensures { IfOk result (λ column. length column.values ≡ 4) }
+{
+    let mut column = of_all_sizes(alloc)?;
+    column.settle(home(alloc, 208)?);
+    Ok(column)
+}
+
+/// An edit of no values keeps the home.
+#[test]
+fn edits_of_no_values(rt: HostRuntime) -> Result<(), Fail> {
+    let mut column = at_home(rt.alloc())?;
     column.insert(2, b"x", 0)?;
     assert!(rt; column.len() == 4);
     column.remove(1, 0)?;
     stands(&rt, &column, 208);
-    let copy = column.same()?;
-    let copy = copy.same()?;
-    let bare = copy.unplaced()?;
+    Ok(())
+}
+
+/// Gives the second value another, which takes the home.
+fn set_second<R: Abort>(rt: &R, column: &mut BytesCol) -> Result<(), Fail> {
     assert!(rt; column.len() == 4);
     column.set(1, b"other")?;
-    assert!(rt; column.home().is_none() && bare.home().is_none());
-    stands(&rt, &copy, 208);
-    holds(&rt, &copy, 1, b"b")?;
-    holds(&rt, &bare, 1, b"b")?;
+    assert!(rt; column.home().is_none());
+    Ok(())
+}
 
+/// Any other edit takes the home, and a copy keeps its home and values.
+#[test]
+fn a_copy_keeps_its_home(rt: HostRuntime) -> Result<(), Fail> {
+    let mut column = at_home(rt.alloc())?;
+    let copy = column.same()?;
+    set_second(&rt, &mut column)?;
+    stands(&rt, &copy, 208);
+    holds(&rt, &copy, 1, b"b")
+}
+
+/// A copy without a home keeps its values.
+#[test]
+fn a_bare_copy_keeps_its_values(rt: HostRuntime) -> Result<(), Fail> {
+    let mut column = at_home(rt.alloc())?;
+    let bare = column.unplaced()?;
+    set_second(&rt, &mut column)?;
+    assert!(rt; bare.home().is_none());
+    holds(&rt, &bare, 1, b"b")
+}
+
+/// A value that is set to others of its size leaves each other as it was: those beside it, a memo that shares its bytes, and those of
+/// a copy.
+#[test]
+fn values_set_beside_others(rt: HostRuntime) -> Result<(), Fail> {
     let mut column = of_all_sizes(rt.alloc())?;
     assert!(rt; column.len() == 4);
     column.insert(4, &MEMO, 2)?;
@@ -324,22 +429,33 @@ fn short_of(plain: &Vec<Bytes>) -> Result<Vec<u8>, Fail> {
     Ok(short)
 }
 
-/// Asserts that the column has the short bytes of the list, all of them and those from the middle on.
-fn compare_short<R: Abort>(rt: &R, column: &BytesCol, plain: &Vec<Bytes>) -> Result<(), Fail> {
-    let want = short_of(plain)?;
+/// Asserts that the column fills these short bytes, all of them and those from the middle on.
+fn fills_all_short<R: Abort>(rt: &R, column: &BytesCol, want: &[u8], bytes: &mut [u8]) {
     let len = want.len();
-    assert!(rt; column.short_len() == len as u64);
-    let mut bytes = vec![in *plain.allocator(); 0u8; len]?;
-    column.fill_short(0, &mut bytes);
-    assert!(rt; bytes == want);
+    assert!(rt; column.short_len() == len as u64 && bytes.len() == len);
+    column.fill_short(0, bytes);
+    assert!(rt; *bytes == *want);
     column.fill_short((len / 2) as u64, &mut bytes[len / 2..]);
-    assert!(rt; bytes == want);
+    assert!(rt; *bytes == *want);
+}
+
+/// Asserts that the short bytes come in two halves.
+fn comes_in_halves<R: Abort>(rt: &R, column: &BytesCol, want: &[u8], bytes: &mut [u8]) {
+    let len = want.len();
     let mut left = column.short();
-    assert!(rt; left.len() == len);
+    assert!(rt; left.len() == len && bytes.len() == len);
     left.fill(&mut bytes[..len / 2]);
     assert!(rt; left.len() == len - len / 2);
     left.fill(&mut bytes[len / 2..]);
-    assert!(rt; bytes == want && left.is_empty());
+    assert!(rt; *bytes == *want && left.is_empty());
+}
+
+/// Asserts that the column has the short bytes of the list.
+fn compare_short<R: Abort>(rt: &R, column: &BytesCol, plain: &Vec<Bytes>) -> Result<(), Fail> {
+    let want = short_of(plain)?;
+    let mut bytes = vec![in *plain.allocator(); 0u8; want.len()]?;
+    fills_all_short(rt, column, &want, &mut bytes);
+    comes_in_halves(rt, column, &want, &mut bytes);
     Ok(())
 }
 
@@ -370,17 +486,22 @@ fn edit<R: Abort>(
     }
 }
 
-/// Asserts that the column is made of its blocks again.
-fn comes_back<R: Abort>(rt: &R, column: &BytesCol, plain: &Vec<Bytes>) -> Result<(), Fail> {
-    let alloc = *plain.allocator();
-    let short = short_of(plain)?;
-    let mut memos = Memos::new(alloc);
+/// The values of the list of more than 512 bytes.
+fn memos_of(plain: &Vec<Bytes>) -> Result<Memos, Fail> {
+    let mut memos = Memos::new(*plain.allocator());
     for value in plain {
         if value.len() > 512 {
             memos.push(value.copy()?)?;
         }
     }
-    match BytesCol::from_blocks(alloc, column.sizes(), &short, &memos, None) {
+    Ok(memos)
+}
+
+/// Asserts that the column is made of its blocks again.
+fn comes_back<R: Abort>(rt: &R, column: &BytesCol, plain: &Vec<Bytes>) -> Result<(), Fail> {
+    let short = short_of(plain)?;
+    let memos = memos_of(plain)?;
+    match BytesCol::from_blocks(*plain.allocator(), column.sizes(), &short, &memos, None) {
         Ok(back) => compare(rt, &back, plain),
         Err(_error) => {
             assert!(rt; false);
@@ -396,25 +517,46 @@ fn compare_all<R: Abort>(rt: &R, column: &BytesCol, plain: &Vec<Bytes>) -> Resul
     comes_back(rt, column, plain)
 }
 
+/// Twenty edits by the random numbers after this one, of which it gives the last.
+fn edits<R: Abort>(
+    rt: &R,
+    column: &mut BytesCol,
+    plain: &mut Vec<Bytes>,
+    first: u64,
+) -> Result<u64, Fail> {
+    let mut number = first;
+    for _turn in 0..20u32 {
+        number = number
+            .wrapping_mul(6_364_136_223_846_793_005)
+            .wrapping_add(1_442_695_040_888_963_407);
+        edit(rt, column, plain, number >> 33)?;
+    }
+    Ok(number)
+}
+
+/// Twenty edits, which leave copies as they were.
+fn edits_beside_copies<R: Abort>(
+    rt: &R,
+    column: &mut BytesCol,
+    plain: &mut Vec<Bytes>,
+    first: u64,
+) -> Result<u64, Fail> {
+    let copy = column.same()?;
+    let plain_copy = copy_of(plain)?;
+    let last = edits(rt, column, plain, first)?;
+    compare_all(rt, column, plain)?;
+    compare_all(rt, &copy, &plain_copy)?;
+    Ok(last)
+}
+
 /// Three hundred edits beside a plain list, and copies that stay as they were.
 #[test]
 fn edits_beside_a_list(rt: HostRuntime) -> Result<(), Fail> {
     let mut column = BytesCol::from_values(rt.alloc(), &[], None)?;
     let mut plain = Vec::new(rt.alloc());
-    let mut copy = column.same()?;
-    let mut plain_copy = Vec::new(rt.alloc());
     let mut number = 7u64;
-    for turn in 0..300u32 {
-        number = number
-            .wrapping_mul(6_364_136_223_846_793_005)
-            .wrapping_add(1_442_695_040_888_963_407);
-        edit(&rt, &mut column, &mut plain, number >> 33)?;
-        if turn % 20 == 19 {
-            compare_all(&rt, &column, &plain)?;
-            compare_all(&rt, &copy, &plain_copy)?;
-            copy = column.same()?;
-            plain_copy = copy_of(&plain)?;
-        }
+    for _round in 0..15u32 {
+        number = edits_beside_copies(&rt, &mut column, &mut plain, number)?;
     }
     Ok(())
 }

@@ -35,20 +35,30 @@ fn replaces<R: Abort>(
     );
 }
 
-/// Where items stand, and which segments edits replace.
+/// No segments, and the three items that are put into them.
 #[test]
-fn segments_of_four(rt: HostRuntime) -> Result<(), Fail> {
+fn no_segments(rt: HostRuntime) -> Result<(), Fail> {
     let none = Segments::from_counts(rt.alloc(), &[])?;
     assert!(rt; none.count() == 0 && none.len() == 0);
     replaces(&rt, &none, (0, 0, 3), (0, 0, 0, 0));
+    Ok(())
+}
 
+/// Where the items of three segments stand.
+#[test]
+fn items_of_three_segments(rt: HostRuntime) -> Result<(), Fail> {
     let three = Segments::from_counts(rt.alloc(), &[4, 1, 3])?;
     assert!(rt; three.count() == 3 && three.len() == 8);
-    stands(&rt, &three, 0, 0, 0);
-    stands(&rt, &three, 3, 0, 3);
-    stands(&rt, &three, 4, 1, 0);
-    stands(&rt, &three, 5, 2, 0);
-    stands(&rt, &three, 7, 2, 2);
+    for (at, segment, offset) in [(0, 0, 0), (3, 0, 3), (4, 1, 0), (5, 2, 0), (7, 2, 2)] {
+        stands(&rt, &three, at, segment, offset);
+    }
+    Ok(())
+}
+
+/// Which segments edits replace.
+#[test]
+fn segments_that_edits_replace(rt: HostRuntime) -> Result<(), Fail> {
+    let three = Segments::from_counts(rt.alloc(), &[4, 1, 3])?;
     // Items 2 to 5 go: one of each segment is among them.
     replaces(&rt, &three, (2, 6, 0), (0, 3, 0, 8));
     // An item before place 4: the segment before is full, and the one behind has one item.
@@ -59,24 +69,47 @@ fn segments_of_four(rt: HostRuntime) -> Result<(), Fail> {
     // An item behind a full segment, which is the last.
     let full = Segments::from_counts(rt.alloc(), &[4])?;
     replaces(&rt, &full, (4, 4, 1), (1, 1, 4, 4));
+    Ok(())
+}
 
+/// Two segments in place of one.
+#[test]
+fn segments_spliced(rt: HostRuntime) -> Result<(), Fail> {
+    let three = Segments::<4>::from_counts(rt.alloc(), &[4, 1, 3])?;
+    assert!(rt; three.count() == 3);
     let four = three.spliced(1, 2, &[2, 2])?;
     assert!(rt; four.count() == 4 && four.len() == 11);
-    stands(&rt, &four, 4, 1, 0);
-    stands(&rt, &four, 7, 2, 1);
-    stands(&rt, &four, 8, 3, 0);
+    for (at, segment, offset) in [(4, 1, 0), (7, 2, 1), (8, 3, 0)] {
+        stands(&rt, &four, at, segment, offset);
+    }
+    Ok(())
+}
 
+/// Two items behind those of the last segment, and a copy that stays.
+#[test]
+fn a_last_segment_extended(rt: HostRuntime) -> Result<(), Fail> {
     let mut last = Segments::<4>::from_counts(rt.alloc(), &[4, 2])?;
     let copy = last.clone()?;
     last.extend_last();
     last.extend_last();
     assert!(rt; last.count() == 2 && last.len() == 8 && copy.len() == 6);
     stands(&rt, &last, 7, 1, 3);
+    Ok(())
+}
 
+/// Parts in place of others.
+#[test]
+fn parts_replaced(rt: HostRuntime) -> Result<(), Fail> {
     let mut parts = Vec::from_slice(rt.alloc(), &[1u8, 2, 3, 4])?;
     replace_parts(&mut parts, 1, 3, Vec::from_slice(rt.alloc(), &[9])?)?;
     assert!(rt; parts.as_slice() == [1, 9, 4].as_slice());
-    let size = Splice {
+    Ok(())
+}
+
+/// The size after three items were put where none were replaced.
+#[test]
+fn a_size_after(rt: HostRuntime) {
+    let splice = Splice {
         at: 0,
         end: 0,
         count: 3,
@@ -87,8 +120,12 @@ fn segments_of_four(rt: HostRuntime) -> Result<(), Fail> {
         start: 0,
         stop: 0,
     };
-    assert!(rt; size.size_after(&nothing) == 3);
+    assert!(rt; splice.size_after(&nothing) == 3);
+}
 
+/// A shared value that one of its holders makes its own.
+#[test]
+fn shared_values(rt: HostRuntime) -> Result<(), Fail> {
     let shared = Shared::of(rt.alloc(), 7u8)?;
     let mut other = shared.clone()?;
     assert!(rt; other.sole().is_none());

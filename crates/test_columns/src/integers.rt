@@ -8,6 +8,8 @@ use std::alloc::Global;
 use std::process::Abort;
 use std::test::Fail;
 
+const HOME: Span = Span { place: 192, len: 1 };
+
 /// Asserts the count, the width and the bytes of a segment.
 fn holds<R: Abort>(rt: &R, column: &IntCol, k: usize, count: usize, width: Width, bytes: &[u8]) {
     assert!(rt; k < column.segments());
@@ -42,6 +44,22 @@ fn comes_in_pieces<R: Abort>(rt: &R, column: &IntCol, want: &[u8]) {
     assert!(rt; bytes.is_empty());
 }
 
+/// Asserts that the column has these values.
+fn has_values<R: Abort>(rt: &R, column: &IntCol, values: &[i64]) {
+    assert!(rt; column.len() == values.len() && column.is_empty() == values.is_empty());
+    for (at, value) in values.iter().enumerate() {
+        assert!(rt; column.get(at) == *value, "at {at}");
+    }
+}
+
+/// Asserts that two columns have the same values.
+fn has_values_of<R: Abort>(rt: &R, one: &IntCol, other: &IntCol) {
+    assert!(rt; one.len() == other.len());
+    for at in 0..one.len() {
+        assert!(rt; one.get(at) == other.get(at), "at {at}");
+    }
+}
+
 /// Asserts that a column is made of its packed bytes again, with the same values and full segments.
 fn comes_back<R: Abort + AllocGlobal>(
     rt: &R,
@@ -51,14 +69,11 @@ fn comes_back<R: Abort + AllocGlobal>(
 ) -> Result<(), Fail> {
     let len = column.len();
     assert!(rt; len <= 16_777_216);
-    let home = Some(Span { place: 192, len: 1 });
-    match IntCol::from_packed(rt.alloc(), width, len, bytes, home) {
+    match IntCol::from_packed(rt.alloc(), width, len, bytes, Some(HOME)) {
         Ok(back) => {
-            assert!(rt; back.len() == len && back.home() == home && back.width() == width);
+            assert!(rt; back.home() == Some(HOME) && back.width() == width);
             assert!(rt; back.segments() == len.div_ceil(2048));
-            for at in 0..len {
-                assert!(rt; back.get(at) == column.get(at), "at {at}");
-            }
+            has_values_of(rt, &back, column);
         }
         Err(_error) => assert!(rt; false),
     }
@@ -80,67 +95,103 @@ fn refuses<R: Abort + AllocGlobal>(
     }
 }
 
-/// Columns of few values and of one more than a segment takes. The bytes are computed by hand: 0 and 3 at 2 bits are 0c.
+/// A column of no values.
 #[test]
-fn worked_columns(rt: HostRuntime) -> Result<(), Fail> {
+fn no_values(rt: HostRuntime) -> Result<(), Fail> {
     let none = IntCol::from_values(rt.alloc(), &[], None)?;
     assert!(rt; none.is_empty() && none.segments() == 0 && none.width() == Width::W0);
     comes_in_pieces(&rt, &none, &[]);
+    Ok(())
+}
 
-    let mut column = IntCol::from_values(rt.alloc(), &[0, 3], None)?;
-    assert!(rt; column.len() == 2 && !column.is_empty() && column.segments() == 1);
-    assert_eq!(rt; column.get(1), 3);
+/// A column of two values. The bytes are computed by hand: 0 and 3 at 2 bits are 0c.
+#[test]
+fn two_values(rt: HostRuntime) -> Result<(), Fail> {
+    let column = IntCol::from_values(rt.alloc(), &[0, 3], None)?;
+    has_values(&rt, &column, &[0, 3]);
     holds(&rt, &column, 0, 2, Width::W2, &[0x0c]);
     comes_in_pieces(&rt, &column, &[0x0c]);
-    comes_back(&rt, &column, Width::W2, &[0x0c])?;
-    // The width follows the values: 0, 0xff and 0xff at 8 bits with a negative value, and 2 bits without it.
+    comes_back(&rt, &column, Width::W2, &[0x0c])
+}
+
+/// The width follows the values: 0, 0xff and 0xff at 8 bits with a negative value.
+#[test]
+fn a_wider_value(rt: HostRuntime) -> Result<(), Fail> {
+    let mut column = IntCol::from_values(rt.alloc(), &[0, 3], None)?;
     column.insert(1, -1, 2)?;
     assert_eq!(rt; column.width(), Width::W8);
     fills(&rt, &column, 1, [0xff, 0xff]);
     comes_in_pieces(&rt, &column, &[0, 0xff, 0xff, 3]);
-    comes_back(&rt, &column, Width::W8, &[0, 0xff, 0xff, 3])?;
+    comes_back(&rt, &column, Width::W8, &[0, 0xff, 0xff, 3])
+}
+
+/// The width follows the values: 8 bits with the negative ones, 2 bits without them, and 1 bit without the 3.
+#[test]
+fn a_narrower_value(rt: HostRuntime) -> Result<(), Fail> {
+    let mut column = IntCol::from_values(rt.alloc(), &[0, -1, -1, 3], None)?;
     let mut read = [0; 2];
     assert!(rt; column.len() == 4);
     column.read(2, &mut read);
     assert!(rt; read == [-1, 3]);
     column.remove(1, 2)?;
     holds(&rt, &column, 0, 2, Width::W2, &[0x0c]);
+    assert!(rt; column.len() == 2);
     column.set(1, 1)?;
     assert_eq!(rt; column.width(), Width::W1);
-
-    let long = IntCol::from_values(rt.alloc(), &[1; 2049], None)?;
-    assert_eq!(rt; long.segments(), 2);
-    holds(&rt, &long, 0, 2048, Width::W1, &[0xff; 256]);
-    holds(&rt, &long, 1, 1, Width::W1, &[0x01]);
-    fills(&rt, &long, 255, [0xff, 0x01]);
-
-    refuses(
-        &rt,
-        Width::W2,
-        2,
-        &[0x04],
-        PackError::NotLeast(Width::W2, Width::W1),
-    );
-    refuses(&rt, Width::W2, 2, &[0x1c], PackError::Padding(0));
-    refuses(&rt, Width::W2, 2, &[], PackError::Length(1, 0));
     Ok(())
 }
 
-/// An edit of no values keeps the home, any other takes it, and a copy stays; a copy without a home has the same values.
+/// A column of one value more than a segment takes.
+#[test]
+fn two_segments(rt: HostRuntime) -> Result<(), Fail> {
+    let column = IntCol::from_values(rt.alloc(), &[1; 2049], None)?;
+    assert_eq!(rt; column.segments(), 2);
+    holds(&rt, &column, 0, 2048, Width::W1, &[0xff; 256]);
+    holds(&rt, &column, 1, 1, Width::W1, &[0x01]);
+    fills(&rt, &column, 255, [0xff, 0x01]);
+    Ok(())
+}
+
+/// Bytes that are no two values at 2 bits.
+#[test]
+fn bytes_of_no_column(rt: HostRuntime) {
+    let narrower = PackError::NotLeast(Width::W2, Width::W1);
+    refuses(&rt, Width::W2, 2, &[0x04], narrower);
+    refuses(&rt, Width::W2, 2, &[0x1c], PackError::Padding(0));
+    refuses(&rt, Width::W2, 2, &[], PackError::Length(1, 0));
+}
+
+/// The column of 0 and 3, at a home.
+fn at_home(alloc: Global) -> Result<IntCol, Fail> {
+    let mut column = IntCol::from_values(alloc, &[0, 3], None)?;
+    column.settle(HOME);
+    Ok(column)
+}
+
+/// An edit of no values keeps the home.
+#[test]
+fn edits_of_no_values(rt: HostRuntime) -> Result<(), Fail> {
+    let mut column = at_home(rt.alloc())?;
+    assert!(rt; column.len() == 2);
+    column.insert(2, 9, 0)?;
+    assert!(rt; column.len() == 2);
+    column.remove(1, 0)?;
+    assert_eq!(rt; column.home(), Some(HOME));
+    Ok(())
+}
+
+/// Any other edit takes the home, and a copy stays; a copy without a home has the same values.
 #[test]
 fn homes(rt: HostRuntime) -> Result<(), Fail> {
-    let mut column = IntCol::from_values(rt.alloc(), &[0, 3], None)?;
-    let home = Some(Span { place: 192, len: 1 });
-    column.settle(Span { place: 192, len: 1 });
-    column.insert(2, 9, 0)?;
-    column.remove(1, 0)?;
-    assert_eq!(rt; column.home(), home);
+    let mut column = at_home(rt.alloc())?;
     let copy = column.same()?;
     let bare = copy.unplaced()?;
+    assert!(rt; column.len() == 2);
     column.set(1, 3)?;
     assert_eq!(rt; column.home(), None);
-    assert_eq!(rt; copy.home(), home);
-    assert!(rt; bare.home().is_none() && bare.len() == 2 && bare.get(1) == 3);
+    assert_eq!(rt; copy.home(), Some(HOME));
+    assert!(rt; bare.home().is_none());
+    has_values(&rt, &bare, &[0, 3]);
     Ok(())
 }
 
@@ -211,10 +262,7 @@ fn set<R: Abort>(
 
 /// Asserts that the column has the values of the list, at their least width.
 fn compare<R: Abort>(rt: &R, column: &IntCol, plain: &[i64]) {
-    assert!(rt; column.len() == plain.len());
-    for (at, value) in plain.iter().enumerate() {
-        assert!(rt; column.get(at) == *value, "at {at}");
-    }
+    has_values(rt, column, plain);
     assert!(rt; column.width() == width_for(plain));
 }
 
@@ -255,6 +303,16 @@ fn edit<R: Abort>(
     }
 }
 
+/// Asserts that the packed bytes are these, all at once.
+fn comes_whole<R: Abort + AllocGlobal>(rt: &R, column: &IntCol, want: &[u8]) -> Result<(), Fail> {
+    let mut room = vec![in rt.alloc(); 0u8; want.len()]?;
+    let mut left = column.packed();
+    assert!(rt; left.len() == want.len());
+    left.fill(&mut room);
+    assert!(rt; room.as_slice() == want && left.is_empty());
+    Ok(())
+}
+
 /// Asserts that the blocks of the column are those of the list, and that it is made of them again.
 fn compare_blocks<R: Abort + AllocGlobal>(
     rt: &R,
@@ -264,13 +322,8 @@ fn compare_blocks<R: Abort + AllocGlobal>(
     let width = width_for(plain);
     match pack(rt.alloc(), width, plain) {
         Ok(bytes) => {
-            let want = bytes.as_slice();
-            let mut room = vec![in rt.alloc(); 0u8; want.len()]?;
-            let mut left = column.packed();
-            assert!(rt; left.len() == want.len());
-            left.fill(&mut room);
-            assert!(rt; room.as_slice() == want && left.is_empty());
-            comes_back(rt, column, width, want)
+            comes_whole(rt, column, bytes.as_slice())?;
+            comes_back(rt, column, width, bytes.as_slice())
         }
         Err(_error) => {
             assert!(rt; false);
@@ -279,27 +332,48 @@ fn compare_blocks<R: Abort + AllocGlobal>(
     }
 }
 
+/// Fifty edits by the random numbers after this one, of which it gives the last.
+fn edits<R: Abort>(
+    rt: &R,
+    column: &mut IntCol,
+    plain: &mut Vec<i64>,
+    first: u64,
+) -> Result<u64, Fail> {
+    let mut number = first;
+    for _turn in 0..50u32 {
+        number = number
+            .wrapping_mul(6_364_136_223_846_793_005)
+            .wrapping_add(1_442_695_040_888_963_407);
+        edit(rt, column, plain, number >> 33)?;
+        is_cut(rt, column);
+    }
+    Ok(number)
+}
+
+/// Fifty edits, which leave copies as they were.
+fn edits_beside_copies<R: Abort>(
+    rt: &R,
+    column: &mut IntCol,
+    plain: &mut Vec<i64>,
+    first: u64,
+) -> Result<u64, Fail> {
+    let copy = column.same()?;
+    let plain_copy = Vec::from_slice(*plain.allocator(), plain)?;
+    let last = edits(rt, column, plain, first)?;
+    compare(rt, column, plain);
+    compare(rt, &copy, &plain_copy);
+    Ok(last)
+}
+
 /// A thousand edits beside a plain list, and copies that stay as they were.
 #[test]
 fn edits_beside_a_list(rt: HostRuntime) -> Result<(), Fail> {
     let mut column = IntCol::from_values(rt.alloc(), &[], None)?;
     let mut plain = Vec::new(rt.alloc());
-    let mut copy = column.same()?;
-    let mut plain_copy = Vec::new(rt.alloc());
     let mut number = 7u64;
-    for turn in 0..1000u32 {
-        number = number
-            .wrapping_mul(6_364_136_223_846_793_005)
-            .wrapping_add(1_442_695_040_888_963_407);
-        edit(&rt, &mut column, &mut plain, number >> 33)?;
-        is_cut(&rt, &column);
-        if turn % 50 == 49 {
-            compare(&rt, &column, &plain);
-            compare(&rt, &copy, &plain_copy);
-            compare_blocks(&rt, &column, &plain)?;
-            copy = column.same()?;
-            plain_copy = Vec::from_slice(rt.alloc(), &plain)?;
-        }
+    for _round in 0..20u32 {
+        number = edits_beside_copies(&rt, &mut column, &mut plain, number)?;
+        compare_blocks(&rt, &column, &plain)?;
     }
     Ok(())
 }

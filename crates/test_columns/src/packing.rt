@@ -163,7 +163,12 @@ fn packs_and_unpacks(rt: HostRuntime) -> Result<(), PackError> {
         &[
             8, 7, 6, 5, 4, 3, 2, 1, 255, 255, 255, 255, 255, 255, 255, 255,
         ],
-    )?;
+    )
+}
+
+/// The lists that values and bytes are given in.
+#[test]
+fn lists(rt: HostRuntime) -> Result<(), PackError> {
     let mut bytes = Bytes::new(rt.alloc());
     assert!(rt; bytes.is_empty());
     bytes.push(7)?;

@@ -91,7 +91,8 @@ impl Look {
             }
             Look::Rows => {
                 let mut text = Text::new(alloc);
-                print_value(&Value::V(root.rows(path)?.copy()?), &mut text)?;
+                let rows = root.table_at(path)?.table().to_rows(alloc)?;
+                print_value(&Value::V(rows), &mut text)?;
                 Ok(text)
             }
             Look::Size => {
@@ -113,7 +114,7 @@ fn last_name(path: &Path) -> &Name {
 
 fn whole_table(alloc: Global, root: &Root, name: &Name) -> Result<Text, EditError> {
     match root.table(name) {
-        Some(table) => shown(alloc, name, table.schema(), table.rows().copy()?),
+        Some(table) => shown(alloc, name, table.schema(), table.to_rows(alloc)?),
         None => Err(EditError::NoView),
     }
 }

@@ -4,7 +4,7 @@ use mk_value::{Kind, Row, Rows, Schema, TableRead, Text, Value, row_fits, rows_f
 use std::alloc::Global;
 use std::test::Fail;
 use struct_text::parse;
-use tables::{Table, from_rows};
+use tables::{Table, from_cols, from_rows};
 use tokens::read_literal;
 
 /// Rows of each kind, and views two deep.
@@ -70,12 +70,21 @@ fn put(table: &mut Table, at: usize, row: &Row, count: usize) -> Result<(), Fail
     Ok(())
 }
 
+/// The table of the columns of a table.
+fn of_its_columns(alloc: Global, table: &Table) -> Result<Table, Fail> {
+    let rows = table.len() as u32;
+    let schema = table.schema().copy()?;
+    Ok(from_cols(alloc, schema, rows, table.cols().same()?)?)
+}
+
 #[test]
 fn rows_come_back(rt: HostRuntime) -> Result<(), Fail> {
     let alloc = rt.alloc();
     for (structure, rows) in SOURCES {
         let table = table(alloc, structure, rows)?;
         assert_eq!(rt; literal(alloc, &table)?.as_str(), rows);
+        let again = of_its_columns(alloc, &table)?;
+        assert_eq!(rt; literal(alloc, &again)?.as_str(), rows);
     }
     Ok(())
 }

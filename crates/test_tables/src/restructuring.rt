@@ -86,7 +86,7 @@ fn under(alloc: Global, old: &Table, structure: &str) -> Result<Text, Fail> {
     if !new.schema().is_same(&schema) {
         return Err(Fail::new("another schema"));
     }
-    Ok(shown_rows(alloc, &schema, new.rows().copy()?)?)
+    Ok(shown_rows(alloc, &schema, new.to_rows(alloc)?)?)
 }
 
 /// Each table becomes what its case says.

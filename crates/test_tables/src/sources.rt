@@ -39,16 +39,16 @@ pub fn table(alloc: Global, source: &Source) -> Result<(Name, Table), Fail> {
     if !rows_fit(&rows, &schema) {
         return Err(Fail::new("no rows of the schema"));
     }
-    Ok((name, from_rows(schema, rows)?))
+    Ok((name, from_rows(alloc, schema, &rows)?))
 }
 
 /// The first row of a table, or a row without values where it has none.
 pub fn first_row(alloc: Global, source: &Source) -> Result<Row, Fail> {
     let (_, table) = table(alloc, source)?;
-    match table.rows().as_slice().first() {
-        Some(row) => Ok(row.copy()?),
-        None => Ok(Row::new(alloc)),
+    if table.len() == 0 {
+        return Ok(Row::new(alloc));
     }
+    Ok(table.row(alloc, 0)?)
 }
 
 /// The root of these views.
@@ -130,7 +130,7 @@ pub fn shown_root(alloc: Global, root: &Root) -> Result<Text, EditError> {
     }
     let mut text = Text::new(alloc);
     for (name, table) in names.iter().zip(tables) {
-        let view = shown(alloc, name, table.schema(), table.rows().copy()?)?;
+        let view = shown(alloc, name, table.schema(), table.table().to_rows(alloc)?)?;
         text.push_str(view.as_str())?;
     }
     Ok(text)

@@ -1,5 +1,5 @@
 -- Views by name: where the one of a name stands, and what becomes of the list.
-use Rattle.std.proofs.Common.{◌≡◌, ℕ, zero, suc, ◌<◌, ◌≤◌, Bool, true, false, not, cond, ltb, List, [], ◌∷◌, ◌++◌, length, get_or, set, position, Some, None, refl, ap, ◌∙◌, arith}
+use Rattle.std.proofs.Common.{◌≡◌, ℕ, zero, suc, ◌<◌, ◌≤◌, Bool, true, false, not, cond, ltb, List, [], ◌∷◌, ◌++◌, length, map, get_or, set, position, Some, None, refl, ap, ◌∙◌, arith}
 use Rattle.std.specs.Prelude.{find, remove}
 use Rattle.std.specs.Option.{option_map}
 use Rattle.std.specs.List.{position_or_len}
@@ -137,3 +137,10 @@ named-push [] [] name t e = refl
 named-push [] (u ∷ tables) name t e = absurd (omega arith)
 named-push (n ∷ names) [] name t e = absurd (omega arith)
 named-push (n ∷ names) (u ∷ tables) name t e = ap (λ vs. record { name = n; table = u } ∷ vs) (named-push names tables name t (omega arith))
+
+-- the tables of named ones are those that were named
+pub tables_named : (names : List (List ℕ)) (tables : List StoredTable) → length names ≡ length tables → map (λ (v : NamedTable). v.table) (named names tables) ≡ tables
+tables_named [] [] e = refl
+tables_named [] (t ∷ tables) e = absurd (omega (arith, e))
+tables_named (name ∷ names) [] e = absurd (omega (arith, e))
+tables_named (name ∷ names) (t ∷ tables) e = ap (λ ts. t ∷ ts) (tables_named names tables (omega (arith, e)))

@@ -1,5 +1,5 @@
--- Roots of plain rows: what each call leaves of one.
-use Rattle.std.proofs.Common.{◌≡◌, ◌≢◌, ℕ, zero, suc, ◌<◌, ◌≤◌, true, false, List, [], ◌∷◌, ◌++◌, length, get_or, set, take, drop, Some, None, Result, Ok, Err, OnOk, OnErr, All, ⊎_elim, refl, ap, sym, subst, ◌∙◌, arith}
+-- Roots: what each call leaves of one.
+use Rattle.std.proofs.Common.{◌≡◌, ◌≢◌, ℕ, suc, ◌<◌, ◌≤◌, true, false, List, [], ◌∷◌, ◌++◌, length, get_or, set, take, drop, Some, None, Result, Ok, Err, OnOk, OnErr, All, ⊎_elim, ap, sym, subst, ◌∙◌, arith}
 use Rattle.std.specs.Prelude.{remove, IsSome, ◌⊎◌}
 use Rattle.std.specs.Option.{option_map}
 use Rattle.std.specs.List.{AllPairs}
@@ -9,19 +9,20 @@ use Rattle.std.proofs.lemmas.List.{length-set, length_push, get_or_default, get_
 use Rattle.std.proofs.lemmas.List.Edits.{length-remove}
 use Rattle.std.proofs.lemmas.List.Elements.{All-set, All-append, All-take, All-drop, All-push}
 use Rattle.std.proofs.lemmas.List.Quantifiers.{all_pairs_push, all_pairs_remove}
-use Rattle.mk_value.specs.declared.path.Step.{Step}
 use Rattle.mk_value.specs.Names.{same_bytes}
-use Rattle.mk_value.specs.Heading.{Attribute, IsHeading}
-use Rattle.mk_value.specs.Data.{Datum, AreRowsOf}
 use Rattle.mk_value.specs.Paths.{Route}
 use Rattle.view_store.specs.declared.error.EditError.{EditError}
 use Rattle.view_store.specs.declared.error.EditError.TheVariants.{NoView}
 use Rattle.view_store.specs.Refusals.{AnswersDue, at_view, due, due_in, look_due, look_due_in}
-use Rattle.tables.specs.Tables.{StoredTable, IsTable, HasNoHomes, table_without_homes}
+use Rattle.tables.specs.Tables.{StoredTable, IsTable}
+use Rattle.tables.specs.Shapes.{HasHomes}
+use Rattle.tables.specs.Rests.{homed_columns, RestsOn}
 use Rattle.view_store.specs.Edits.{Edit, edited, table_at}
+use Rattle.view_store.specs.Rests.{ViewsRestOn}
+use Rattle.view_store.proofs.Resting.{views_rest-self, views_rest-set, views_rest-remove, views_rest-push}
 use Rattle.mk_value.specs.Limits.{max_structure, max_views}
 use Rattle.struct_text.specs.Lengths.{structure_length}
-use Rattle.view_store.specs.Views.{NamedTable, IsView, IsPlainRoot, view_names, named, table_of, with_view, without_view, edited_views, view_at}
+use Rattle.view_store.specs.Views.{NamedTable, IsView, IsRoot, view_names, named, table_of, with_view, without_view, edited_views, view_at}
 use Rattle.view_store.proofs.Named.{IsPlace, IsAbsent, no_view, retabled, table_of-place, table_of-absent, with_view-place, with_view-absent, without_view-place, edited_views-place, view_names-named, length-named, named-set, named-remove, named-push, get_or-named}
 
 -- names with the same bytes are one
@@ -31,22 +32,17 @@ same_name a b e = (bytes_decides a b).0 e
 other_name : (a b : List ℕ) → same_bytes a b ≡ false → a ≢ b
 other_name a b e f = false≢true (sym e ∙ (bytes_decides a b).1 f)
 
--- an edit keeps the schema
-pub edited-schema : (steps : List Step) (edit : Edit) (t : StoredTable) → (edited steps edit t).schema ≡ t.schema
-edited-schema [] (Edit.insert at row zero) t = refl
-edited-schema [] (Edit.insert at row (suc n)) t = refl
-edited-schema [] (Edit.set i prop d) t = refl
-edited-schema [] (Edit.remove at zero) t = refl
-edited-schema [] (Edit.remove at (suc n)) t = refl
-edited-schema (s ∷ steps) edit t = refl
-
-distinct_names : (names : List (List ℕ)) (tables : List StoredTable) → IsPlainRoot names tables → AllPairs (λ a b. a ≢ b) names
+distinct_names : (names : List (List ℕ)) (tables : List StoredTable) → IsRoot names tables → AllPairs (λ a b. a ≢ b) names
 distinct_names names tables root = subst (AllPairs (λ a b. a ≢ b)) (view_names-named names tables root.paired) root.views.distinct
 
+-- the homes of a view have its shape
+abbrev IsShaped : NamedTable → Type 0
+IsShaped v = HasHomes v.table
+
 -- a table given another
-pub root-set : (names : List (List ℕ)) (tables : List StoredTable) (at : ℕ) (t : StoredTable) → IsPlainRoot names tables → at < length tables → IsTable t → HasNoHomes t
-    → structure_length (get_or (named names tables) at no_view).name t.schema ≤ max_structure → IsPlainRoot names (set tables at t)
-root-set names tables at t root p whole plain short =
+pub root-set : (names : List (List ℕ)) (tables : List StoredTable) (at : ℕ) (t : StoredTable) → IsRoot names tables → at < length tables → IsTable t → HasHomes t
+    → structure_length (get_or (named names tables) at no_view).name t.schema ≤ max_structure → IsRoot names (set tables at t)
+root-set names tables at t root p whole homes short =
     let views = named names tables in
     let paired = root.paired in
     let long = length-named names tables paired in
@@ -61,14 +57,14 @@ root-set names tables at t root p whole plain short =
         whole = subst (All IsView) (sym (named-set names tables at t paired p))
             (All-set IsView views at (retabled (get_or views at no_view) t) (record { name = old.name; table = whole; short = short }) root.views.whole);
       };
-      plain = All-set HasNoHomes tables at t plain root.plain;
+      shaped = subst (All IsShaped) (sym (named-set names tables at t paired p)) (All-set IsShaped views at (retabled (get_or views at no_view) t) homes root.shaped);
     }
 
 pub All-remove : {X : Type 0} (P : X → Type 0) (xs : List X) (at : ℕ) → All P xs → All P (remove xs at)
 All-remove P xs at h = All-append P (take at xs) (drop (suc at) xs) (All-take P at xs h) (All-drop P (suc at) xs h)
 
 -- a view removed
-pub root-remove : (names : List (List ℕ)) (tables : List StoredTable) (at : ℕ) → IsPlainRoot names tables → at < length names → IsPlainRoot (remove names at) (remove tables at)
+pub root-remove : (names : List (List ℕ)) (tables : List StoredTable) (at : ℕ) → IsRoot names tables → at < length names → IsRoot (remove names at) (remove tables at)
 root-remove names tables at root p =
     let paired = root.paired in
     let long = length-named names tables paired in
@@ -83,13 +79,13 @@ root-remove names tables at root p =
             (all_pairs_remove (λ a b. a ≢ b) names at p (distinct_names names tables root));
         whole = subst (All IsView) (sym (named-remove names tables at paired)) (All-remove IsView (named names tables) at root.views.whole);
       };
-      plain = All-remove HasNoHomes tables at root.plain;
+      shaped = subst (All IsShaped) (sym (named-remove names tables at paired)) (All-remove IsShaped (named names tables) at root.shaped);
     }
 
 -- a view added last
-pub root-push : (names : List (List ℕ)) (tables : List StoredTable) (name : List ℕ) (t : StoredTable) → IsPlainRoot names tables → IsAbsent names name → length (named names tables) < max_views
-    → IsView (record { name = name; table = t }) → HasNoHomes t → IsPlainRoot (names ++ name ∷ []) (tables ++ t ∷ [])
-root-push names tables name t root absent room view plain =
+pub root-push : (names : List (List ℕ)) (tables : List StoredTable) (name : List ℕ) (t : StoredTable) → IsRoot names tables → IsAbsent names name → length (named names tables) < max_views
+    → IsView (record { name = name; table = t }) → HasHomes t → IsRoot (names ++ name ∷ []) (tables ++ t ∷ [])
+root-push names tables name t root absent room view homes =
     let paired = root.paired in
     let long = length-named names tables paired in
     let longer = length_push names name in
@@ -103,7 +99,7 @@ root-push names tables name t root absent room view plain =
             (λ k d p. other_name (get_or names k d) name (subst (λ n. same_bytes n name ≡ false) (get_or_default names k [] d p) (absent.other k p))));
         whole = subst (All IsView) (sym (named-push names tables name t paired)) (All-push IsView (named names tables) (record { name = name; table = t }) root.views.whole view);
       };
-      plain = All-push HasNoHomes tables t root.plain plain;
+      shaped = subst (All IsShaped) (sym (named-push names tables name t paired)) (All-push IsShaped (named names tables) (record { name = name; table = t }) root.shaped homes);
     }
 
 -- where the names of the views are those of the list, a place in it is one among the views
@@ -148,6 +144,28 @@ edited-root names tables views route edit at t new e paired place p read done =
     ∙ sym (edited_views-place vs route edit at (place_in_views names tables route.name at paired place))
     ∙ ap (λ ws. edited_views ws route edit) e
 
+-- the views rest on those before where the table at a place was given another that rests on it
+pub rests-set : (names : List (List ℕ)) (tables : List StoredTable) (views : List NamedTable) (at : ℕ) (t new : StoredTable) → named names tables ≡ views → length names ≡ length tables
+    → at < length tables → t ≡ get_or tables at t → RestsOn new t → ViewsRestOn (named names (set tables at new)) views
+rests-set names tables views at t new e paired p read h =
+    let vs = named names tables in
+    let here : (get_or vs at no_view).table ≡ t = get_or-named names tables at t paired p ∙ sym read in
+    subst (λ ws. ViewsRestOn ws views) (sym (named-set names tables at new paired p))
+    (subst (λ ws. ViewsRestOn (set vs at (retabled (get_or vs at no_view) new)) ws) e
+    (views_rest-set vs at new (subst (λ u. RestsOn new u) (sym here) h)))
+
+-- and where a view is gone
+pub rests-remove : (names : List (List ℕ)) (tables : List StoredTable) (views : List NamedTable) (at : ℕ) → named names tables ≡ views → length names ≡ length tables → ViewsRestOn (named (remove names at) (remove tables at)) views
+rests-remove names tables views at e paired =
+    subst (λ ws. ViewsRestOn ws views) (sym (named-remove names tables at paired)) (subst (λ ws. ViewsRestOn (remove (named names tables) at) ws) e (views_rest-remove (named names tables) at))
+
+-- and where one without homes was added
+pub rests-push : (names : List (List ℕ)) (tables : List StoredTable) (views : List NamedTable) (name : List ℕ) (t : StoredTable) → named names tables ≡ views → length names ≡ length tables → homed_columns t ≡ []
+    → ViewsRestOn (named (names ++ name ∷ []) (tables ++ t ∷ [])) views
+rests-push names tables views name t e paired none =
+    subst (λ ws. ViewsRestOn ws views) (sym (named-push names tables name t paired))
+    (subst (λ ws. ViewsRestOn (named names tables ++ record { name = name; table = t } ∷ []) ws) e (views_rest-push (named names tables) name t none))
+
 -- the views after the table at a place was given another
 pub replaced-root : (names : List (List ℕ)) (tables : List StoredTable) (views : List NamedTable) (name : List ℕ) (at : ℕ) (t : StoredTable) → named names tables ≡ views → length names ≡ length tables
     → IsPlace names name at → at < length tables → named names (set tables at t) ≡ with_view views name t
@@ -171,7 +189,7 @@ dropped-root names tables views name at e paired place =
     ∙ ap (λ vs. without_view vs name) e
 
 -- the structure text stays short where the schema stays
-pub short_at : (names : List (List ℕ)) (tables : List StoredTable) (at : ℕ) (t : StoredTable) → IsPlainRoot names tables → at < length tables → t ≡ get_or tables at t
+pub short_at : (names : List (List ℕ)) (tables : List StoredTable) (at : ℕ) (t : StoredTable) → IsRoot names tables → at < length tables → t ≡ get_or tables at t
     → structure_length (get_or (named names tables) at no_view).name t.schema ≤ max_structure
 short_at names tables at t root p read =
     let long = length-named names tables root.paired in
@@ -190,9 +208,18 @@ name_at names tables name at paired place =
 -- a root after a view was added last, or memory was wanting
 pub root-pushed : {T E : Type 0} (r : Result T E) (names new_names : List (List ℕ)) (tables new_tables : List StoredTable) (name : List ℕ) (t : StoredTable)
     → OnOk r (new_names ≡ names ++ name ∷ []) → OnOk r (new_tables ≡ tables ++ t ∷ []) → OnErr r (new_names ≡ names) → OnErr r (new_tables ≡ tables)
-    → IsPlainRoot (names ++ name ∷ []) (tables ++ t ∷ []) → IsPlainRoot names tables → IsPlainRoot new_names new_tables
-root-pushed (Ok x) names new_names tables new_tables name t e f g h more root = subst (λ ns. IsPlainRoot ns new_tables) (sym e) (subst (λ ts. IsPlainRoot (names ++ name ∷ []) ts) (sym f) more)
-root-pushed (Err x) names new_names tables new_tables name t e f g h more root = subst (λ ns. IsPlainRoot ns new_tables) (sym g) (subst (λ ts. IsPlainRoot names ts) (sym h) root)
+    → IsRoot (names ++ name ∷ []) (tables ++ t ∷ []) → IsRoot names tables → IsRoot new_names new_tables
+root-pushed (Ok x) names new_names tables new_tables name t e f g h more root = subst (λ ns. IsRoot ns new_tables) (sym e) (subst (λ ts. IsRoot (names ++ name ∷ []) ts) (sym f) more)
+root-pushed (Err x) names new_names tables new_tables name t e f g h more root = subst (λ ns. IsRoot ns new_tables) (sym g) (subst (λ ts. IsRoot names ts) (sym h) root)
+
+pub rests-pushed : {T E : Type 0} (r : Result T E) (names new_names : List (List ℕ)) (tables new_tables : List StoredTable) (name : List ℕ) (t : StoredTable) (views : List NamedTable)
+    → OnOk r (new_names ≡ names ++ name ∷ []) → OnOk r (new_tables ≡ tables ++ t ∷ []) → OnErr r (new_names ≡ names) → OnErr r (new_tables ≡ tables)
+    → named names tables ≡ views → ViewsRestOn (named (names ++ name ∷ []) (tables ++ t ∷ [])) views → ViewsRestOn (named new_names new_tables) views
+rests-pushed (Ok x) names new_names tables new_tables name t views e f g h same more =
+    subst (λ ns. ViewsRestOn (named ns new_tables) views) (sym e) (subst (λ ts. ViewsRestOn (named (names ++ name ∷ []) ts) views) (sym f) more)
+rests-pushed (Err x) names new_names tables new_tables name t views e f g h same more =
+    subst (λ ns. ViewsRestOn (named ns new_tables) views) (sym g)
+    (subst (λ ts. ViewsRestOn (named names ts) views) (sym h) (subst (λ vs. ViewsRestOn vs views) (sym same) (views_rest-self views)))
 
 pub views-pushed : {T E : Type 0} (r : Result T E) (names new_names : List (List ℕ)) (tables new_tables : List StoredTable) (name : List ℕ) (t : StoredTable) (views : List NamedTable)
     → OnOk r (new_names ≡ names ++ name ∷ []) → OnOk r (new_tables ≡ tables ++ t ∷ []) → named (names ++ name ∷ []) (tables ++ t ∷ []) ≡ views → OnOk r (named new_names new_tables ≡ views)
@@ -202,10 +229,6 @@ views-pushed (Err x) names new_names tables new_tables name t views e f g = tt
 -- there is room where a name is absent
 pub room_for : (views : List NamedTable) (name : List ℕ) → table_of views name ≡ None → IsSome (table_of views name) ⊎ (length views < max_views) → length views < max_views
 room_for views name e h = ⊎_elim (λ (some : IsSome (table_of views name)). absurd (let f : false ≡ true = subst IsSome e some in cc)) (λ p. p) h
-
--- a table of plain rows is whole, and no column of it has a home
-pub plain_whole : (schema : List Attribute) (rows : List (List Datum)) (t : StoredTable) → table_without_homes schema rows ≡ t → IsHeading schema → AreRowsOf rows schema → IsTable t × HasNoHomes t
-plain_whole schema rows t e heading whole = (subst IsTable e (record { schema = heading; rows = whole }), subst HasNoHomes e refl)
 
 -- the table to which a route leads, from the table of its name
 pub view_at-found : (views : List NamedTable) (route : Route) (t : StoredTable) → table_of views route.name ≡ Some t → view_at views route ≡ Some (table_at route.steps t)

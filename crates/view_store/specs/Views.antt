@@ -1,12 +1,13 @@
 -- Views by name: what a contract sees of a root.
-use Rattle.std.specs.Prelude.{◌≡◌, ◌≢◌, ℕ, ◌+◌, ◌≤◌, if◌then◌else◌, List, [], ◌∷◌, length, map, Option, All, AllPairs, find, refl}
+use Rattle.std.specs.Prelude.{◌≡◌, ◌≢◌, ℕ, ◌≤◌, if◌then◌else◌, List, [], ◌∷◌, length, map, Option, All, AllPairs, find, refl}
 use Rattle.std.specs.Coded.{Coded, code_by, coded_ℕ, coded_list, coded×}
 use Rattle.std.specs.Option.{option_map}
 use Rattle.mk_value.specs.Limits.{max_structure, max_views}
 use Rattle.mk_value.specs.Names.{IsName, same_bytes}
 use Rattle.mk_value.specs.Paths.{Route}
 use Rattle.struct_text.specs.Lengths.{structure_length}
-use Rattle.tables.specs.Tables.{StoredTable, IsTable, HasNoHomes, stored_code}
+use Rattle.tables.specs.Tables.{StoredTable, IsTable, stored_code}
+use Rattle.tables.specs.Shapes.{HasHomes}
 use Rattle.view_store.specs.Edits.{Edit, edited, table_at}
 
 -- a view: its name and its table
@@ -65,8 +66,8 @@ abbrev pub named : List (List ℕ) → List StoredTable → List NamedTable
 named (name ∷ names) (t ∷ rest) = record { name = name; table = t } ∷ named names rest
 named _ _ = []
 
--- what a root of plain rows keeps: a table for each name, a whole root, and no homes
-pub record IsPlainRoot (names : List (List ℕ)) (tables : List StoredTable) : Type 0 where
+-- what a root keeps: a table for each name, a whole root, and in each table homes of its shape
+pub record IsRoot (names : List (List ℕ)) (tables : List StoredTable) : Type 0 where
   pub paired : length names ≡ length tables
   pub views : AreViews (named names tables)
-  pub plain : All HasNoHomes tables
+  pub shaped : All (λ v. HasHomes v.table) (named names tables)

@@ -2,34 +2,27 @@
 ghost use Rattle.std.specs.Prelude.{◌≡◌, ◌≤◌, length};
 ghost use Rattle.std.specs.Result.{result_err};
 ghost use Rattle.mk_value.specs.Limits.{max_rows};
-ghost use Rattle.mk_value.specs.Data.{AreRowsOf};
 ghost use Rattle.mk_value.specs.Heading.{find};
 ghost use Rattle.mk_value.specs.Values.{datum_of};
 ghost use Rattle.view_store.specs.Changes.{FitsSizes, edit_of};
 ghost use Rattle.view_store.specs.Fitting.{are_of};
-ghost use Rattle.tables.specs.Tables.{table_without_homes};
 ghost use Rattle.view_store.specs.Refusals.{due_in, kind_refusal, range_refusal, value_refusal};
 
 use crate::EditError;
 use crate::change::Change;
-use crate::walk::{find_rows, find_schema};
-use mk_value::{MAX_ROWS, Name, Row, Rows, Schema, Step, Value, fits};
+use crate::walk::{find_schema, find_table};
+use mk_value::{MAX_ROWS, Name, Row, Schema, Step, TableRead, Value, fits};
+use tables::Shared;
 
-/// Answers the first refusal that the edit of rows of this schema is due.
-pub(crate) fn check(
-    schema: &Schema,
-    rows: &Rows,
-    steps: &[Step],
-    change: Change<'_>,
-) -> Result<(), EditError>
-    requires whole { AreRowsOf rows.now schema.now }
-    requires sizes { FitsSizes change }
-    ensures { result_err result ≡ due_in (table_without_homes schema.now rows.now) steps.now (edit_of change.entry) }
+/// Answers the first refusal that the edit of a table is due.
+pub(crate) fn check(table: &Shared, steps: &[Step], change: Change<'_>) -> Result<(), EditError>
+    requires { FitsSizes change }
+    ensures { result_err result ≡ due_in table.now steps.now (edit_of change.entry) }
 {
-    let target = find_schema(schema, steps)?;
+    let target = find_schema(table.schema(), steps)?;
     check_kinds(target, change)?;
-    let inside = find_rows(rows, schema, steps)?;
-    check_places(inside.len(), change)
+    let inside = find_table(table, steps)?;
+    check_places(inside.size(), change)
 }
 
 /// Answers the refusal that the schema of the rows gives alone.

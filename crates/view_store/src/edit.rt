@@ -1,74 +1,71 @@
-//! Edits of plain rows that nothing refuses.
-ghost use Rattle.std.specs.Prelude.{◌≡◌, [], None, IfOk, OnOk, OnErr};
-ghost use Rattle.mk_value.specs.Data.{AreRowsOf};
-ghost use Rattle.view_store.specs.Changes.{edit_of};
-ghost use Rattle.tables.specs.Tables.{table_without_homes};
+//! Edits that nothing refuses.
+ghost use Rattle.std.specs.Prelude.{◌≡◌, [], None, IfOk, OnOk};
+ghost use Rattle.tables.specs.Rests.{RestsOn};
 ghost use Rattle.tables.specs.Rows.{completed};
+ghost use Rattle.tables.specs.Shapes.{HasHomes};
+ghost use Rattle.tables.specs.Tables.{IsTable};
+ghost use Rattle.view_store.specs.Changes.{edit_of};
 ghost use Rattle.view_store.specs.Edits.{edited, edited_here};
 ghost use Rattle.view_store.specs.Refusals.{due_in};
 
 use crate::change::Change;
-use mk_value::{Kind, Memory, Row, Rows, Schema, Step, Value, default_of};
+use mk_value::{Memory, Row, Schema, Step, TableRead, default_of};
 use std::alloc::Global;
+use tables::{Shared, Table, share};
 
-/// Edits the rows to which the steps lead. Nothing is copied but what the edit puts in.
+/// The table after an edit of the rows to which the steps lead. Each table on the way is made anew, and shares with the one before all
+/// columns that the edit leaves.
 pub(crate) fn edit(
     alloc: Global,
-    rows: &mut Rows,
-    schema: &Schema,
+    table: &Shared,
     steps: &[Step],
     change: Change<'_>,
-) -> Result<(), Memory>
-    requires whole { AreRowsOf rows.old schema.now }
-    requires free { due_in (table_without_homes schema.now rows.old) steps.now (edit_of change) ≡ None }
-    ensures whole { AreRowsOf rows.new schema.now }
-    ensures ok { OnOk result (table_without_homes schema.now rows.new ≡ edited steps.now (edit_of change.entry) (table_without_homes schema.now rows.old)) }
-    ensures err { OnErr result (rows.new ≡ rows.old) }
+) -> Result<Shared, Memory>
+    requires { due_in table.now steps.now (edit_of change) ≡ None }
+    ensures ok { IfOk result (λ new. new ≡ edited steps.now (edit_of change.entry) table.now) }
+    ensures rests { IfOk result (λ new. RestsOn new table.now) }
+    ensures whole { IfOk result IsTable }
+    ensures homes { IfOk result HasHomes }
 {
-    let Some((step, rest)) = steps.split_first() else {
-        return edit_here(alloc, rows, schema, change);
-    };
-    let row = step.row as usize;
-    let col = schema.find(step.prop.as_str()).unwrap();
-    let prop = &schema.as_slice()[col];
-    let Kind::V(inner_schema) = &prop.kind else {
-        unreachable!()
-    };
-    let Value::V(mut inner) = rows.replace(row, col, Value::V(Rows::new(alloc))) else {
-        unreachable!()
-    };
-    let result = edit(alloc, &mut inner, inner_schema, rest, change);
-    let _ = rows.replace(row, col, Value::V(inner));
-    result
+    let mut new = table.table().same()?;
+    match steps.split_first() {
+        Some((step, rest)) => {
+            let row = step.row as usize;
+            let col = table.schema().find(step.prop.as_str()).unwrap();
+            let inner = edit(alloc, table.table().inner(row, col), rest, change)?;
+            new.set_inner(row, col, inner)?;
+        }
+        None => edit_here(alloc, &mut new, change)?,
+    }
+    finished(alloc, new)
 }
 
-/// Edits these very rows.
-fn edit_here(
-    alloc: Global,
-    rows: &mut Rows,
-    schema: &Schema,
-    change: Change<'_>,
-) -> Result<(), Memory>
-    requires whole { AreRowsOf rows.old schema.now }
-    requires free { due_in (table_without_homes schema.now rows.old) [] (edit_of change) ≡ None }
-    ensures whole { AreRowsOf rows.new schema.now }
-    ensures ok { OnOk result (table_without_homes schema.now rows.new ≡ edited_here (edit_of change.entry) (table_without_homes schema.now rows.old)) }
-    ensures err { OnErr result (rows.new ≡ rows.old) }
+/// The table, to be shared. It is whole, as each table is.
+fn finished(alloc: Global, table: Table) -> Result<Shared, Memory>
+    ensures value { IfOk result (λ shared. shared ≡ table) }
+    ensures whole { IfOk result IsTable }
+    ensures homes { IfOk result HasHomes }
+{
+    let _rows = table.len();
+    share(alloc, table)
+}
+
+/// Edits these very rows. An error may leave anything.
+fn edit_here(alloc: Global, table: &mut Table, change: Change<'_>) -> Result<(), Memory>
+    requires { due_in table.old [] (edit_of change) ≡ None }
+    ensures ok { OnOk result (table.new ≡ edited_here (edit_of change.entry) table.old) }
+    ensures rests { RestsOn table.new table.old }
 {
     match change {
         Change::Insert(at, row, count) => {
-            let row = completed_row(alloc, row, schema)?;
-            rows.insert(at, &row, count)
+            let row = completed_row(alloc, row, table.schema())?;
+            table.insert_rows(at, &row, count)
         }
         Change::Set(row, prop, value) => {
-            let col = schema.find(prop.as_str()).unwrap();
-            let _ = rows.replace(row, col, value.copy()?);
-            Ok(())
+            let col = table.schema().find(prop.as_str()).unwrap();
+            table.set_cell(row, col, value)
         }
-        Change::Remove(at, count) => {
-            rows.remove(at, count);
-            Ok(())
-        }
+        Change::Remove(at, count) => table.remove_rows(at, count),
     }
 }
 

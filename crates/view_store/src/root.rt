@@ -1,38 +1,45 @@
 //! Views by name.
-ghost use Rattle.std.specs.Prelude.{◌≡◌, ◌↔◌, ◌<◌, ◌≤◌, [], ◌∷◌, ◌++◌, length, map, position, IsSome, IfOk, MatchOption, MatchResult, OnOk, OnErr, ◌⊎◌, None, Some, Ok, Err};
+ghost use Rattle.std.specs.Prelude.{◌≡◌, ◌↔◌, ◌<◌, ◌≤◌, [], ◌∷◌, ◌++◌, length, map, position, All, IsSome, IfOk, MatchOption, MatchResult, OnOk, OnErr, ◌⊎◌, None, Some, Ok, Err};
 ghost use Rattle.std.specs.Option.{option_map};
 ghost use Rattle.std.specs.Result.{result_err};
-ghost use Rattle.mk_value.specs.Data.{AreRowsOf};
 ghost use Rattle.mk_value.specs.Limits.{max_rows, max_structure, max_views};
 ghost use Rattle.mk_value.specs.Names.{same_bytes};
 ghost use Rattle.mk_value.specs.Values.{datum_of};
 ghost use Rattle.view_store.specs.Changes.{FitsSizes, edit_of};
-ghost use Rattle.view_store.specs.Edits.{Edit, table_at};
-ghost use Rattle.view_store.specs.Refusals.{AnswersDue, due, look_due, schema_of};
+ghost use Rattle.view_store.specs.Edits.{Edit, edited, table_at};
+ghost use Rattle.view_store.specs.Refusals.{AnswersDue, due, due_in, look_due, look_due_in, schema_of};
 ghost use Rattle.view_store.specs.Rests.{MayReplace, ViewsRestOn};
 ghost use Rattle.struct_text.specs.Lengths.{structure_length};
-ghost use Rattle.view_store.specs.Views.{AreViews, edited_views, table_of, view_at, view_names, with_view, without_view};
+ghost use Rattle.tables.specs.Rests.{RestsOn};
+ghost use Rattle.tables.specs.Shapes.{HasHomes};
+ghost use Rattle.tables.specs.Tables.{IsTable};
+ghost use Rattle.view_store.specs.Views.{AreViews, IsRoot, edited_views, named, table_of, view_at, view_names, with_view, without_view};
 ghost use Rattle.view_store.specs.declared.error.EditError.TheVariants as edit_error;
 
+use crate::EditError;
 use crate::change::Change;
-use crate::{EditError, Shared, Table};
-use mk_value::{Memory, Name, Path, Row, Rows, Schema, Sequence, Value};
+use crate::check::check;
+use crate::edit::edit;
+use crate::walk::{find_schema, find_table};
+use mk_value::{Memory, Name, Path, Row, Schema, Sequence, Step, TableRead, Value};
 use std::alloc::Global;
 use std::marker::Model;
+use tables::{Shared, Table, share};
 
 /// The names of views, in the order in which they were made.
 pub type Names = Sequence<Name>;
 
-/// Views by name, at most 1,024. Each is a table whose structure text has at most 1,048,576 bytes.
+/// Views by name, in the order in which they were made, at most 1,024. Each is a shared table with its homes, and its structure text has
+/// at most 1,048,576 bytes.
 #[derive(Drop)]
 pub struct Root {
     names: Names,
-    tables: Vec<Table>,
+    tables: Vec<Shared>,
 }
 
 impl Model for Root {
     ghost use Rattle.std.specs.Prelude.{List};
-    ghost use Rattle.view_store.specs.Views.{IsPlainRoot, NamedTable, named, views_code};
+    ghost use Rattle.view_store.specs.Views.{IsRoot, NamedTable, named, views_code};
 
     ghost Value = { List NamedTable };
 
@@ -40,7 +47,7 @@ impl Model for Root {
 
     ghost view = { λ r. named r.names r.tables.items };
 
-    ghost invariant = { λ r. IsPlainRoot r.names r.tables.items };
+    ghost invariant = { λ r. IsRoot r.names r.tables.items };
 }
 
 impl Root {
@@ -54,6 +61,14 @@ impl Root {
         }
     }
 
+    /// The root of these names and tables, in order.
+    pub fn of(names: Names, tables: Vec<Shared>) -> Root
+        requires { IsRoot names tables.items }
+        ensures { result ≡ named names tables.items }
+    {
+        Root { names, tables }
+    }
+
     /// The names of the views, in order.
     pub fn names(&self) -> &Names
         ensures names { result.now ≡ view_names self.now }
@@ -63,8 +78,9 @@ impl Root {
     }
 
     /// The tables of the views, in the order of their names.
-    pub fn tables(&self) -> &[Table]
-        ensures { result.now ≡ map (λ v. v.table) self.now }
+    pub fn tables(&self) -> &[Shared]
+        ensures tables { result.now ≡ map (λ v. v.table) self.now }
+        ensures shaped { All (λ v. HasHomes v.table) self.now }
     {
         &self.tables
     }
@@ -74,13 +90,14 @@ impl Root {
         ensures { MatchOption result (table_of self.now name.now ≡ None) (λ table. table_of self.now name.now ≡ Some table.now) }
     {
         match place_in(&self.names, name) {
-            Some(at) => Some(&self.tables[at]),
+            Some(at) => Some(self.tables[at].table()),
             None => None,
         }
     }
 
     /// Puts copies of a row, so many times, before the row at a place of the view that the path names. Values that are missing at
-    /// the row's end are defaults. At the end of a view it costs the rows that are put in.
+    /// the row's end are defaults. It costs the rows that are put in, and for each column of the tables on the path its list of
+    /// segments and the segment at the place.
     ///
     /// # Errors
     ///
@@ -152,8 +169,9 @@ impl Root {
         ensures err { OnErr result (self.new ≡ self.old) }
         ensures rests { MayReplace table (table_of self.old name.now) → ViewsRestOn self.new self.old }
     {
-        let _properties = table.schema.len();
+        let _rows = table.len();
         let _name = name.as_bytes();
+        let table = share(*self.tables.allocator(), table)?;
         match place_in(&self.names, name) {
             Some(at) => {
                 self.tables[at] = table;
@@ -187,16 +205,12 @@ impl Root {
     ///
     /// # Errors
     ///
-    /// The first that is due: `NoView`; `NoProp` where a property of the path is absent; `WrongKind` where a step goes into no
-    /// view; `OutOfRange` with the size there, where a row of the path is not there. Else `Memory`.
+    /// The first that is due, as of `table_at`. Else `Memory`.
     pub fn view(&self, path: &Path) -> Result<Shared, EditError>
         ensures due { AnswersDue (look_due self.now path.now) result }
         ensures ok { IfOk result (λ shared. view_at self.now path.now ≡ Some shared) }
     {
-        let Some(at) = place_in(&self.names, path.name()) else {
-            return Err(EditError::NoView);
-        };
-        self.tables[at].look(*self.tables.allocator(), path.steps())
+        Ok(hold(self.table_at(path)?)?)
     }
 
     /// The schema of the view that the path names. No row is looked at, and no memory is taken.
@@ -211,38 +225,38 @@ impl Root {
         let Some(at) = place_in(&self.names, path.name()) else {
             return Err(EditError::NoView);
         };
-        self.tables[at].find_schema(path.steps())
+        find_schema(self.tables[at].schema(), path.steps())
     }
 
-    /// The rows of the view that the path names, in order. No memory is taken.
+    /// The view that the path names. No memory is taken.
     ///
     /// # Errors
     ///
     /// The first that is due: `NoView`; `NoProp` where a property of the path is absent; `WrongKind` where a step goes into no
     /// view; `OutOfRange` with the size there, where a row of the path is not there.
-    pub fn rows(&self, path: &Path) -> Result<&Rows, EditError>
+    pub fn table_at(&self, path: &Path) -> Result<&Shared, EditError>
         ensures due { result_err result ≡ look_due self.now path.now }
-        ensures ok { IfOk result (λ rows. option_map (λ t. t.rows) (view_at self.now path.now) ≡ Some rows.now) }
+        ensures ok { IfOk result (λ table. view_at self.now path.now ≡ Some table.now) }
     {
         let Some(at) = place_in(&self.names, path.name()) else {
             return Err(EditError::NoView);
         };
-        self.tables[at].find_rows(path.steps())
+        look(&self.tables[at], path.steps())
     }
 
     /// The number of rows of the view that the path names, at most 16,777,216. No memory is taken.
     ///
     /// # Errors
     ///
-    /// The first that is due, as of `rows`.
+    /// The first that is due, as of `table_at`.
     pub fn size(&self, path: &Path) -> Result<usize, EditError>
         ensures due { result_err result ≡ look_due self.now path.now }
         ensures ok { IfOk result (λ size. option_map (λ t. length t.rows) (view_at self.now path.now) ≡ Some size) }
     {
-        Ok(self.rows(path)?.len())
+        Ok(self.table_at(path)?.size())
     }
 
-    /// A root of the same names, rows and homes.
+    /// A root of the same names, rows and homes, whose tables are the very same.
     ///
     /// # Errors
     ///
@@ -255,10 +269,7 @@ impl Root {
         for name in self.names.as_slice() {
             names.push(name.copy()?)?;
         }
-        let mut tables = Vec::new(alloc);
-        for table in self.tables.iter() {
-            tables.push(table.copy()?)?;
-        }
+        let tables = Vec::from_clones(alloc, &self.tables)?;
         Ok(Root { names, tables })
     }
 
@@ -274,9 +285,44 @@ impl Root {
             return Err(EditError::NoView);
         };
         let alloc = *self.tables.allocator();
-        let table = &mut self.tables[at];
-        table.edit(alloc, path.steps(), change)
+        let table = edit_table(alloc, &self.tables[at], path.steps(), change)?;
+        self.tables[at] = table;
+        Ok(())
     }
+}
+
+/// The table after an edit of the rows to which the steps lead.
+fn edit_table(
+    alloc: Global,
+    table: &Shared,
+    steps: &[Step],
+    change: Change<'_>,
+) -> Result<Shared, EditError>
+    requires { FitsSizes change }
+    ensures due { AnswersDue (due_in table.now steps.now (edit_of change.entry)) result }
+    ensures ok { IfOk result (λ new. new ≡ edited steps.now (edit_of change.entry) table.now) }
+    ensures rests { IfOk result (λ new. RestsOn new table.now) }
+    ensures whole { IfOk result IsTable }
+    ensures homes { IfOk result HasHomes }
+{
+    check(table, steps, change)?;
+    Ok(edit(alloc, table, steps, change)?)
+}
+
+/// The table to which the steps lead from a table.
+fn look<'a>(table: &'a Shared, steps: &[Step]) -> Result<&'a Shared, EditError>
+    ensures due { result_err result ≡ look_due_in table.now steps.now }
+    ensures ok { IfOk result (λ found. found.now ≡ table_at steps.now table.now) }
+{
+    let _schema = find_schema(table.schema(), steps)?;
+    find_table(table, steps)
+}
+
+/// The very same table, with one holder more.
+fn hold(table: &Shared) -> Result<Shared, Memory>
+    ensures { IfOk result (λ shared. shared ≡ table.now) }
+{
+    Ok(table.clone()?)
 }
 
 /// The place of a name among names.
@@ -292,9 +338,9 @@ fn place_in(names: &Names, name: &Name) -> Option<usize>
 /// Adds a name and its table last.
 fn push_view(
     names: &mut Names,
-    tables: &mut Vec<Table>,
+    tables: &mut Vec<Shared>,
     name: &Name,
-    table: Table,
+    table: Shared,
 ) -> Result<(), Memory>
     ensures names { OnOk result (names.new ≡ names.old ++ name.now ∷ []) }
     ensures tables { OnOk result (tables.new.items ≡ tables.old.items ++ table ∷ []) }

@@ -11,6 +11,7 @@ loop-left-preserved g c =
     let done = c.args.span.len - c.loop-left.left in
     record {
       within = omega (arith, within);
+      len = let before = c.loop-left.invariant.len in let more = c.in_ok-read_piece.ensures.len in omega (arith, within, least, before, more);
       counts = CountsFaults-joins ⊥ _ ⊥ c.loop-left.invariant.counts c.in_ok-read_piece.ensures.counts (λ failed. absurd failed);
       same = λ tells. looks_joins (c.loop-left.invariant.same tells) (c.in_ok-read_piece.ensures.same tells);
       bytes = λ tells.

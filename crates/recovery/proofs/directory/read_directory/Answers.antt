@@ -1,4 +1,4 @@
-use Rattle.std.proofs.Common.{◌+◌, ◌^◌, ◌<◌, ◌≤◌, length, ◌∙◌, ap, sym, subst}
+use Rattle.std.proofs.Common.{ℕ, List, ◌+◌, ◌^◌, ◌<◌, ◌≤◌, length, ◌∙◌, ap, sym, subst}
 use Rattle.mk_value.specs.declared.span.Span.{Span}
 use Rattle.host_io.specs.Ranges.{bytes_in}
 use Rattle.commit_writes.specs.Blocks.{span_range}
@@ -32,3 +32,6 @@ returns-clause-found g c = λ tells.
     let image = (g.D.Disk.outside c.args.disk.now).now.disk.seen in
     has_dir image c.as_slice.result.now c.args.mark.now (dir_of c.in_ok-dir.dir) (c.requires.fits tells)
     (c.as_slice.ensures ∙ c.in_ok-bytes.ensures.bytes tells ∙ ap (λ (s : Span). bytes_in image (span_range s)) c.dir.ensures) c.in_ok-dir.ensures.found
+
+pub returns-clause-small : goal.returns-clause-small
+returns-clause-small g c = subst (λ (bs : List ℕ). length bs < 2 ^ 64) c.in_ok-dir.ensures.found.1 c.as_slice.type_inv.0

@@ -1,6 +1,6 @@
 use Rattle.std.proofs.Common.{ap}
 use Rattle.std.specs.Prelude.{Err}
-use Rattle.recovery.proofs.NumberColumns.{read_column, read_numbers, whole_column}
+use Rattle.recovery.proofs.NumberColumns.{long_column, read_column, read_numbers, whole_column}
 use Rattle.recovery.proofs.ReadErrors.{cause_is}
 use Rattle.recovery.proofs.numbers.read_numbers.Goals as goal
 
@@ -15,3 +15,6 @@ returns-clause-column g c = λ tells.
 
 pub returns-clause-whole : goal.returns-clause-whole
 returns-clause-whole g c = whole_column c.args.width c.args.block c.args.rows c.in_ok-column.column c.in_ok-column.ensures.held
+
+pub returns-clause-made : goal.returns-clause-made
+returns-clause-made g c = long_column c.args.width c.args.block c.args.rows c.in_ok-column.column c.in_ok-column.ensures.packed

@@ -2,7 +2,7 @@ use Rattle.std.proofs.Common.{ap, sym, ◌∙◌}
 use Rattle.std.specs.Prelude.{Err}
 use Rattle.recovery.specs.Blobs.{parts_of}
 use Rattle.recovery.proofs.ReadErrors.{cause_is}
-use Rattle.recovery.proofs.StringColumns.{none_fit, other_rows, read_column, readable_values, whole_column}
+use Rattle.recovery.proofs.StringColumns.{long_column, none_fit, other_rows, read_column, readable_values, whole_column}
 use Rattle.recovery.proofs.strings.read_strings.Goals as goal
 
 pub returns-in_err-column-clause-unreadable : goal.returns-in_err-column-clause-unreadable
@@ -27,3 +27,8 @@ returns-clause-column g c = λ tells.
 pub returns-clause-whole : goal.returns-clause-whole
 returns-clause-whole g c =
     whole_column c.args.content (parts_of c.args.blocks c.args.memos.now) c.args.rows c.in_ok-column.column c.in_ok-column.ensures.home c.in_ok-column.ensures.counted c.if-not-all_fit.ensures.fit
+
+pub returns-clause-made : goal.returns-clause-made
+returns-clause-made g c =
+    long_column c.args.content (parts_of c.args.blocks c.args.memos.now) c.args.rows c.in_ok-column.column c.in_ok-column.ensures.long
+    (c.if-not-are_rows_of.ensures.same ∙ c.as_slice.ensures ∙ c.in_ok-memo_rows.ensures) c.if-not-all_fit.ensures.fit

@@ -1,26 +1,36 @@
-use Rattle.std.proofs.Common.{◌≡◌, ◌+◌, ◌++◌, map, drop}
-use Rattle.mk_value.specs.Data.{datum_weight, row_weight, rows_weight}
-use Rattle.mk_value.specs.Heading.{heading_of}
-use Rattle.mk_value.specs.Values.{datum_of}
-use Rattle.restructure.specs.Restructuring.{row_under, restructured_row, restructured_rows}
+use Rattle.std.proofs.Common.{◌+◌, ◌*◌}
+use Rattle.mk_value.specs.Heading.{domain_weight, attributes_weight}
+use Rattle.mk_value.specs.Kinds.{domain_of}
+use Rattle.tables.proofs.Rebuilding.{AreFirstColumns}
+use Rattle.restructure.specs.Restructuring.{restructured}
+use Rattle.restructure.proofs.Made.{AreMade}
 use Rattle.restructure.proofs.restructuring.+restructure.Given as goal
 
-abbrev pub decreases-restructure_value : goal.decreases-restructure_value
-decreases-restructure_value l = datum_weight (datum_of l.value.now)
+abbrev pub decreases-restructure_table : goal.decreases-restructure_table
+decreases-restructure_table l = 8 * attributes_weight l.new.now + 3
 
-abbrev pub decreases-restructure_rows : goal.decreases-restructure_rows
-decreases-restructure_rows l = rows_weight l.rows.now + 1
+abbrev pub decreases-restructure_cols : goal.decreases-restructure_cols
+decreases-restructure_cols l = 8 * attributes_weight l.new.now + 2
 
-abbrev pub decreases-restructure_row : goal.decreases-restructure_row
-decreases-restructure_row l = row_weight l.row.now + 1
+abbrev pub decreases-restructure_place : goal.decreases-restructure_place
+decreases-restructure_place l = 8 * domain_weight (domain_of l.kind.now) + 1
 
-abbrev pub decreases-restructure_cell : goal.decreases-restructure_cell
-decreases-restructure_cell l = row_weight l.row.now
+abbrev pub decreases-restructure_column : goal.decreases-restructure_column
+decreases-restructure_column l = 8 * domain_weight (domain_of l.kind.now)
 
--- the values so far and those still to come are the whole row
-abbrev pub invariant-restructure_row-loop-at : goal.invariant-restructure_row-loop-at
-invariant-restructure_row-loop-at l = l.made ++ row_under l.old (heading_of (drop l.at l.props)) l.row ≡ row_under l.old (heading_of l.props) l.row
+abbrev pub decreases-to_views : goal.decreases-to_views
+decreases-to_views l = 8 * attributes_weight l.schema.now + 6
 
--- the rows so far and those still to come are all
-abbrev pub invariant-restructure_rows-loop-row : goal.invariant-restructure_rows-loop-row
-invariant-restructure_rows-loop-row l = l.made ++ map (restructured_row l.old l.new) (drop l.row-index l.row-items) ≡ restructured_rows l.old l.new l.row-items
+abbrev pub decreases-restructure_views : goal.decreases-restructure_views
+decreases-restructure_views l = 8 * attributes_weight l.new.now + 5
+
+abbrev pub decreases-restructure_inner : goal.decreases-restructure_inner
+decreases-restructure_inner l = 8 * attributes_weight l.new.now + 4
+
+-- the columns so far are the first of the table
+abbrev pub invariant-restructure_cols-loop-at : goal.invariant-restructure_cols-loop-at
+invariant-restructure_cols-loop-at l = AreFirstColumns (restructured l.fn.old l.fn.new) l.at l.cols
+
+-- the tables so far are those of the first rows, and whole
+abbrev pub invariant-restructure_views-loop-at : goal.invariant-restructure_views-loop-at
+invariant-restructure_views-loop-at l = AreMade l.fn.old l.fn.new l.at l.tables

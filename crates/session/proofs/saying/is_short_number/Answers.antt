@@ -1,4 +1,4 @@
-use Rattle.std.proofs.Common.{◌<◌, ◌^◌, arith}
+use Rattle.std.proofs.Common.{arith}
 use Rattle.std.proofs.lemmas.Fmt.{length-decimal-le}
 use Rattle.session.proofs.saying.is_short_number.Goals as goal
 

@@ -1,9 +1,8 @@
-use Rattle.std.proofs.Common.{◌≡◌, ◌↔◌, IsTrue, Some, None, ap, sym, ◌∙◌, get_or}
+use Rattle.std.proofs.Common.{◌≡◌, Some, ap, sym, ◌∙◌, get_or}
 use Rattle.cmd_text.specs.declared.refusal.Refusal.TheVariants.{Kind}
-use Rattle.mk_value.specs.Heading.{Domain, Attribute, find}
+use Rattle.mk_value.specs.Heading.{Attribute, find}
 use Rattle.mk_value.specs.Kinds.{domain_of}
 use Rattle.mk_value.specs.LiteralValues.{literal_of}
-use Rattle.mk_value.specs.Tables.{domain_at}
 use Rattle.view_store.proofs.Walking.{domain_read, place_within}
 use Rattle.session.specs.Refusals.{unless}
 use Rattle.session.proofs.Fitted.{literal_refusal-found}

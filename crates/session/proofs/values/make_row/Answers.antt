@@ -1,8 +1,8 @@
-use Rattle.std.proofs.Common.{◌≡◌, ◌+◌, ◌<◌, length, map, drop, get_or, true, ap, sym, subst, ◌∙◌, arith, rules}
+use Rattle.std.proofs.Common.{◌≡◌, ◌+◌, ◌<◌, length, map, get_or, true, ap, sym, subst, ◌∙◌, arith, rules}
 use Rattle.std.proofs.lemmas.List.{length-map}
 use Rattle.cmd_text.specs.declared.refusal.Refusal.TheVariants.{Limit}
 use Rattle.mk_value.specs.Conversions.{IsProper, becomes}
-use Rattle.mk_value.specs.Data.{Datum, IsOf}
+use Rattle.mk_value.specs.Data.{IsOf}
 use Rattle.mk_value.specs.Heading.{Attribute}
 use Rattle.mk_value.specs.LiteralValues.{literal_of}
 use Rattle.mk_value.specs.Values.{datum_of}
@@ -10,7 +10,7 @@ use Rattle.mk_value.proofs.Walks.{drop_read, drop_map_read, map_read}
 use Rattle.view_store.specs.Fitting.{are_of}
 use Rattle.session.specs.Fitting.{fits, is_short}
 use Rattle.session.specs.Values.{values_for}
-use Rattle.session.proofs.Fitted.{SoFar, unless_none, next_fits, so_far_next, so_far_values, so_far_whole, so_far_short, refused_next}
+use Rattle.session.proofs.Fitted.{SoFar, unless_none, next_fits, so_far_next, so_far_values, so_far_whole, refused_next}
 use Rattle.session.proofs.values.make_row.Goals as goal
 
 pub make_value-requires-clause-fit : goal.make_value-requires-clause-fit

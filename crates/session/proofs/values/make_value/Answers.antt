@@ -1,4 +1,4 @@
-use Rattle.std.proofs.Common.{◌≡◌, true, false, Some, None, Err, ap, inl, sym, ◌∙◌}
+use Rattle.std.proofs.Common.{Err, ap, inl}
 use Rattle.cmd_text.specs.declared.refusal.Refusal.TheVariants.{Limit}
 use Rattle.mk_value.specs.Kinds.{domain_of}
 use Rattle.mk_value.specs.LiteralValues.{literal_of}

@@ -1,5 +1,5 @@
-use Rattle.std.proofs.Common.{map, ap, ◌∙◌}
-use Rattle.view_store.specs.Views.{NamedTable, view_names}
+use Rattle.std.proofs.Common.{ap, ◌∙◌}
+use Rattle.view_store.specs.Views.{view_names}
 use Rattle.session.specs.Structures.{structure_texts, structures}
 use Rattle.session.specs.World.{World}
 use Rattle.session.proofs.Walked.{structures_of}
@@ -9,6 +9,6 @@ pub returns-in-Ok-clause-texts : goal.returns-in-Ok-clause-texts
 returns-in-Ok-clause-texts c =
     c.in-Ok.ensures
     ∙ ap (λ names. structure_texts names c.tables.result.now) (c.as_slice-names.ensures ∙ c.names.ensures.names)
-    ∙ ap (λ tables. structure_texts (view_names c.self.inside.root) tables) c.tables.ensures
+    ∙ ap (λ tables. structure_texts (view_names c.self.inside.root) tables) c.tables.ensures.tables
     ∙ structures_of c.self.inside.root
     ∙ ap (λ (w : World). structures w.root) c.self.view_is

@@ -1,4 +1,8 @@
-use Rattle.std.proofs.Common.{◌+◌, ap, ◌∙◌}
+use Rattle.std.proofs.Common.{◌+◌, ap, sym, subst, ◌∙◌}
+use Rattle.mk_value.proofs.Relations.{row_fits_length}
+use Rattle.tables.specs.Rests.{RestsOn}
+use Rattle.tables.specs.Tables.{StoredTable}
+use Rattle.tables.proofs.EditedTables.{inserted-rests}
 use Rattle.tables.proofs.Rebuilding.{inserted_done}
 use Rattle.tables.proofs.table.Table.insert_rows.Goals as goal
 
@@ -15,3 +19,11 @@ returns-clause-ok c =
     inserted_done c.args.self.now c.args.at c.args.count (c.len.result + c.args.count) c.args.row.now c.in_ok-cols.cols c.len.ensures.whole c.len.ensures.homes c.requires.at c.requires.few c.requires.row
     c.in_ok-cols.ensures (ap (λ n. n + c.args.count) c.len.ensures.value) in
     c.set_cols.ensures ∙ done.table
+
+pub returns-clause-rests : goal.returns-clause-rests
+returns-clause-rests c =
+    let done =
+    inserted_done c.args.self.now c.args.at c.args.count (c.len.result + c.args.count) c.args.row.now c.in_ok-cols.cols c.len.ensures.whole c.len.ensures.homes c.requires.at c.requires.few c.requires.row
+    c.in_ok-cols.ensures (ap (λ n. n + c.args.count) c.len.ensures.value) in
+    subst (λ (t : StoredTable). RestsOn t c.args.self.now) (sym (c.set_cols.ensures ∙ done.table))
+    (inserted-rests c.args.self.now c.args.at c.args.row.now c.args.count c.len.ensures.homes (row_fits_length c.args.row.now c.args.self.now.schema c.requires.row))

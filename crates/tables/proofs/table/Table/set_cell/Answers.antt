@@ -8,6 +8,7 @@ use Rattle.tables.specs.Homes.{empty_homes_in}
 use Rattle.tables.specs.Tables.{StoredTable, with_value}
 use Rattle.tables.proofs.Gathering.{length-rows_of_columns, length-columns}
 use Rattle.tables.proofs.Reading.{domain_read}
+use Rattle.tables.proofs.Rested.{set_rests}
 use Rattle.tables.proofs.Setting.{by_answer, OnOk-then, column_there, set_done}
 use Rattle.tables.proofs.table.Table.set_cell.Goals as goal
 
@@ -65,3 +66,19 @@ returns-clause-ok c =
     OnOk-then c.set_value.result c.set_value.ensures.ok
     (λ done. (set_done c.self.inside.rows c.args.row c.args.col c.self.inside.schema c.self.inside.cols c.set_value.new.self c.args.self.now e d (empty_homes_in e d) c.self.view_is are c.requires.row_in c.requires.col_in (sym kind) done).table
     ∙ ap (λ f. with_value c.args.self.now c.args.row c.args.col d (empty_homes_in f d)) known)
+
+pub returns-clause-rests : goal.returns-clause-rests
+returns-clause-rests c =
+    let width = ap (λ (t : StoredTable). length t.schema) c.self.view_is in
+    let col_in = c.requires.col_in in
+    let within : c.args.col < length c.self.inside.schema = omega (arith, width, col_in) in
+    let kind = domain_read c.self.inside.schema c.args.col c.index-as_slice-col.result (domain_of c.prop.inside.kind) within (rw (c.as_slice.ensures.value, c.get.ensures) at c.index-as_slice-col.is) (ap (λ (a : Attribute). a.domain) c.prop.view_is) in
+    let e = domain_of c.prop.inside.kind in
+    let d = datum_of c.args.value.now in
+    let are : AreColumnsOf c.self.inside.rows c.self.inside.schema c.self.inside.cols = record { few = c.self.invariant.few; each = c.self.invariant.each } in
+    let known : e ≡ domain_at c.args.self.now.schema c.args.col = sym kind ∙ ap (λ (t : StoredTable). domain_at t.schema c.args.col) c.self.view_is in
+    let ok = OnOk-then c.set_value.result c.set_value.ensures.ok
+    (λ done. (set_done c.self.inside.rows c.args.row c.args.col c.self.inside.schema c.self.inside.cols c.set_value.new.self c.args.self.now e d (empty_homes_in e d) c.self.view_is are c.requires.row_in c.requires.col_in (sym kind) done).table
+    ∙ ap (λ f. with_value c.args.self.now c.args.row c.args.col d (empty_homes_in f d)) known)
+    in
+    set_rests c.set_value.result c.self.inside.rows c.self.inside.schema c.self.inside.cols c.set_value.new.self c.args.self.now c.args.row c.args.col d c.self.view_is are c.requires.row_in c.requires.col_in ok c.set_value.ensures.err

@@ -1,13 +1,11 @@
-use Rattle.std.proofs.Common.{◌≡◌, ◌<◌, length, get_or, Some, None, All, ap, sym, subst, ◌∙◌, arith, refl}
+use Rattle.std.proofs.Common.{◌≡◌, ◌<◌, length, get_or, Some, None, ap, sym, subst, ◌∙◌, arith, refl}
 use Rattle.std.specs.Prelude.{remove}
 use Rattle.std.proofs.lemmas.List.{get_or_default}
-use Rattle.view_store.specs.Rests.{homed_views}
-use Rattle.tables.specs.Tables.{HasNoHomes}
-use Rattle.view_store.specs.Views.{IsPlainRoot, named}
+use Rattle.view_store.specs.Rests.{ViewsRestOn}
+use Rattle.view_store.specs.Views.{IsRoot, named}
 use Rattle.view_store.proofs.Named.{IsPlace-position, IsAbsent-position, no_view}
-use Rattle.tables.proofs.Resting.{Rest-none}
-use Rattle.view_store.proofs.Resting.{homed_views-named}
-use Rattle.view_store.proofs.Roots.{root-remove, All-remove, dropped-root, found_table, absent_table}
+use Rattle.view_store.proofs.Resting.{views_rest-self}
+use Rattle.view_store.proofs.Roots.{root-remove, rests-remove, dropped-root, found_table, absent_table}
 use Rattle.view_store.proofs.root.Root.drop_view.Goals as goal
 
 pub returns-in_default-clause-no_view : goal.returns-in_default-clause-no_view
@@ -19,8 +17,7 @@ returns-in_default-clause-no_view c =
     (λ _. absent_table names tables c.args.self.now c.args.name.now c.self.view_is root.paired absent, λ _. refl)
 
 pub returns-in_default-clause-rests : goal.returns-in_default-clause-rests
-returns-in_default-clause-rests c =
-    Rest-none _ _ (ap homed_views (sym c.self.view_is) ∙ homed_views-named c.self.inside.names c.self.inside.tables.items c.self.invariant.plain)
+returns-in_default-clause-rests c = views_rest-self c.args.self.now
 
 pub invariant_of-self : goal.invariant_of-self
 invariant_of-self c =
@@ -30,8 +27,8 @@ invariant_of-self c =
     let at = c.in-Some.at in
     let place = IsPlace-position names c.args.name.now at (sym c.place_in.ensures ∙ c.in-Some.is) in
     let within : at < length tables = let paired = root.paired in let here = place.within in omega arith in
-    subst (λ ns. IsPlainRoot ns c.remove-table.new.self.items) (sym c.remove-name.ensures.rest)
-    (subst (λ ts. IsPlainRoot (remove names at) ts) (sym c.remove-table.ensures.items) (root-remove names tables at root place.within))
+    subst (λ ns. IsRoot ns c.remove-table.new.self.items) (sym c.remove-name.ensures.rest)
+    (subst (λ ts. IsRoot (remove names at) ts) (sym c.remove-table.ensures.items) (root-remove names tables at root place.within))
 
 pub returns-clause-no_view : goal.returns-clause-no_view
 returns-clause-no_view c =
@@ -58,5 +55,8 @@ returns-clause-ok c =
 
 pub returns-clause-rests : goal.returns-clause-rests
 returns-clause-rests c =
-    Rest-none _ _ (homed_views-named c.remove-name.new.self c.remove-table.new.self.items
-    (subst (All HasNoHomes) (sym c.remove-table.ensures.items) (All-remove HasNoHomes c.self.inside.tables.items c.in-Some.at c.self.invariant.plain)))
+    let names = c.self.inside.names in
+    let tables = c.self.inside.tables.items in
+    subst (λ ns. ViewsRestOn (named ns c.remove-table.new.self.items) c.args.self.now) (sym c.remove-name.ensures.rest)
+    (subst (λ ts. ViewsRestOn (named (remove names c.in-Some.at) ts) c.args.self.now) (sym c.remove-table.ensures.items)
+    (rests-remove names tables c.args.self.now c.in-Some.at c.self.view_is c.self.invariant.paired))

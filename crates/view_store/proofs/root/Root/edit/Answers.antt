@@ -1,18 +1,16 @@
-use Rattle.std.proofs.Common.{◌<◌, ◌≤◌, length, get_or, position, ap, sym, subst, ◌∙◌, arith, refl}
-use Rattle.std.proofs.lemmas.List.Elements.{All-set}
+use Rattle.std.proofs.Common.{◌<◌, ◌≤◌, length, get_or, position, Ok, ap, sym, subst, ◌∙◌, arith, refl}
 use Rattle.mk_value.specs.Names.{same_bytes}
 use Rattle.view_store.specs.Changes.{edit_of}
 use Rattle.view_store.specs.Edits.{edited}
 use Rattle.view_store.specs.Refusals.{AnswersDue, due_in}
-use Rattle.tables.specs.Tables.{StoredTable, HasNoHomes}
+use Rattle.tables.specs.declared.shared.Shared.{Shared}
+use Rattle.tables.specs.Tables.{StoredTable}
 use Rattle.mk_value.specs.Limits.{max_structure}
 use Rattle.struct_text.specs.Lengths.{structure_length}
 use Rattle.view_store.specs.Views.{named}
-use Rattle.view_store.proofs.Editing.{by_answer, OnOk-then}
+use Rattle.view_store.proofs.Editing.{edited-schema, due_done, due_failed}
 use Rattle.view_store.proofs.Named.{IsPlace-position, IsAbsent-position, no_view}
-use Rattle.tables.proofs.Resting.{Rest-none}
-use Rattle.view_store.proofs.Resting.{homed_views-named}
-use Rattle.view_store.proofs.Roots.{root-set, edited-schema, edited-root, short_at, found_table, absent_table, due-found, due-absent}
+use Rattle.view_store.proofs.Roots.{root-set, rests-set, edited-root, short_at, found_table, absent_table, due-found, due-absent}
 use Rattle.view_store.proofs.root.Root.edit.Goals as goal
 
 pub returns-in_default-clause-due : goal.returns-in_default-clause-due
@@ -20,6 +18,19 @@ returns-in_default-clause-due c =
     let names = c.self.inside.names in
     let absent = IsAbsent-position names c.args.path.now.name (ap (λ n. position (λ known. same_bytes known n) names) (sym c.name.ensures) ∙ sym c.place_in.ensures ∙ c.in_default.is) in
     due-absent c.args.self.now c.args.path.now (edit_of c.args.change) _ (absent_table names c.self.inside.tables.items c.args.self.now c.args.path.now.name c.self.view_is c.self.invariant.paired absent) refl
+
+pub returns-in_err-table-clause-due : goal.returns-in_err-table-clause-due
+returns-in_err-table-clause-due c =
+    let names = c.self.inside.names in
+    let tables = c.self.inside.tables.items in
+    let root = c.self.invariant in
+    let at = c.in-Some.at in
+    let place = IsPlace-position names c.args.path.now.name at (ap (λ n. position (λ known. same_bytes known n) names) (sym c.name.ensures) ∙ sym c.place_in.ensures ∙ c.in-Some.is) in
+    let within : at < length tables = let paired = root.paired in let here = place.within in omega arith in
+    let t = c.index.result.now in
+    let found = found_table names tables c.args.self.now c.args.path.now.name at t c.self.view_is root.paired place within c.index.ensures in
+    let same = ap (λ ss. due_in t ss (edit_of c.args.change)) c.steps.ensures ∙ sym (due-found c.args.self.now c.args.path.now (edit_of c.args.change) t found) in
+    subst (λ o. AnswersDue o c.from_residual.result) same (due_failed Shared _ c.from_residual.result c.in_err-table.field-0.0 c.from_residual.ensures.1 c.in_err-table.ensures.due)
 
 pub invariant_of-self : goal.invariant_of-self
 invariant_of-self c =
@@ -29,12 +40,12 @@ invariant_of-self c =
     let at = c.in-Some.at in
     let place = IsPlace-position names c.args.path.now.name at (ap (λ n. position (λ known. same_bytes known n) names) (sym c.name.ensures) ∙ sym c.place_in.ensures ∙ c.in-Some.is) in
     let within : at < length tables = let paired = root.paired in let here = place.within in omega arith in
-    let t = c.index_mut-table.result.now in
-    let short = short_at names tables at t root within c.index_mut-table.ensures.value in
-    let P = λ (u : StoredTable). structure_length (get_or (named names tables) at no_view).name u.schema ≤ max_structure in
-    root-set names tables at c.edit.new.self root within c.edit.ensures.whole c.edit.ensures.plain
-    (by_answer P c.edit.result c.edit.new.self t (edited c.steps.result.now (edit_of c.args.change) t) c.edit.ensures.ok c.edit.ensures.err
-    (subst (λ s. structure_length (get_or (named names tables) at no_view).name s ≤ max_structure) (sym (edited-schema c.steps.result.now (edit_of c.args.change) t)) short) short)
+    let t = c.index.result.now in
+    let e = edit_of c.args.change in
+    let short = short_at names tables at t root within c.index.ensures in
+    let schema = ap (λ (u : StoredTable). u.schema) c.in_ok-table.ensures.ok ∙ edited-schema c.steps.result.now e t in
+    root-set names tables at c.in_ok-table.table root within c.in_ok-table.ensures.whole c.in_ok-table.ensures.homes
+    (subst (λ s. structure_length (get_or (named names tables) at no_view).name s ≤ max_structure) (sym schema) short)
 
 pub returns-clause-due : goal.returns-clause-due
 returns-clause-due c =
@@ -44,10 +55,10 @@ returns-clause-due c =
     let at = c.in-Some.at in
     let place = IsPlace-position names c.args.path.now.name at (ap (λ n. position (λ known. same_bytes known n) names) (sym c.name.ensures) ∙ sym c.place_in.ensures ∙ c.in-Some.is) in
     let within : at < length tables = let paired = root.paired in let here = place.within in omega arith in
-    let t = c.index_mut-table.result.now in
-    let found = found_table names tables c.args.self.now c.args.path.now.name at t c.self.view_is root.paired place within c.index_mut-table.ensures.value in
-    subst (λ o. AnswersDue o c.edit.result)
-    (ap (λ ss. due_in t ss (edit_of c.args.change)) c.steps.ensures ∙ sym (due-found c.args.self.now c.args.path.now (edit_of c.args.change) t found)) c.edit.ensures.due
+    let t = c.index.result.now in
+    let found = found_table names tables c.args.self.now c.args.path.now.name at t c.self.view_is root.paired place within c.index.ensures in
+    let same = ap (λ ss. due_in t ss (edit_of c.args.change)) c.steps.ensures ∙ sym (due-found c.args.self.now c.args.path.now (edit_of c.args.change) t found) in
+    subst (λ o. AnswersDue {T = Unit {0}} o (Ok tt)) same (due_done {X = Shared} _ c.in_ok-table.table tt c.in_ok-table.ensures.due)
 
 pub returns-clause-ok : goal.returns-clause-ok
 returns-clause-ok c =
@@ -57,12 +68,18 @@ returns-clause-ok c =
     let at = c.in-Some.at in
     let place = IsPlace-position names c.args.path.now.name at (ap (λ n. position (λ known. same_bytes known n) names) (sym c.name.ensures) ∙ sym c.place_in.ensures ∙ c.in-Some.is) in
     let within : at < length tables = let paired = root.paired in let here = place.within in omega arith in
-    let t = c.index_mut-table.result.now in
-    OnOk-then c.edit.result c.edit.ensures.ok
-    (λ done. edited-root names tables c.args.self.now c.args.path.now (edit_of c.args.change) at t c.edit.new.self c.self.view_is root.paired place within c.index_mut-table.ensures.value
-    (done ∙ ap (λ ss. edited ss (edit_of c.args.change) t) c.steps.ensures))
+    let t = c.index.result.now in
+    edited-root names tables c.args.self.now c.args.path.now (edit_of c.args.change) at t c.in_ok-table.table c.self.view_is root.paired place within c.index.ensures
+    (c.in_ok-table.ensures.ok ∙ ap (λ ss. edited ss (edit_of c.args.change) t) c.steps.ensures)
 
 pub returns-clause-rests : goal.returns-clause-rests
 returns-clause-rests c =
+    let names = c.self.inside.names in
     let tables = c.self.inside.tables.items in
-    Rest-none _ _ (homed_views-named c.self.inside.names _ (All-set HasNoHomes tables c.in-Some.at c.edit.new.self c.edit.ensures.plain c.self.invariant.plain))
+    let root = c.self.invariant in
+    let at = c.in-Some.at in
+    let place = IsPlace-position names c.args.path.now.name at (ap (λ n. position (λ known. same_bytes known n) names) (sym c.name.ensures) ∙ sym c.place_in.ensures ∙ c.in-Some.is) in
+    let within : at < length tables = let paired = root.paired in let here = place.within in omega arith in
+    let t = c.index.result.now in
+    let new = c.in_ok-table.table in
+    rests-set names tables c.args.self.now at t new c.self.view_is root.paired within c.index.ensures c.in_ok-table.ensures.rests

@@ -1,7 +1,6 @@
-use Rattle.std.proofs.Common.{◌≡◌, ◌<◌, length, position, Err, ap, sym, ◌∙◌, arith}
+use Rattle.std.proofs.Common.{◌<◌, length, position, ap, sym, ◌∙◌, arith}
 use Rattle.mk_value.specs.Names.{same_bytes}
 use Rattle.view_store.specs.Refusals.{schema_at, schema_in}
-use Rattle.tables.specs.Tables.{StoredTable}
 use Rattle.view_store.proofs.Named.{IsPlace-position, IsAbsent-position}
 use Rattle.view_store.proofs.Roots.{found_table, absent_table}
 use Rattle.view_store.proofs.Walking.{same_answer}
@@ -24,4 +23,4 @@ returns c =
     let t = c.index.result.now in
     let found = found_table names tables c.args.self.now c.args.path.now.name at t c.self.view_is root.paired place within c.index.ensures in
     same_answer c.find_schema.result (λ s. s.now) _ _
-    (ap (λ o. schema_in o c.args.path.now.steps) found ∙ ap (λ ss. schema_at ss t.schema) (sym c.steps.ensures)) c.find_schema.ensures
+    (ap (λ o. schema_in o c.args.path.now.steps) found ∙ ap (λ ss. schema_at ss t.schema) (sym c.steps.ensures) ∙ ap (λ s. schema_at c.steps.result.now s) (sym c.schema.ensures.value)) c.find_schema.ensures

@@ -1,4 +1,4 @@
-use Rattle.std.proofs.Common.{◌≡◌, ◌<◌, length, sym, ◌∙◌, arith}
+use Rattle.std.proofs.Common.{◌<◌, length, Some, ap, sym, ◌∙◌, arith}
 use Rattle.view_store.proofs.Named.{IsPlace-position, IsAbsent-position}
 use Rattle.view_store.proofs.Roots.{found_table, absent_table}
 use Rattle.view_store.proofs.root.Root.table.Goals as goal
@@ -11,7 +11,7 @@ returns-in-Some c =
     let at = c.in-Some.at in
     let place = IsPlace-position names c.args.name.now at (sym c.place_in.ensures ∙ c.in-Some.is) in
     let within : at < length tables = let paired = root.paired in let here = place.within in omega arith in
-    found_table names tables c.args.self.now c.args.name.now at c.index.result.now c.self.view_is root.paired place within c.index.ensures
+    found_table names tables c.args.self.now c.args.name.now at c.index.result.now c.self.view_is root.paired place within c.index.ensures ∙ ap Some (sym c.table.ensures)
 
 pub returns-in-None : goal.returns-in-None
 returns-in-None c =

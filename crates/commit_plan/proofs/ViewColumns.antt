@@ -1,0 +1,93 @@
+-- The plain columns of views are those of their tables, and what is due of them is due of their leaves.
+use Rattle.std.proofs.Common.{◌≡◌, ℕ, ◌+◌, ◌<◌, ◌≤◌, List, [], ◌∷◌, ◌++◌, length, get_or, take, map, cond, None, Some, refl, ap, sym, subst, ◌∙◌, append-nil}
+use Rattle.std.specs.List.{filter, flat_map}
+use Rattle.std.proofs.lemmas.Grind.{flat_map-append}
+use Rattle.std.proofs.lemmas.List.{take_all, take_more}
+use Rattle.std.proofs.lemmas.List.Elements.{filter-append}
+use Rattle.mk_value.specs.declared.span.Span.{Span}
+use Rattle.mk_value.specs.Heading.{Domain}
+use Rattle.mk_value.specs.Tables.{IsPlainDomain}
+use Rattle.bit_pack.specs.Packed.{packed}
+use Rattle.int_col.specs.Numbers.{Numbers}
+use Rattle.bytes_col.specs.Strings.{Strings, string_blocks}
+use Rattle.bytes_col.specs.declared.home.BytesHome.{BytesHome}
+use Rattle.tables.specs.Homes.{PlainColumn}
+use Rattle.tables.specs.Tables.{StoredTable}
+use Rattle.tables.specs.Columns.{integers, texts, home_of, home_of_numbers, home_of_strings, column_values, IsColumnOf}
+use Rattle.tables.specs.Blocks.{has_home, plain_columns}
+use Rattle.tables.specs.Rests.{blocks, blocks_of}
+use Rattle.view_store.specs.Views.{NamedTable}
+use Rattle.recovery.specs.Commits.{plain_views}
+use Rattle.commit_plan.specs.Following.{blocks_due, due_of}
+use Rattle.commit_plan.specs.declared.leaves.Leaf.{Leaf}
+use Rattle.commit_plan.specs.declared.leaves.Leaf.TheVariants.{Ints, Blobs}
+use Rattle.commit_plan.specs.Leaves.{AreLeaves, Gains, IsLeafOf, kept_in}
+use Rattle.commit_plan.specs.Placing.{has_bytes}
+use Rattle.commit_plan.specs.Plain.{plain_tables}
+use Rattle.commit_plan.specs.Settling.{column_due, stored_blocks}
+use Rattle.commit_plan.proofs.DueBlocks.{due_is, one_due}
+use Rattle.commit_plan.proofs.Plain.{numbers_kind, plain_one, strings_kind}
+
+pub tables_of_views : (views : List NamedTable) → plain_tables (map (λ v. v.table) views) ≡ plain_views views
+tables_of_views [] = refl
+tables_of_views (v ∷ views) = ap (λ cs. plain_columns v.table ++ cs) (tables_of_views views)
+
+pub leaves_together : (views : List NamedTable) (tables : List StoredTable) (k : ℕ) (leaves : List Leaf) → tables ≡ map (λ v. v.table) views → length tables ≤ k → Gains (plain_tables (take k tables)) [] leaves → AreLeaves (plain_views views) leaves
+leaves_together views tables k leaves same p h =
+    let all = ap plain_tables (take_all k tables p ∙ same) ∙ tables_of_views views in
+    let found = subst (λ cs. Gains cs [] leaves) all h in
+    subst (AreLeaves (plain_views views)) (sym found.added) found.are
+
+-- The leaf of a plain column.
+leaf_kind : (n : ℕ) (e : Domain) (leaf : Leaf) → IsColumnOf n e (kept_in leaf) → IsPlainDomain e
+leaf_kind n e (Ints c) h = numbers_kind n e c.now h
+leaf_kind n e (Blobs c) h = strings_kind n e c.now h
+
+leaf_due : (c : PlainColumn) (leaf : Leaf) → IsLeafOf c leaf → due_of c ≡ column_due (kept_in leaf)
+leaf_due c leaf is =
+    let own : PlainColumn = record { domain = c.domain; values = column_values c.domain (kept_in leaf); home = home_of (kept_in leaf) } in
+    let same : own ≡ c =
+    ap (λ vs. let p : PlainColumn = record { domain = c.domain; values = vs; home = home_of (kept_in leaf) } in p) is.holds
+    ∙ ap (λ h. let p : PlainColumn = record { domain = c.domain; values = c.values; home = h } in p) is.home_is in
+    sym (one_due c) ∙ ap (λ p. blocks_due (p ∷ [])) (sym same) ∙ ap blocks_due (sym (plain_one (length c.values) c.domain (kept_in leaf) is.whole (leaf_kind (length c.values) c.domain leaf is.whole)))
+    ∙ due_is (length c.values) c.domain (kept_in leaf) is.whole
+
+abbrev pub leaf_blocks : Leaf → List (List ℕ)
+leaf_blocks leaf = column_due (kept_in leaf)
+
+pub leaves_due : (columns : List PlainColumn) (leaves : List Leaf) → AreLeaves columns leaves → flat_map leaf_blocks leaves ≡ blocks_due columns
+leaves_due [] [] h = refl
+leaves_due [] (l ∷ leaves) h = absurd h
+leaves_due (c ∷ columns) [] h = absurd h
+leaves_due (c ∷ columns) (l ∷ leaves) h = ap (λ bs. bs ++ flat_map leaf_blocks leaves) (sym (leaf_due c l h.0)) ∙ ap (λ bs. due_of c ++ bs) (leaves_due columns leaves h.1)
+
+-- and the spans of their homes
+abbrev pub leaf_spans : Leaf → List Span
+leaf_spans leaf = filter has_bytes (blocks_of (home_of (kept_in leaf)))
+
+pub leaves_used : (columns : List PlainColumn) (leaves : List Leaf) → AreLeaves columns leaves → flat_map leaf_spans leaves ≡ filter has_bytes (blocks columns)
+leaves_used [] [] h = refl
+leaves_used [] (l ∷ leaves) h = absurd h
+leaves_used (c ∷ columns) [] h = absurd h
+leaves_used (c ∷ columns) (l ∷ leaves) h =
+    ap (λ x. filter has_bytes (blocks_of x) ++ flat_map leaf_spans leaves) h.0.home_is
+    ∙ ap (λ ss. filter has_bytes (blocks_of c.home) ++ ss) (leaves_used columns leaves h.1)
+    ∙ sym (filter-append has_bytes (blocks_of c.home) (blocks columns))
+
+-- One leaf more.
+pub flat_more : {X : Type 0} (f : Leaf → List X) (leaves : List Leaf) (k : ℕ) (leaf : Leaf) → k < length leaves → leaf ≡ get_or leaves k leaf → flat_map f (take (k + 1) leaves) ≡ flat_map f (take k leaves) ++ f leaf
+flat_more f leaves k leaf p at =
+    ap (flat_map f) (take_more leaves k leaf p ∙ ap (λ x. take k leaves ++ x ∷ []) (sym at)) ∙ flat_map-append f (take k leaves) (leaf ∷ []) ∙ ap (λ xs. flat_map f (take k leaves) ++ xs) (append-nil (f leaf))
+
+-- what a column with a home is due, and one without
+pub numbers_homed : (c : Numbers) (block : Span) → c.home ≡ Some block → column_due (integers c) ≡ []
+numbers_homed c block is = ap (λ h. cond (has_home (home_of_numbers h)) [] (stored_blocks (integers c))) is
+
+pub numbers_homeless : (c : Numbers) → c.home ≡ None → column_due (integers c) ≡ packed c.values ∷ []
+numbers_homeless c is = ap (λ h. cond (has_home (home_of_numbers h)) [] (stored_blocks (integers c))) is
+
+pub strings_homed : (c : Strings) (home : BytesHome) → c.home ≡ Some home → column_due (texts c) ≡ []
+strings_homed c home is = ap (λ h. cond (has_home (home_of_strings h)) [] (stored_blocks (texts c))) is
+
+pub strings_homeless : (c : Strings) → c.home ≡ None → column_due (texts c) ≡ string_blocks c.values
+strings_homeless c is = ap (λ h. cond (has_home (home_of_strings h)) [] (stored_blocks (texts c))) is

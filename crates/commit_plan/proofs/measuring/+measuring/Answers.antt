@@ -1,0 +1,29 @@
+use Rattle.std.proofs.Common.{ap, arith}
+use Rattle.tables.specs.Stored.{stored_of}
+use Rattle.commit_plan.proofs.Sizes.{column_within, columns_lighter}
+use Rattle.commit_plan.proofs.UsedUp.{AddsOf, adds_joins}
+use Rattle.commit_plan.proofs.Walked.{walked_all, walked_column, walked_row, walked_views}
+use Rattle.commit_plan.proofs.measuring.+measuring.Goals as goal
+
+pub col_usage-returns-in-Views : goal.col_usage-returns-in-Views
+col_usage-returns-in-Views t c = λ e whole. walked_views AddsOf adds_joins e (stored_of c.args.col.now) c.in-Views.tables c.args.usage.now c.tables_usage.new.usage (ap stored_of c.in-Views.is) c.tables_usage.ensures whole
+
+pub table_usage-col_usage-requires : goal.table_usage-col_usage-requires
+table_usage-col_usage-requires t c =
+    let lighter = columns_lighter _ c.args.table.now.schema c.cols-2.result.now c.args.table.now c.cols-2.ensures.value c.cols-2.ensures.whole in
+    let within = column_within c.cols-2.result.now c.as_slice-col-items.result.now c.cols.col-index c.col-item.result c.as_slice-col-items.ensures c.col-item.is c.cols-test.true in
+    (omega (arith, lighter, within), tt)
+
+pub table_usage-cols-preserved : goal.table_usage-cols-preserved
+table_usage-cols-preserved t c =
+    walked_column AddsOf adds_joins _ c.cols.col-index c.args.table.now.schema c.cols-2.result.now c.as_slice-col-items.result.now c.col-item.result c.args.usage.now c.cols.usage c.col_usage.new.usage
+    c.cols-2.ensures.whole c.as_slice-col-items.ensures c.col-item.is c.cols-test.true c.cols.invariant c.col_usage.ensures
+
+pub table_usage-returns : goal.table_usage-returns
+table_usage-returns t c =
+    walked_all AddsOf adds_joins _ c.cols.col-index c.args.table.now.schema c.cols-2.result.now c.as_slice-col-items.result.now c.args.table.now c.args.usage.now c.cols.usage
+    c.cols-2.ensures.value c.cols-2.ensures.whole c.as_slice-col-items.ensures c.cols-test.false c.cols.invariant
+
+pub tables_usage-rows-preserved : goal.tables_usage-rows-preserved
+tables_usage-rows-preserved t c =
+    walked_row AddsOf adds_joins c.rows.row c.args.tables.now c.get.result.now c.table.result.now c.args.usage.now c.rows.usage c.table_usage.new.usage c.get.ensures c.table.ensures c.rows.invariant c.table_usage.ensures

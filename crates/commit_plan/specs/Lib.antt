@@ -1,0 +1,10 @@
+pub mod Entries
+pub mod Following
+pub mod Leaves
+pub mod Payloads
+pub mod Placing
+pub mod Plain
+pub mod Plans
+pub mod Settling
+pub mod Usage
+pub mod Written
