@@ -224,7 +224,10 @@ impl Store {
 
     /// The number of the commit that the file stands for.
     pub fn number(&self) -> u64
-        ensures { result ≡ self.now.kept.number }
+        ensures value { result ≡ self.now.kept.number }
+
+        // That commit is whole.
+        ensures whole { IsCommit self.now.kept }
     {
         self.kept.number
     }
