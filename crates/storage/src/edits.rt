@@ -101,6 +101,7 @@ impl Store {
     /// `NoView` where there is none, and `Memory`; the store is as it was.
     pub fn drop_view(&mut self, name: &Name) -> Result<(), EditError>
         ensures due { ((result ≡ Err edit_error.NoView) ↔ (table_of self.old.views name.now ≡ None)) ⊎ (result ≡ Err edit_error.Memory) }
+        ensures no_other { OnErr result ((result ≡ Err edit_error.NoView) ⊎ (result ≡ Err edit_error.Memory)) }
         ensures ok { OnOk result (self.new ≡ with_views self.old (without_view self.old.views name.now)) }
         ensures err { OnErr result (self.new ≡ self.old) }
     {
