@@ -4,7 +4,7 @@ ghost use Rattle.std.specs.Option.{option_map};
 ghost use Rattle.host_io.specs.Calls.{CountsDisk, CountsFaults, Looks};
 ghost use Rattle.view_store.specs.Rests.{ViewsRestOn};
 ghost use Rattle.storage.specs.declared.mode.Mode.TheVariants as modes;
-ghost use Rattle.host_io.specs.Disk.{IsSettled};
+ghost use Rattle.host_io.specs.Disk.{IsSettled, settled};
 ghost use Rattle.host_io.specs.Ranges.{AgreesBut};
 ghost use Rattle.commit_marks.specs.Marks.{other_slot, slot_range};
 ghost use Rattle.commit_writes.specs.Blocks.{extents_of};
@@ -17,6 +17,7 @@ ghost use Rattle.recovery.specs.Keeping.{commit_in};
 ghost use Rattle.recovery.specs.Opening.{NamesCause};
 ghost use Rattle.storage.specs.Committing.{Commits};
 ghost use Rattle.storage.specs.Marking.{marks_of};
+ghost use Rattle.storage.specs.NewStore.{new_file};
 ghost use Rattle.storage.specs.Planning.{IsPlanned, IsRefusedFor};
 ghost use Rattle.storage.specs.declared.error.PlanError.TheVariants as plan_error;
 ghost use Rattle.storage.specs.Stored.{Rests, committed, failed, floor_of, is_shut, new_store, before_reopened, opened_store, reopened, rolled_back, with_views};
@@ -85,6 +86,7 @@ impl Store {
         requires capped { cap < 2 ^ 63 }
         ensures counts { CountsDisk (D.outside disk.old) (D.outside disk.new) result }
         ensures new { IfOk result (λ store. store ≡ new_store mode cap) }
+        ensures made { D.tells → OnOk result ((D.outside disk.new).now.disk ≡ settled new_file) }
         ensures rests { D.tells → IfOk result (λ store. Rests store (D.outside disk.new).now.disk) }
         ensures said { D.tells → (D.outside disk.new).now.said ≡ (D.outside disk.old).now.said }
         ensures input { D.tells → (D.outside disk.new).input ≡ (D.outside disk.old).input }
