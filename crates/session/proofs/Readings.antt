@@ -224,6 +224,12 @@ of_tokens (commands.Set route row prop literal) h = literal_proper max_braces (l
 of_tokens (commands.Remove route place rows) h = tt
 of_tokens (commands.Size route) h = tt
 of_tokens (commands.Show route) h = tt
+of_tokens (commands.Commit note) h = tt
+of_tokens commands.Log h = tt
+of_tokens commands.Rollback h = tt
+of_tokens commands.Reopen h = tt
+of_tokens commands.Revert h = tt
+of_tokens commands.Space h = tt
 of_tokens commands.Quit h = tt
 
 -- a structure text is shorter than its line by the word before it

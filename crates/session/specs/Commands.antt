@@ -1,5 +1,5 @@
 -- What comes of each command. Want of memory and a disk that fails are left aside here.
-use Rattle.std.specs.Prelude.{ℕ, ◌+◌, ◌-◌, Bool, true, false, ◌&&◌, not, if◌then◌else◌, nat_lt, List, [], ◌∷◌, ◌++◌, map, reverse, codes, decimal, Option, Some, None}
+use Rattle.std.specs.Prelude.{ℕ, ◌+◌, ◌-◌, Bool, true, false, ◌&&◌, not, if◌then◌else◌, ◌==◌, List, [], ◌∷◌, ◌++◌, map, reverse, codes, decimal, Option, Some, None}
 use Rattle.std.specs.Option.{is_some}
 use Rattle.commit_plan.specs.Plans.{last_number}
 use Rattle.dir_codec.specs.Dir.{NoteEntry}
@@ -66,7 +66,7 @@ may_write Read = false
 
 -- `commit`: the refusals that are known before a commit is planned
 abbrev pub commit_due : Stored → Option Refusal
-commit_due s = first_of (unless (may_write s.mode) ReadOnly ∷ unless (nat_lt s.kept.number last_number) LastNumber ∷ [])
+commit_due s = first_of (unless (may_write s.mode) ReadOnly ∷ unless (not (s.kept.number == last_number)) LastNumber ∷ [])
 
 -- `revert`: there is no commit before
 abbrev pub revert_due : Stored → Option Refusal
@@ -132,3 +132,10 @@ takes_memory commands.Rollback = false
 takes_memory commands.Space = false
 takes_memory commands.Quit = false
 takes_memory _ = true
+
+-- a command that reads or writes the disk
+abbrev pub reaches_disk : Command → Bool
+reaches_disk (commands.Commit note) = true
+reaches_disk commands.Reopen = true
+reaches_disk commands.Revert = true
+reaches_disk _ = false

@@ -1,9 +1,15 @@
-pub mod Comes
+pub mod Answered
+pub mod Carried
 pub mod Commands
+pub mod Disk
 pub mod Fitting
+pub mod Going
 pub mod Lines
+pub mod Moments
+pub mod Planning
 pub mod Refusals
 pub mod Saying
+pub mod Starting
 pub mod Step
 pub mod Structures
 pub mod Values
