@@ -10,6 +10,7 @@ mod arguments;
 mod command;
 mod error;
 mod laws;
+mod note;
 mod reader;
 mod reading;
 mod refusal;
