@@ -112,9 +112,9 @@ of_command Show tokens h =
       },
     )
 of_command Commit tokens (inl none) =
-    (commands.Commit (record { bytes = []; spare = 0 }), record { whole = no_note; is = inr (refl, ap (λ t. keyword (codes "commit") ∷ t) none) })
+    (commands.Commit [], record { whole = no_note; is = inr (refl, ap (λ t. keyword (codes "commit") ∷ t) none) })
 of_command Commit tokens (inr (content, (few, is))) =
-    (commands.Commit (record { bytes = content; spare = 0 }), record { whole = few; is = inl (ap (λ t. keyword (codes "commit") ∷ t) is) })
+    (commands.Commit content, record { whole = few; is = inl (ap (λ t. keyword (codes "commit") ∷ t) is) })
 of_command Log tokens h = (commands.Log, record { whole = tt; is = ap (λ t. keyword (codes "log") ∷ t) h })
 of_command Rollback tokens h = (commands.Rollback, record { whole = tt; is = ap (λ t. keyword (codes "rollback") ∷ t) h })
 of_command Reopen tokens h = (commands.Reopen, record { whole = tt; is = ap (λ t. keyword (codes "reopen") ∷ t) h })
@@ -236,7 +236,7 @@ spelled (commands.Remove route place rows) h = inr (record {
 spelled (commands.Size route) h = inr (record { verb = Size; rest = path_tokens route; is = refl; of_form = path_alone route h })
 spelled (commands.Show route) h = inr (record { verb = Show; rest = path_tokens route; is = refl; of_form = path_alone route h })
 spelled (commands.Commit note) h =
-    inr (record { verb = Commit; rest = text_token note.bytes ∷ []; is = refl; of_form = inr (note.bytes, (h, refl)) })
+    inr (record { verb = Commit; rest = text_token note ∷ []; is = refl; of_form = inr (note, (h, refl)) })
 spelled commands.Log h = inr (record { verb = Log; rest = []; is = refl; of_form = refl })
 spelled commands.Rollback h = inr (record { verb = Rollback; rest = []; is = refl; of_form = refl })
 spelled commands.Reopen h = inr (record { verb = Reopen; rest = []; is = refl; of_form = refl })

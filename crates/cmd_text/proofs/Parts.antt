@@ -10,7 +10,8 @@ use Rattle.mk_value.specs.declared.path.Step.{Step}
 use Rattle.tokens.specs.Fronts.{IsFront}
 use Rattle.tokens.specs.Literals.{IsLiteral, max_braces}
 use Rattle.tokens.specs.Paths.{step_tokens, path_tokens, slash}
-use Rattle.cmd_text.specs.Grammar.{IsNote, count, literals_tokens}
+use Rattle.cmd_text.specs.Grammar.{count, literals_tokens}
+use Rattle.cmd_text.specs.Notes.{IsNote}
 use Rattle.cmd_text.specs.Forms.{Part, name, number, path, literal, note, Form, nothing, values, optional, next, IsPart, IsOfForm}
 use Rattle.cmd_text.proofs.Cuts.{two_cuts}
 use Rattle.tokens.proofs.Braces.{literal_some}
@@ -56,7 +57,7 @@ literal_no_slash d front rest whole e =
     begins_no_slash some.0 (literal_begins some.0 some.1 (d, record { whole = whole; is = sym some.2 })) first
 
 pub part_begins : (part : Part) (tokens : List Token) → IsPart part tokens → PartBegins tokens
-part_begins name tokens (text, (named, is)) = record { first = word text; rest = []; is = is; no_slash = λ e. cc }
+part_begins name tokens (letters, (named, is)) = record { first = word letters; rest = []; is = is; no_slash = λ e. cc }
 part_begins number tokens (n, (few, is)) = record { first = count n; rest = []; is = is; no_slash = λ e. cc }
 part_begins path tokens (route, spells) =
     record { first = word route.name; rest = flat_map step_tokens route.steps; is = spells.is; no_slash = λ e. cc }
@@ -185,7 +186,7 @@ short_name = record { not_empty = lit< tt; short = lit≤ tt; characters = All-c
 
 -- the empty note is one
 pub no_note : IsNote []
-no_note = (record { utf8 = search rules; no_zero = All-nil _ }, lit≤ tt)
+no_note = record { text = record { utf8 = search rules; no_zero = All-nil _ }; short = lit≤ tt }
 
 pub some_part : (part : Part) → (tokens : List Token) × IsPart part tokens
 some_part name = (word (97 ∷ []) ∷ [], (97 ∷ [], (short_name, refl)))

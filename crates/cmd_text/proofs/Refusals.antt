@@ -318,7 +318,7 @@ refused_at_token part form p pieces end wrong = refused_at_stop part form (p ∷
 })
 
 pub no_name_first : (t : Token) → (NameTokens (t ∷ []) → ⊥) → IsFront NameTokens (t ∷ []) → ⊥
-no_name_first t other (more, (text, (named, is))) = let same : t ≡ word text = cc in other (text, (named, ap (λ x. x ∷ []) same))
+no_name_first t other (more, (letters, (named, is))) = let same : t ≡ word letters = cc in other (letters, (named, ap (λ x. x ∷ []) same))
 
 pub no_number_first : (t : Token) → (NumberTokens (t ∷ []) → ⊥) → IsFront NumberTokens (t ∷ []) → ⊥
 no_number_first t other (more, (n, (few, is))) = let same : t ≡ count n = cc in other (n, (few, ap (λ x. x ∷ []) same))

@@ -15,7 +15,8 @@ use Rattle.tokens.specs.declared.error.PartError.{PartError}
 use Rattle.tokens.specs.declared.error.PartError.TheVariants as errors
 use Rattle.tokens.specs.declared.token.Piece.{Piece}
 use Rattle.cmd_text.specs.Forms.{Form, IsPart, NameTokens, NumberTokens, NoteTokens, Part, Refuses, Rest, Takes, next, nothing, optional, name, number, path, literal, note}
-use Rattle.cmd_text.specs.Grammar.{IsCount, IsNote, count}
+use Rattle.cmd_text.specs.Grammar.{IsCount, count}
+use Rattle.cmd_text.specs.Notes.{IsNote}
 use Rattle.cmd_text.specs.Readers.{place_of_first}
 use Rattle.cmd_text.specs.declared.error.CmdError.{CmdError}
 use Rattle.cmd_text.specs.declared.error.CmdError.TheVariants.{Syntax}
@@ -34,12 +35,12 @@ never : (tokens : List Token) → BeginsWith (λ t. ⊥) tokens → ⊥
 never [] h = h
 never (t ∷ tokens) h = h
 
-pub takes_name : (all : List Piece) (p : Piece) (pieces : List Piece) (end : ℕ) (text : List ℕ) → all ≡ p ∷ pieces → token_of p.token ≡ word text → IsName text
-    → Takes name (word text ∷ []) (rest_at end all) (rest_at end pieces)
-takes_name all p pieces end text e is named =
-    subst (λ ps. Takes name (word text ∷ []) (rest_at end ps) (rest_at end pieces)) (sym e)
+pub takes_name : (all : List Piece) (p : Piece) (pieces : List Piece) (end : ℕ) (letters : List ℕ) → all ≡ p ∷ pieces → token_of p.token ≡ word letters → IsName letters
+    → Takes name (word letters ∷ []) (rest_at end all) (rest_at end pieces)
+takes_name all p pieces end letters e is named =
+    subst (λ ps. Takes name (word letters ∷ []) (rest_at end ps) (rest_at end pieces)) (sym e)
     (subst (λ t. Takes name (t ∷ []) (rest_at end (p ∷ pieces)) (rest_at end pieces)) is
-    (takes_part name (piece_of p ∷ []) (pieces_of pieces) end (text, (named, ap (λ t. t ∷ []) is)) (never (tokens_in (pieces_of pieces)))))
+    (takes_part name (piece_of p ∷ []) (pieces_of pieces) end (letters, (named, ap (λ t. t ∷ []) is)) (never (tokens_in (pieces_of pieces)))))
 
 pub takes_number : (all : List Piece) (p : Piece) (pieces : List Piece) (end : ℕ) (n : ℕ) → all ≡ p ∷ pieces → token_of p.token ≡ count n → IsCount n
     → Takes number (count n ∷ []) (rest_at end all) (rest_at end pieces)

@@ -11,7 +11,7 @@ use Rattle.cmd_text.specs.Forms.{Form, form_of, word_of}
 use Rattle.cmd_text.specs.Forms as forms
 use Rattle.cmd_text.specs.Grammar.{SpellsCommand, keyword}
 use Rattle.cmd_text.specs.Lines.{Reads, ReadsStructure, gives_structure}
-use Rattle.cmd_text.specs.OneWord.{EmptyNoteTokens, IsBehindOneWord, IsOneWord, ReadsPieces}
+use Rattle.cmd_text.specs.OneWord.{IsBehindOneWord, IsOneWord, ReadsPieces}
 use Rattle.cmd_text.specs.declared.command.Command.{Command}
 use Rattle.cmd_text.specs.declared.command.Command.TheVariants as commands
 use Rattle.cmd_text.specs.declared.verb.Verb.{Verb}
@@ -37,7 +37,7 @@ one_word : (command : Command) (tokens : List Token) → IsOneWord command → S
 one_word commands.Nothing tokens one spells = inl spells.is
 one_word commands.Struct tokens one spells = inr (record { verb = verbs.Struct; rest = []; bare = refl; is = spells.is })
 one_word (commands.Commit note) tokens one spells = elim spells.is [
-  | inl own ↦ inr (empty_note note.bytes tokens one own)
+  | inl own ↦ inr (empty_note note tokens one own)
   | inr out ↦ inr (record { verb = verbs.Commit; rest = []; bare = inl refl; is = out.1 })
 ]
 one_word commands.Log tokens one spells = inr (record { verb = verbs.Log; rest = []; bare = refl; is = spells.is })

@@ -7,7 +7,8 @@ use Rattle.tokens.specs.Cutting.{Piece}
 use Rattle.tokens.specs.Fronts.{Language, IsFirstWrong, EndsEarly, tokens_in}
 use Rattle.tokens.specs.Literals.{LiteralTokens}
 use Rattle.tokens.specs.Paths.{PathTokens}
-use Rattle.cmd_text.specs.Grammar.{AreLiterals, CommandTokens, IsCount, IsNote, count, literals_tokens}
+use Rattle.cmd_text.specs.Grammar.{AreLiterals, CommandTokens, IsCount, count, literals_tokens}
+use Rattle.cmd_text.specs.Notes.{IsNote}
 use Rattle.cmd_text.specs.declared.error.CmdError.{CmdError}
 use Rattle.cmd_text.specs.declared.error.CmdError.TheVariants.{Syntax, Memory}
 use Rattle.cmd_text.specs.declared.verb.Verb.{Verb}

@@ -1,7 +1,7 @@
 -- The commands, each by the tokens that spell it.
-use Rattle.std.specs.Prelude.{◌≡◌, ◌⊎◌, ℕ, ◌<◌, ◌≤◌, ◌^◌, pos, List, [], ◌∷◌, ◌++◌, length, All, codes}
+use Rattle.std.specs.Prelude.{◌≡◌, ◌⊎◌, ℕ, ◌<◌, ◌^◌, pos, List, [], ◌∷◌, ◌++◌, All, codes}
 use Rattle.std.specs.List.{flat_map}
-use Rattle.mk_value.specs.Data.{Datum, IsText}
+use Rattle.mk_value.specs.Data.{Datum}
 use Rattle.mk_value.specs.Literals.{tokens_of}
 use Rattle.mk_value.specs.LiteralValues.{literal_of}
 use Rattle.mk_value.specs.Names.{IsName}
@@ -9,6 +9,7 @@ use Rattle.mk_value.specs.Tokens.{Token, word, number, text}
 use Rattle.tokens.specs.Fronts.{Language}
 use Rattle.tokens.specs.Literals.{IsLiteral, max_braces}
 use Rattle.tokens.specs.Paths.{IsPath, path_tokens}
+use Rattle.cmd_text.specs.Notes.{IsNote}
 use Rattle.cmd_text.specs.declared.command.Command.{Command}
 use Rattle.cmd_text.specs.declared.command.Command.TheVariants.{Nothing, Getas, Drop, Struct, Add, Insert, Set, Remove, Size, Show, Commit, Log, Rollback, Reopen, Revert, Space, Quit}
 
@@ -18,14 +19,6 @@ IsCount n = n < 2 ^ 63
 
 abbrev pub AreLiterals : List Datum → Type 0
 AreLiterals literals = All (λ d. IsLiteral max_braces d) literals
-
--- the most bytes of a note
-abbrev pub max_note : ℕ
-max_note = 255
-
--- a note of a commit: a text, and no longer than that
-abbrev pub IsNote : List ℕ → Type 0
-IsNote note = IsText note × (length note ≤ max_note)
 
 -- What stands in the command is what a line may hold. A line that gives a structure is not cut into tokens.
 abbrev pub IsCommand : Command → Type 0
@@ -39,7 +32,7 @@ IsCommand (Set path row prop value) = IsPath path × (IsCount row × (IsName pro
 IsCommand (Remove path place rows) = IsPath path × (IsCount place × IsCount rows)
 IsCommand (Size path) = IsPath path
 IsCommand (Show path) = IsPath path
-IsCommand (Commit note) = IsNote note.bytes
+IsCommand (Commit note) = IsNote note
 IsCommand Log = Unit {0}
 IsCommand Rollback = Unit {0}
 IsCommand Reopen = Unit {0}
@@ -72,7 +65,7 @@ command_tokens (Set path row prop value) =
 command_tokens (Remove path place rows) = keyword (codes "remove") ∷ (path_tokens path ++ (count place ∷ count rows ∷ []))
 command_tokens (Size path) = keyword (codes "size") ∷ path_tokens path
 command_tokens (Show path) = keyword (codes "show") ∷ path_tokens path
-command_tokens (Commit note) = keyword (codes "commit") ∷ text note.bytes ∷ []
+command_tokens (Commit note) = keyword (codes "commit") ∷ text note ∷ []
 command_tokens Log = keyword (codes "log") ∷ []
 command_tokens Rollback = keyword (codes "rollback") ∷ []
 command_tokens Reopen = keyword (codes "reopen") ∷ []
@@ -86,7 +79,7 @@ LeavesOutNote note tokens = (note ≡ []) × (tokens ≡ keyword (codes "commit"
 
 -- The tokens are those that spell the command. A commit with the empty note has two spellings, every other command has one.
 abbrev pub AreTokensOf : Command → Language
-AreTokensOf (Commit note) = λ tokens. (tokens ≡ command_tokens (Commit note)) ⊎ LeavesOutNote note.bytes tokens
+AreTokensOf (Commit note) = λ tokens. (tokens ≡ command_tokens (Commit note)) ⊎ LeavesOutNote note tokens
 AreTokensOf command = λ tokens. tokens ≡ command_tokens command
 
 pub record SpellsCommand (tokens : List Token) (command : Command) : Type 0 where

@@ -3,7 +3,7 @@ use Rattle.std.specs.Prelude.{List, All}
 use Rattle.mk_value.specs.Conversions.{IsProper}
 use Rattle.mk_value.specs.Data.{Datum}
 use Rattle.mk_value.specs.LiteralValues.{literal_of}
-use Rattle.cmd_text.specs.Grammar.{IsNote}
+use Rattle.cmd_text.specs.Notes.{IsNote}
 use Rattle.cmd_text.specs.declared.command.Command.{Command}
 use Rattle.cmd_text.specs.declared.command.Command.TheVariants.{Add, Insert, Set, Commit}
 
@@ -15,5 +15,5 @@ abbrev pub HasProperLiterals : Command → Type 0
 HasProperLiterals (Add path values) = AreProper values
 HasProperLiterals (Insert path place copies values) = AreProper values
 HasProperLiterals (Set path row prop value) = IsProper (literal_of value)
-HasProperLiterals (Commit note) = IsNote note.bytes
+HasProperLiterals (Commit note) = IsNote note
 HasProperLiterals _ = Unit {0}

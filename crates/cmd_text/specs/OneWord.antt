@@ -12,7 +12,7 @@ use Rattle.cmd_text.specs.declared.command.Command.TheVariants.{Nothing, Struct,
 abbrev pub IsOneWord : Command → Type 0
 IsOneWord Nothing = Unit {0}
 IsOneWord Struct = Unit {0}
-IsOneWord (Commit content) = content.bytes ≡ []
+IsOneWord (Commit content) = content ≡ []
 IsOneWord Log = Unit {0}
 IsOneWord Rollback = Unit {0}
 IsOneWord Reopen = Unit {0}

@@ -9,8 +9,7 @@ ghost use Rattle.cmd_text.specs.declared.verb.Verb.TheVariants as verbs;
 
 use crate::reader::Reader;
 use crate::verb::Verb;
-use crate::{CmdError, Command};
-use mk_value::Text;
+use crate::{CmdError, Command, Note};
 
 /// Reads what stands behind the first word of a command, to the line's end.
 pub(crate) fn read_arguments(verb: Verb, reader: &mut Reader<'_>) -> Result<Command, CmdError>
@@ -124,7 +123,7 @@ fn read_commit(reader: &mut Reader<'_>) -> Result<Command, CmdError>
     ensures in_place { EmptyNoteTokens (tokens_in (rest_of reader.old).pieces) → IsOk result }
 {
     if reader.rest.is_empty() {
-        return Ok(Command::Commit(Text::new(reader.alloc)));
+        return Ok(Command::Commit(Note::none(reader.alloc)));
     }
     let note = reader.note()?;
     reader.over()?;

@@ -1,4 +1,5 @@
-use mk_value::{Literal, Literals, Name, Path, Schema, Text};
+use crate::Note;
+use mk_value::{Literal, Literals, Name, Path, Schema};
 
 /// What a line asks for.
 #[derive(Drop)]
@@ -23,8 +24,8 @@ pub enum Command {
     Size(Path),
     /// To list the rows of a view.
     Show(Path),
-    /// To keep what the views hold as the next commit, under a note of at most 255 bytes; the empty note is none.
-    Commit(Text),
+    /// To keep what the views hold as the next commit, under a note or none.
+    Commit(Note),
     /// To list the notes of the commits.
     Log,
     /// To give the views what the last commit holds.

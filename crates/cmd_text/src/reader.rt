@@ -8,11 +8,12 @@ ghost use Rattle.tokens.specs.Fronts.{tokens_in};
 ghost use Rattle.tokens.specs.Literals.{IsLiteral, max_braces};
 ghost use Rattle.tokens.specs.Paths.{IsPath, path_tokens};
 ghost use Rattle.cmd_text.specs.Forms.{Form, Takes, Refuses, nothing, values, next, name as a_name, number as a_number, path as a_path, literal as a_literal, note as a_note};
-ghost use Rattle.cmd_text.specs.Grammar.{IsCount, IsNote, AreLiterals, count as count_token, literals_tokens};
+ghost use Rattle.cmd_text.specs.Grammar.{IsCount, AreLiterals, count as count_token, literals_tokens};
+ghost use Rattle.cmd_text.specs.Notes.{IsNote};
 
-use crate::CmdError;
 use crate::note::note_of;
-use mk_value::{Literal, Literals, Name, Path, Text};
+use crate::{CmdError, Note};
+use mk_value::{Literal, Literals, Name, Path};
 use std::alloc::Global;
 use tokens::{PartError, Piece, count_of, literal_at, name_of, path_at};
 
@@ -92,9 +93,9 @@ impl<'a> Reader<'a> {
     }
 
     /// Reads a note. An empty one takes no memory.
-    pub(crate) fn note(&mut self) -> Result<Text, CmdError>
-        ensures noted { IfOk result (λ note. IsNote note.bytes) }
-        ensures takes { IfOk result (λ note. Takes a_note (text note.bytes ∷ []) (rest_of self.old) (rest_of self.new)) }
+    pub(crate) fn note(&mut self) -> Result<Note, CmdError>
+        ensures noted { IfOk result IsNote }
+        ensures takes { IfOk result (λ note. Takes a_note (text note ∷ []) (rest_of self.old) (rest_of self.new)) }
         ensures refused { IfErr result (λ error. (form : Form) → Refuses (next a_note form) (rest_of self.old) error) }
         ensures in_place { tokens_in (rest_of self.old).pieces ≡ text [] ∷ [] → IsOk result }
     {

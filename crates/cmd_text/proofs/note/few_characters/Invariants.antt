@@ -1,6 +1,6 @@
 use Rattle.std.proofs.Common.{◌≡◌, ◌≤◌, ◌++◌, cond, drop, length}
 use Rattle.tokens.specs.Meanings.{behind_backslash, characters_of}
-use Rattle.cmd_text.specs.Grammar.{max_note}
+use Rattle.cmd_text.specs.Notes.{max_note}
 use Rattle.cmd_text.proofs.note.few_characters.Given as goal
 
 abbrev pub invariant-loop-byte : goal.invariant-loop-byte
