@@ -9,4 +9,5 @@ pub mod Stepped
 pub mod Storing
 pub mod Structured
 pub mod Undamaged
+pub mod Unfaulted
 pub mod Walked

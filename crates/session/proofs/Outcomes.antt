@@ -95,6 +95,10 @@ nothing_changed w = record { kept = refl; before = refl; attempted = refl; slot 
 given_left : (w left new : World) (said reply : List ℕ) → IsGiven (gives said left) reply new → SameFile w.store left.store → SameFile w.store new.store
 given_left w left new said reply given same = same_world w new left given.1 same
 
+given_or_refused : (due : Option Refusal) (w new : World) (done : Outcome) (reply : List ℕ) → (IsGiven done reply new → ⊥) → IsGiven (unless_due due w done) reply new → SameFile w.store new.store
+given_or_refused None w new done reply never given = absurd (never given)
+given_or_refused (Some refusal) w new done reply never given = given_left w w new (reply_bytes (Refused refusal)) reply given (nothing_changed w)
+
 given_unless : (due : Option Refusal) (w left new : World) (said reply : List ℕ) → IsGiven (unless_due due w (gives said left)) reply new → SameFile w.store left.store → SameFile w.store new.store
 given_unless None w left new said reply given same = given_left w left new said reply given same
 given_unless (Some refusal) w left new said reply given same = given_left w w new (reply_bytes (Refused refusal)) reply given (nothing_changed w)
@@ -102,27 +106,27 @@ given_unless (Some refusal) w left new said reply given same = given_left w w ne
 changed_views : (w : World) (views : List NamedTable) → SameFile w.store (with_tables w views).store
 changed_views w views = record { kept = refl; before = refl; attempted = refl; slot = refl; other = refl }
 
-given_same : (command : Command) (w : World) (reply : List ℕ) (new : World) → reaches_disk command ≡ false → IsGiven (outcome_in w command) reply new → SameFile w.store new.store
-given_same commands.Nothing w reply new no given = given_left w _ new _ reply given (nothing_changed w)
-given_same (commands.Getas name schema) w reply new no given = given_unless _ w _ new _ reply given (changed_views w _)
-given_same (commands.Drop name) w reply new no given = given_unless _ w _ new _ reply given (changed_views w _)
-given_same commands.Struct w reply new no given = given_left w _ new _ reply given (nothing_changed w)
-given_same (commands.Add route literals) w reply new no given = given_unless _ w _ new _ reply given (changed_views w _)
-given_same (commands.Insert route place copies literals) w reply new no given = given_unless _ w _ new _ reply given (changed_views w _)
-given_same (commands.Set route row prop literal) w reply new no given = given_unless _ w _ new _ reply given (changed_views w _)
-given_same (commands.Remove route place rows) w reply new no given = given_unless _ w _ new _ reply given (changed_views w _)
-given_same (commands.Size route) w reply new no given = given_unless _ w _ new _ reply given (nothing_changed w)
-given_same (commands.Show route) w reply new no given = given_unless _ w _ new _ reply given (nothing_changed w)
-given_same (commands.Commit note) w reply new no given = absurd (let f : true ≡ false = no in cc)
-given_same commands.Log w reply new no given = given_left w _ new _ reply given (nothing_changed w)
-given_same commands.Rollback w reply new no given = given_left w _ new _ reply given (changed_views w _)
-given_same commands.Reopen w reply new no given = absurd (let f : true ≡ false = no in cc)
-given_same commands.Revert w reply new no given = absurd (let f : true ≡ false = no in cc)
-given_same commands.Space w reply new no given = given_left w _ new _ reply given (nothing_changed w)
-given_same commands.Quit w reply new no given = given_left w _ new _ reply given (nothing_changed w)
+pub given_same : (command : Command) (w : World) (reply : List ℕ) (new : World) → IsGiven (outcome_in w command) reply new → SameFile w.store new.store
+given_same commands.Nothing w reply new given = given_left w _ new _ reply given (nothing_changed w)
+given_same (commands.Getas name schema) w reply new given = given_unless _ w _ new _ reply given (changed_views w _)
+given_same (commands.Drop name) w reply new given = given_unless _ w _ new _ reply given (changed_views w _)
+given_same commands.Struct w reply new given = given_left w _ new _ reply given (nothing_changed w)
+given_same (commands.Add route literals) w reply new given = given_unless _ w _ new _ reply given (changed_views w _)
+given_same (commands.Insert route place copies literals) w reply new given = given_unless _ w _ new _ reply given (changed_views w _)
+given_same (commands.Set route row prop literal) w reply new given = given_unless _ w _ new _ reply given (changed_views w _)
+given_same (commands.Remove route place rows) w reply new given = given_unless _ w _ new _ reply given (changed_views w _)
+given_same (commands.Size route) w reply new given = given_unless _ w _ new _ reply given (nothing_changed w)
+given_same (commands.Show route) w reply new given = given_unless _ w _ new _ reply given (nothing_changed w)
+given_same (commands.Commit note) w reply new given = given_or_refused _ w new (commits note) reply (λ never. never) given
+given_same commands.Log w reply new given = given_left w _ new _ reply given (nothing_changed w)
+given_same commands.Rollback w reply new given = given_left w _ new _ reply given (changed_views w _)
+given_same commands.Reopen w reply new given = absurd given
+given_same commands.Revert w reply new given = given_or_refused _ w new reverts reply (λ never. never) given
+given_same commands.Space w reply new given = given_left w _ new _ reply given (nothing_changed w)
+given_same commands.Quit w reply new given = given_left w _ new _ reply given (nothing_changed w)
 
-pub answered_same : (command : Command) (w : World) (reply : Reply) (new : World) → reaches_disk command ≡ false → Answered command w reply new → SameFile w.store new.store
-answered_same command w reply new no answered = elim answered.answers [
-  | inl given ↦ given_same command w (reply_bytes reply) new no given
+pub answered_same : (command : Command) (w : World) (reply : Reply) (new : World) → Answered command w reply new → SameFile w.store new.store
+answered_same command w reply new answered = elim answered.answers [
+  | inl given ↦ given_same command w (reply_bytes reply) new given
   | inr memory ↦ same_world w new w memory.2 (nothing_changed w)
 ]

@@ -12,5 +12,6 @@ pub mod Saying
 pub mod Starting
 pub mod Step
 pub mod Structures
+pub mod Unfaulted
 pub mod Values
 pub mod World

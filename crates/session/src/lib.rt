@@ -9,6 +9,7 @@
 #![tactic(auto)]
 
 mod edits;
+mod laws;
 mod looks;
 mod refusals;
 mod replies;
@@ -21,5 +22,6 @@ mod values;
 mod words;
 
 pub use edits::MAX_COPIES;
+pub use laws::lines_are_answered;
 pub use session::Session;
 pub use starting::{StartError, start};

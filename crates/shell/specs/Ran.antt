@@ -36,31 +36,50 @@ pub record Starts (mode : Mode) (cap : ℕ) (old opened : Outside) (world : Worl
   pub opens : Opens old opened
   pub starts : StartsAs mode cap old.now.disk.seen (state_of world opened)
 
--- The greeting was said whole, and names the commit that the file stands for. From then on lines were served, up to this end: what was
--- taken, answered and said, and what a crash at any moment since the greeting would have left, are those of a run of the session over
--- the lines of the bytes taken.
-pub record Answers (mode : Mode) (cap : ℕ) (end : End) (old new : Outside) : Type 0 where
-  pub opened : Outside
-  pub world : World
-  pub starts : Starts mode cap old opened world
+-- The greeting was said whole, and names the commit that is kept. From then on lines were served, up to this end: what was taken, answered
+-- and said, and what a crash at any moment since the greeting would have left, are those of a run of the session over the lines of the
+-- bytes taken.
+pub record ServesFrom (world : World) (end : End) (old new : Outside) : Type 0 where
   pub greeted : Outside
-  pub greeting : SaysPart (greeting_line world.store.kept.number) (greeting_line world.store.kept.number) opened greeted
+  pub greeting : SaysPart (greeting_line world.store.kept.number) (greeting_line world.store.kept.number) old greeted
   pub last : World
   pub serves : Serves machine max_budget end world last greeted new
 
 -- the output failed within the greeting
-pub record GreetsInPart (mode : Mode) (cap : ℕ) (old new : Outside) : Type 0 where
+pub record GreetsInPart (world : World) (old new : Outside) : Type 0 where
+  pub said : List ℕ
+  pub part : SaysPart (greeting_line world.store.kept.number) said old new
+  pub short : length said < length (greeting_line world.store.kept.number)
+
+-- what each status says of a run that began with this world
+abbrev pub RanFrom : World → Status → Outside → Outside → Type 0
+RanFrom world Done old new = ServesFrom world all_done old new
+RanFrom world TakeFault old new = ServesFrom world take_fault old new
+RanFrom world TooMuch old new = ServesFrom world too_much old new
+RanFrom world SayFault old new = GreetsInPart world old new ⊎ ServesFrom world say_fault old new
+RanFrom world Usage old new = ⊥
+RanFrom world Refused old new = ⊥
+RanFrom world Memory old new = ⊥
+RanFrom world DiskFault old new = ⊥
+
+-- The file was opened, and a run began with what it stands for.
+pub record Answers (mode : Mode) (cap : ℕ) (status : Status) (old new : Outside) : Type 0 where
   pub opened : Outside
   pub world : World
   pub starts : Starts mode cap old opened world
-  pub said : List ℕ
-  pub part : SaysPart (greeting_line world.store.kept.number) said opened new
-  pub short : length said < length (greeting_line world.store.kept.number)
+  pub ran : RanFrom world status opened new
 
--- the file was looked at as a whole, and a front of the report was said
-pub record Checks (old new : Outside) (said : List ℕ) (report : Report) : Type 0 where
+-- a report was said, or a front of it where the output failed
+abbrev pub SaysReport : Report → Status → Outside → Outside → Type 0
+SaysReport report Done old new = SaysPart (check_line report) (check_line report) old new
+SaysReport report SayFault old new = (said : List ℕ) × SaysPart (check_line report) said old new × (length said < length (check_line report))
+SaysReport report _ old new = ⊥
+
+-- the file was looked at as a whole, and a report on it was said
+pub record Checks (status : Status) (old new : Outside) : Type 0 where
+  pub report : Report
   pub reports : Reports old.now.disk.seen report
-  pub part : SaysPart (check_line report) said old new
+  pub says : SaysReport report status old new
 
 -- Lines were served from this world up to the end that the status tells.
 abbrev pub ServesAs : Status → ℕ → World → World → Outside → Outside → Type 0
@@ -83,10 +102,10 @@ RanServing mode cap Usage old new = ⊥
 RanServing mode cap Refused old new = RefusesFile mode old new
 RanServing mode cap Memory old new = IsSilent old new
 RanServing mode cap DiskFault old new = Opens old new
-RanServing mode cap Done old new = Answers mode cap all_done old new
-RanServing mode cap TakeFault old new = Answers mode cap take_fault old new
-RanServing mode cap TooMuch old new = Answers mode cap too_much old new
-RanServing mode cap SayFault old new = GreetsInPart mode cap old new ⊎ Answers mode cap say_fault old new
+RanServing mode cap Done old new = Answers mode cap Done old new
+RanServing mode cap TakeFault old new = Answers mode cap TakeFault old new
+RanServing mode cap TooMuch old new = Answers mode cap TooMuch old new
+RanServing mode cap SayFault old new = Answers mode cap SayFault old new
 
 -- a run that looks at the file as a whole, and leaves it as it is
 abbrev pub RanChecking : Status → Outside → Outside → Type 0
@@ -94,10 +113,10 @@ RanChecking Usage old new = ⊥
 RanChecking Refused old new = RefusesFile Read old new
 RanChecking Memory old new = IsSilent old new
 RanChecking DiskFault old new = IsSilent old new
-RanChecking Done old new = (report : Report) × Checks old new (check_line report) report
+RanChecking Done old new = Checks Done old new
 RanChecking TakeFault old new = ⊥
 RanChecking TooMuch old new = ⊥
-RanChecking SayFault old new = (report : Report) × (said : List ℕ) × (length said < length (check_line report)) × Checks old new said report
+RanChecking SayFault old new = Checks SayFault old new
 
 abbrev pub RanAs : Task → Mode → ℕ → Status → Outside → Outside → Type 0
 RanAs Serve mode cap status old new = RanServing mode cap status old new
@@ -120,16 +139,17 @@ Ran words TakeFault old new = RanFor words TakeFault old new
 Ran words TooMuch old new = RanFor words TooMuch old new
 Ran words SayFault old new = RanFor words SayFault old new
 
--- a file from which a session starts in this mode: an empty one that may be written, or one that stands for a commit
-abbrev pub MayStart : Mode → List ℕ → Type 0
-MayStart mode file = ((file ≡ []) × (mode ≢ Read)) ⊎ ((c : Commit) × StandsFor file c)
+-- a file with which nothing is wrong: one that stands for a commit, or to serve lines from an empty one that may be written
+abbrev pub MayOpen : Task → Mode → List ℕ → Type 0
+MayOpen Serve mode file = ((file ≡ []) × (mode ≢ Read)) ⊎ ((c : Commit) × StandsFor file c)
+MayOpen Check mode file = (c : Commit) × StandsFor file c
 
 -- A run in which nothing can go wrong but memory: the words are right, the file may be opened, no call fails, and no more bytes come
 -- than may be taken.
 pub record GoesWell (words : List (List ℕ)) (old new : Outside) : Type 0 where
   pub job : Job
   pub right : AsksFor words job
-  pub opens : MayStart job.mode old.now.disk.seen
+  pub opens : MayOpen job.task job.mode old.now.disk.seen
   pub disk : ¬ Rose old.disk_faults new.disk_faults
   pub takes : ¬ Rose old.take_faults new.take_faults
   pub says : ¬ Rose old.say_faults new.say_faults

@@ -8,6 +8,7 @@
 mod checking;
 mod fault;
 mod own_lines;
+mod refusing;
 mod rooms;
 mod running;
 mod serving;

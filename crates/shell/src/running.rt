@@ -7,14 +7,14 @@ ghost use Rattle.lines.specs.Crash.{IsReady};
 ghost use Rattle.lines.specs.Rooms.{IsClear};
 ghost use Rattle.lines.specs.Served.{state_of};
 ghost use Rattle.lines.specs.Spoken.{SaysAll};
-ghost use Rattle.session.specs.Starting.{IsStartRefusal};
 ghost use Rattle.session.specs.Step.{machine};
-ghost use Rattle.shell.specs.Ran.{GoesWell, IsServed, Ran, RanAs, RanServing, ServesFrom};
+ghost use Rattle.shell.specs.Ran.{GoesWell, IsServed, Ran, RanAs, RanFrom, RanServing};
 ghost use Rattle.shell.specs.Said.{greeting_line};
 
 use crate::checking::check_file;
 use crate::fault::fault_of;
-use crate::own_lines::{write_fault, write_greeting};
+use crate::own_lines::write_greeting;
+use crate::refusing::refuse;
 use crate::rooms::Rooms;
 use crate::serving::serve;
 use crate::status::Status;
@@ -22,7 +22,7 @@ use command_line::{Job, Task, WordsError, read_words};
 use host_io::{Failed, Host};
 use lines::{MAX_BUDGET, say_all};
 use mk_value::Text;
-use session::{Session, StartError, start};
+use session::{Session, start};
 use std::alloc::Global;
 use storage::Mode;
 
@@ -62,4 +62,96 @@ pub fn run<H: Host>(alloc: Global, words: &[&str], host: &mut H) -> Status
         }
         Err(WordsError::Memory) => Status::Memory,
     }
+}
+
+/// Does what the words ask for.
+fn run_job<H: Host>(alloc: Global, job: &Job, host: &mut H) -> Status
+    requires settled { H.tells → IsSettled (H.outside host.old).now.disk }
+    requires capped { job.now.cap < 2 ^ 63 }
+    ensures ran { H.tells → RanAs job.now.task job.now.mode job.now.cap result (H.outside host.old) (H.outside host.new) }
+    ensures right { result ≢ Status.Usage }
+    ensures take_fault { result ≡ Status.TakeFault → Rose (H.outside host.old).take_faults (H.outside host.new).take_faults }
+    ensures say_fault { result ≡ Status.SayFault → Rose (H.outside host.old).say_faults (H.outside host.new).say_faults }
+    ensures disk_fault { result ≡ Status.DiskFault → Rose (H.outside host.old).disk_faults (H.outside host.new).disk_faults }
+{
+    let Ok(mut rooms) = Rooms::new(alloc) else {
+        return Status::Memory;
+    };
+    if attach(job, host).is_err() {
+        return Status::DiskFault;
+    }
+    match job.task {
+        Task::Serve => serve_file(alloc, job.mode, job.cap, &mut rooms, host),
+        Task::Check => check_file(alloc, &mut rooms.reply, host),
+    }
+}
+
+/// Attaches the file of a job, which is made where it is absent and may be written.
+fn attach<H: Host>(job: &Job, host: &mut H) -> Result<(), Failed>
+    ensures counts { CountsDisk (H.outside host.old) (H.outside host.new) result }
+    ensures same { H.tells → Looks (H.outside host.old) (H.outside host.new) }
+{
+    host.attach(job.file.as_str(), job.mode != Mode::Read)
+}
+
+/// Opens the store of the file or makes one, greets, and answers the lines of the input.
+fn serve_file<H: Host>(
+    alloc: Global,
+    mode: Mode,
+    cap: u64,
+    rooms: &mut Rooms,
+    host: &mut H,
+) -> Status
+    requires line { IsClear rooms.old.line }
+    requires reply { IsClear rooms.old.reply }
+    requires settled { H.tells → IsSettled (H.outside host.old).now.disk }
+    requires capped { cap < 2 ^ 63 }
+    ensures ran { H.tells → RanServing mode cap result (H.outside host.old) (H.outside host.new) }
+    ensures right { result ≢ Status.Usage }
+    ensures take_fault { result ≡ Status.TakeFault → Rose (H.outside host.old).take_faults (H.outside host.new).take_faults }
+    ensures say_fault { result ≡ Status.SayFault → Rose (H.outside host.old).say_faults (H.outside host.new).say_faults }
+    ensures disk_fault { result ≡ Status.DiskFault → Rose (H.outside host.old).disk_faults (H.outside host.new).disk_faults }
+{
+    match start(alloc, host, mode, cap) {
+        Ok(mut session) => greet_and_serve(&mut session, rooms, host),
+        Err(error) => match fault_of(error) {
+            Ok(fault) => refuse(fault, &mut rooms.reply, host),
+            Err(status) => status,
+        },
+    }
+}
+
+/// Greets, and answers the lines of the input.
+fn greet_and_serve<H: Host>(session: &mut Session, rooms: &mut Rooms, host: &mut H) -> Status
+    requires line { IsClear rooms.old.line }
+    requires reply { IsClear rooms.old.reply }
+    requires ready { H.tells → IsReady machine (state_of session.old (H.outside host.old)) }
+    ensures ran { H.tells → RanFrom session.old result (H.outside host.old) (H.outside host.new) }
+    ensures status { IsServed result }
+    ensures take_fault { result ≡ Status.TakeFault → Rose (H.outside host.old).take_faults (H.outside host.new).take_faults }
+    ensures say_fault { result ≡ Status.SayFault → Rose (H.outside host.old).say_faults (H.outside host.new).say_faults }
+{
+    if greet(session.number(), &mut rooms.reply, host).is_err() {
+        return Status::SayFault;
+    }
+    serve(
+        session,
+        host,
+        &mut rooms.line,
+        &mut rooms.reply,
+        MAX_BUDGET,
+    )
+}
+
+/// Says the greeting, which names the number of a commit.
+fn greet<H: Host>(number: u64, out: &mut Text, host: &mut H) -> Result<(), Failed>
+    requires { IsClear out.old }
+    ensures clear { IsClear out.new }
+    ensures counts { CountsSay (H.outside host.old) (H.outside host.new) result }
+    ensures says { H.tells → SaysAll (greeting_line number) (H.outside host.old) (H.outside host.new) result }
+{
+    write_greeting(number, out);
+    let said = say_all(host, out.as_str().as_bytes());
+    out.clear();
+    said
 }
