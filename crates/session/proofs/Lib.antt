@@ -1,12 +1,12 @@
 pub mod Dues
 pub mod Fitted
 pub mod Known
+pub mod OnDisk
 pub mod Outcomes
 pub mod Planned
 pub mod Readings
 pub mod Ready
 pub mod Stepped
-pub mod Storing
 pub mod Structured
 pub mod Undamaged
 pub mod Unfaulted

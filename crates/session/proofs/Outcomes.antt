@@ -1,6 +1,6 @@
 -- What comes of a command, where the session is shut and where it is not.
 use Rattle.std.proofs.Common.{◌≡◌, ℕ, Bool, true, false, cond, ◌&&◌, List, Option, Some, None, refl, ap, sym, subst, ◌∙◌, inl, inr}
-use Rattle.std.specs.Prelude.{◌⊎◌, not}
+use Rattle.std.specs.Prelude.{◌⊎◌, not, if◌then◌else◌}
 use Rattle.cmd_text.specs.Replies.{reply_bytes}
 use Rattle.cmd_text.specs.declared.command.Command.{Command}
 use Rattle.cmd_text.specs.declared.command.Command.TheVariants as commands
@@ -54,34 +54,34 @@ module _ (known : Type 0) (outside : Outside) where
       subst (λ (x : Outcome). Comes known x (state_of w outside) reply (state_of w outside)) (sym is) (record { answer = answer; world = refl; disk = still w w outside })
 
   without_disk : (command : Command) (old new : State World) → reaches_disk command ≡ false → LeavesDisk known old new → LeavesDiskFor known command old new
-  without_disk commands.Reopen old new no leaves = absurd (let f : true ≡ false = no in cc)
-  without_disk commands.Revert old new no leaves = absurd (let f : true ≡ false = no in cc)
-  without_disk (commands.Commit note) old new no leaves = leaves
-  without_disk commands.Nothing old new no leaves = leaves
-  without_disk (commands.Getas name schema) old new no leaves = leaves
-  without_disk (commands.Drop name) old new no leaves = leaves
-  without_disk commands.Struct old new no leaves = leaves
-  without_disk (commands.Add route literals) old new no leaves = leaves
-  without_disk (commands.Insert route place copies literals) old new no leaves = leaves
-  without_disk (commands.Set route row prop literal) old new no leaves = leaves
-  without_disk (commands.Remove route place rows) old new no leaves = leaves
-  without_disk (commands.Size route) old new no leaves = leaves
-  without_disk (commands.Show route) old new no leaves = leaves
-  without_disk commands.Log old new no leaves = leaves
-  without_disk commands.Rollback old new no leaves = leaves
-  without_disk commands.Space old new no leaves = leaves
-  without_disk commands.Quit old new no leaves = leaves
+  without_disk commands.Reopen old new none leaves = absurd (let f : true ≡ false = none in cc)
+  without_disk commands.Revert old new none leaves = absurd (let f : true ≡ false = none in cc)
+  without_disk (commands.Commit note) old new none leaves = leaves
+  without_disk commands.Nothing old new none leaves = leaves
+  without_disk (commands.Getas name schema) old new none leaves = leaves
+  without_disk (commands.Drop name) old new none leaves = leaves
+  without_disk commands.Struct old new none leaves = leaves
+  without_disk (commands.Add route literals) old new none leaves = leaves
+  without_disk (commands.Insert route place copies literals) old new none leaves = leaves
+  without_disk (commands.Set route row prop literal) old new none leaves = leaves
+  without_disk (commands.Remove route place rows) old new none leaves = leaves
+  without_disk (commands.Size route) old new none leaves = leaves
+  without_disk (commands.Show route) old new none leaves = leaves
+  without_disk commands.Log old new none leaves = leaves
+  without_disk commands.Rollback old new none leaves = leaves
+  without_disk commands.Space old new none leaves = leaves
+  without_disk commands.Quit old new none leaves = leaves
 
   -- what a command that reaches no disk is answered
   pub answered_carried : (command : Command) (old : World) (reply : Reply) (new : World) → outcome_of old command ≡ outcome_in old command → reaches_disk command ≡ false
       → Answered command old reply new → Carried known command (state_of old outside) (reply_bytes reply) (state_of new outside)
-  answered_carried command old reply new is no answered = elim answered.answers [
+  answered_carried command old reply new is none answered = elim answered.answers [
     | inl given ↦ inl (subst (λ (x : Outcome). Comes known x (state_of old outside) (reply_bytes reply) (state_of new outside)) (sym is) (given_comes (outcome_in old command) old (reply_bytes reply) new given))
     | inr memory ↦ inr (record {
       takes = memory.1;
       answer = ap reply_bytes memory.0;
       world = memory.2;
-      disk = without_disk command (state_of old outside) (state_of new outside) no (still old new outside);
+      disk = without_disk command (state_of old outside) (state_of new outside) none (still old new outside);
     })
   ]
 

@@ -79,8 +79,8 @@ module _ (old new : State World) where
   step_faults line reply (inr (inl r)) = left_faults r.refuses.disk
   step_faults line reply (inr (inr l)) = left_faults l.refuses.disk
 
-  module _ (open : is_shut old.world.store ≡ false) (still : ¬ Rose old.disk_faults new.disk_faults) where
-    -- the session stays open where its attempted commit is none still
+  module _ (unshut : is_shut old.world.store ≡ false) (still : ¬ Rose old.disk_faults new.disk_faults) where
+    -- the session stays unshut where its attempted commit is none still
     stays_open : (w : World) → new.world ≡ w → is_shut w.store ≡ false → is_shut new.world.store ≡ false
     stays_open w e h = ap (λ (x : World). is_shut x.store) e ∙ h
 
@@ -99,35 +99,35 @@ module _ (old new : State World) where
     well_open : (o : Outcome) (reply : List ℕ) → ((said : List ℕ) (left : World) → o ≡ gives said left → is_shut left.store ≡ false) → ComesWell o old reply new → is_shut new.world.store ≡ false
     well_open (gives said left) reply none g = stays_open left g.world (none said left refl)
     well_open (commits note) reply none (inl a) = stays_open _ a.world refl
-    well_open (commits note) reply none (inr f) = stays_open _ f.gives.world open
+    well_open (commits note) reply none (inr f) = stays_open _ f.gives.world unshut
     well_open reopens reply none r = stays_open _ r.world refl
-    well_open reverts reply none (inl b) = stays_open _ b.world open
-    well_open reverts reply none (inr f) = stays_open _ f.world open
+    well_open reverts reply none (inl b) = stays_open _ b.world unshut
+    well_open reverts reply none (inr f) = stays_open _ f.world unshut
 
 -- what a session gives that is not shut leaves one that is not shut
 gives_open : (command : Command) (w : World) (said : List ℕ) (left : World) → is_shut w.store ≡ false → outcome_in w command ≡ gives said left → is_shut left.store ≡ false
-gives_open command w said left open e =
-    ap is_some (given_same command w said left (subst (λ (o : Outcome). IsGiven o said left) (sym e) (refl, refl))).attempted ∙ open
+gives_open command w said left unshut e =
+    ap is_some (given_same command w said left (subst (λ (o : Outcome). IsGiven o said left) (sym e) (refl, refl))).attempted ∙ unshut
 
-module _ (old new : State World) (open : is_shut old.world.store ≡ false) (still : ¬ Rose old.disk_faults new.disk_faults) where
+module _ (old new : State World) (unshut : is_shut old.world.store ≡ false) (still : ¬ Rose old.disk_faults new.disk_faults) where
   open_of : (command : Command) → outcome_of old.world command ≡ outcome_in old.world command
-  open_of command = outcome_open old.world command (open_goes old.world.store (goes_when_shut command) open)
+  open_of command = outcome_open old.world command (open_goes old.world.store (goes_when_shut command) unshut)
 
   carried_well : (command : Command) (line reply : List ℕ) → Reads line command → Carried (Unit {0}) command old reply new → StepsWell old line reply new × (is_shut new.world.store ≡ false)
   carried_well command line reply reads (inl comes) =
-      let well = comes_well old new open still (outcome_in old.world command) reply (subst (λ (o : Outcome). Comes (Unit {0}) o old reply new) (open_of command) comes) in
+      let well = comes_well old new unshut still (outcome_in old.world command) reply (subst (λ (o : Outcome). Comes (Unit {0}) o old reply new) (open_of command) comes) in
       (inl (record { command = command; reads = reads; comes = inl well }),
-      well_open old new open still (outcome_in old.world command) reply (λ said left e. gives_open command old.world said left open e) well)
+      well_open old new unshut still (outcome_in old.world command) reply (λ said left e. gives_open command old.world said left unshut e) well)
   carried_well command line reply reads (inr w) =
-      (inl (record { command = command; reads = reads; comes = inr w }), stays_open old new open still old.world w.world open)
+      (inl (record { command = command; reads = reads; comes = inr w }), stays_open old new unshut still old.world w.world unshut)
 
   step_well : (line reply : List ℕ) → Step (Unit {0}) old line reply new → StepsWell old line reply new × (is_shut new.world.store ≡ false)
   step_well line reply (inl c) = carried_well c.command line reply c.reads c.carried
-  step_well line reply (inr (inl r)) = (inr (inl r), stays_open old new open still old.world r.refuses.world open)
-  step_well line reply (inr (inr l)) = (inr (inr l), stays_open old new open still old.world l.refuses.world open)
+  step_well line reply (inr (inl r)) = (inr (inl r), stays_open old new unshut still old.world r.refuses.world unshut)
+  step_well line reply (inr (inr l)) = (inr (inr l), stays_open old new unshut still old.world l.refuses.world unshut)
 
   turn_well : (line reply : List ℕ) → Answers machine old line reply new → (IsTooLong line ⊎ StepsWell old line reply new) × (is_shut new.world.store ≡ false)
-  turn_well line reply (inl long) = (inl long.0, ap (λ (s : State World). is_shut s.world.store) long.2 ∙ open)
+  turn_well line reply (inl long) = (inl long.0, ap (λ (s : State World). is_shut s.world.store) long.2 ∙ unshut)
   turn_well line reply (inr step) = let well = step_well line reply step.1 in (inr well.0, well.1)
 
 turn_faults : (old new : State World) (line reply : List ℕ) → Answers machine old line reply new → old.disk_faults ≤ new.disk_faults
@@ -147,20 +147,20 @@ run_faults old last (line ∷ lines) (turn ∷ turns) run =
 
 pub answered_unfaulted : (old last : State World) (lines : List (List ℕ)) (turns : List (Turn World)) → is_shut old.world.store ≡ false → Run machine old lines turns last → (¬ Rose old.disk_faults last.disk_faults)
     → AreAnswered old turns
-answered_unfaulted old last lines [] open run still = tt
-answered_unfaulted old last [] (turn ∷ turns) open run still = absurd run
-answered_unfaulted old last (line ∷ lines) (turn ∷ turns) open run still =
+answered_unfaulted old last lines [] unshut run still = tt
+answered_unfaulted old last [] (turn ∷ turns) unshut run still = absurd run
+answered_unfaulted old last (line ∷ lines) (turn ∷ turns) unshut run still =
     let first = turn_faults old turn.after line turn.reply run.1 in
     elim run.2 [
       | inl ended ↦
       let e = ap (λ (s : State World). s.disk_faults) ended.2 in
       let later : turn.after.disk_faults ≤ last.disk_faults = omega (arith, e) in
-      let well = turn_well old turn.after open (λ rose. still (rose_later old.disk_faults turn.after.disk_faults last.disk_faults first later rose)) line turn.reply run.1 in
-      (record { open = well.1; well = subst (λ (l : List ℕ). IsTooLong l ⊎ StepsWell old l turn.reply turn.after) (sym run.0) well.0 },
+      let well = turn_well old turn.after unshut (λ rose. still (rose_later old.disk_faults turn.after.disk_faults last.disk_faults first later rose)) line turn.reply run.1 in
+      (record { unshut = well.1; well = subst (λ (l : List ℕ). IsTooLong l ⊎ StepsWell old l turn.reply turn.after) (sym run.0) well.0 },
       subst (λ (ts : List (Turn World)). AreAnswered turn.after ts) (sym ended.1) tt)
       | inr more ↦
       let later = run_faults turn.after last lines turns more.1 in
-      let well = turn_well old turn.after open (λ rose. still (rose_later old.disk_faults turn.after.disk_faults last.disk_faults first later rose)) line turn.reply run.1 in
-      (record { open = well.1; well = subst (λ (l : List ℕ). IsTooLong l ⊎ StepsWell old l turn.reply turn.after) (sym run.0) well.0 },
+      let well = turn_well old turn.after unshut (λ rose. still (rose_later old.disk_faults turn.after.disk_faults last.disk_faults first later rose)) line turn.reply run.1 in
+      (record { unshut = well.1; well = subst (λ (l : List ℕ). IsTooLong l ⊎ StepsWell old l turn.reply turn.after) (sym run.0) well.0 },
       answered_unfaulted turn.after last lines turns well.1 more.1 (λ rose. still (rose_before old.disk_faults turn.after.disk_faults last.disk_faults first later rose)))
     ]

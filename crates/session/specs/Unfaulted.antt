@@ -29,7 +29,7 @@ StepsWell old line reply new = CarriesWell old line reply new ⊎ (RefusesLine (
 
 -- A turn of a session that was not shut: it is not shut after it, and the line got what it is due, unless it was too long.
 pub record IsAnswered (old : State World) (turn : Turn World) : Type 0 where
-  pub open : is_shut turn.after.world.store ≡ false
+  pub unshut : is_shut turn.after.world.store ≡ false
   pub well : IsTooLong turn.line ⊎ StepsWell old turn.line turn.reply turn.after
 
 abbrev pub AreAnswered : State World → List (Turn World) → Type 0

@@ -69,7 +69,8 @@ fn note_texts(alloc: Global, notes: &[Note]) -> Result<Texts, Memory>
     ensures { IfOk result (λ texts. contents texts ≡ texts_of_notes (map note_of notes.now)) }
 {
     let mut texts = Texts::new(alloc);
-    for note in notes.iter().rev() {
+    for at in 0..notes.len() {
+        let note = &notes[notes.len() - 1 - at];
         texts.push(text_of_note(alloc, note)?)?;
     }
     Ok(texts)

@@ -75,7 +75,7 @@ impl Session {
         if self.store.views().names().len() >= MAX_VIEWS {
             return Err(Refusal::Limit);
         }
-        let table = empty_table(self.alloc, schema).map_err(of_memory)?;
+        let table = new_table(self.alloc, schema)?;
         self.put_view(name, table)
     }
 
@@ -103,6 +103,14 @@ impl Session {
     {
         self.store.drop_view(name).map_err(of_edit)
     }
+}
+
+/// A table without rows.
+fn new_table(alloc: Global, schema: &Schema) -> Result<Table, Refusal>
+    ensures memory { IfErr result (λ e. e ≡ Refusal.Memory) }
+    ensures ok { IfOk result (λ made. made ≡ table_without_homes schema.now []) }
+{
+    empty_table(alloc, schema).map_err(of_memory)
 }
 
 /// The table under another schema.

@@ -47,18 +47,18 @@ use Rattle.session.proofs.Undamaged.{no_cause}
 
 -- `commit`, where the session is not shut
 pub open_commit : (w : World) (note : List ℕ) (o : Option Refusal) → is_shut w.store ≡ false → commit_due w.store ≡ o → outcome_of w (commands.Commit note) ≡ unless_due o w (commits note)
-open_commit w note o open due = outcome_open w (commands.Commit note) (open_goes w.store false open) ∙ ap (λ d. unless_due d w (commits note)) due
+open_commit w note o unshut due = outcome_open w (commands.Commit note) (open_goes w.store false unshut) ∙ ap (λ d. unless_due d w (commits note)) due
 
 world_is : (w new : World) (s : Stored) → new.store ≡ s → new ≡ with_store w s
 world_is w new s e = ap (λ (x : Stored). with_store w x) e
 
-module _ (known : Type 0) (w : World) (note reply : List ℕ) (open : is_shut w.store ≡ false) where
+module _ (known : Type 0) (w : World) (note reply : List ℕ) (unshut : is_shut w.store ≡ false) where
   pub commit_refused : (outside : Outside) (refusal : Refusal) → IsUnplanned w.store note refusal → reply ≡ reply_bytes (Refused refusal)
       → Carried known (commands.Commit note) (state_of w outside) reply (state_of w outside)
   commit_refused outside refusal (inl due) answer =
-      inl (refused_comes known outside refusal w reply (outcome_of w (commands.Commit note)) (open_commit w note (Some refusal) open due) answer)
+      inl (refused_comes known outside refusal w reply (outcome_of w (commands.Commit note)) (open_commit w note (Some refusal) unshut due) answer)
   commit_refused outside refusal (inr (inl cap)) answer =
-      inl (subst (λ (o : Outcome). Comes known o (state_of w outside) reply (state_of w outside)) (sym (open_commit w note None open cap.due)) (inr (inr (record {
+      inl (subst (λ (o : Outcome). Comes known o (state_of w outside) reply (state_of w outside)) (sym (open_commit w note None unshut cap.due)) (inr (inr (record {
         end = cap.end;
         ends = cap.ends;
         past = cap.past;
@@ -67,20 +67,19 @@ module _ (known : Type 0) (w : World) (note reply : List ℕ) (open : is_shut w.
   commit_refused outside refusal (inr (inr memory)) answer =
       inr (record { takes = refl; answer = answer ∙ ap (λ r. reply_bytes (Refused r)) memory; world = refl; disk = still w w outside })
 
-  module _ (planned : Planned) (is_planned : IsPlannedNext w.store note planned) (new : World) (from to : Outside)
-  (places : known → AgreesBut (commit_ranges w.store planned) from.now.disk.seen to.now.disk.seen) (later : from.disk_faults ≤ to.disk_faults) where
+  module _ (planned : Planned) (is_planned : IsPlannedNext w.store note planned) (new : World) (from to : Outside) (places : known → AgreesBut (commit_ranges w.store planned) from.now.disk.seen to.now.disk.seen) (later : from.disk_faults ≤ to.disk_faults) where
     commit_moments : {E : Type 0} (result : Result ℕ E) → Commits w.store.kept planned.next from to result → Goes (IsWithinCommand (state_of w from) (commands.Commit note) from.now.said) from to
     commit_moments result made =
         weaker (λ at h. record {
           silent = h.0;
           images = λ image is.
-              inr (record { note = note; due = open_commit w note None open is_planned.due; planned = planned; next = is_planned.next; stands = h.1 image is });
+              inr (record { note = note; due = open_commit w note None unshut is_planned.due; planned = planned; next = is_planned.next; stands = h.1 image is });
         }) made.moments
 
     pub commit_made : (number : ℕ) → number ≡ planned.next.number → reply ≡ reply_bytes (Commit number) → new.store ≡ committed w.store planned.next
         → {E : Type 0} → (known → Commits {E = E} w.store.kept planned.next from to (Ok number)) → Carried known (commands.Commit note) (state_of w from) reply (state_of new to)
     commit_made number is answer made commits_ =
-        inl (subst (λ (o : Outcome). Comes known o (state_of w from) reply (state_of new to)) (sym (open_commit w note None open is_planned.due)) (inl (record {
+        inl (subst (λ (o : Outcome). Comes known o (state_of w from) reply (state_of new to)) (sym (open_commit w note None unshut is_planned.due)) (inl (record {
           planned = planned;
           next = is_planned.next;
           within = is_planned.within;
@@ -94,7 +93,7 @@ module _ (known : Type 0) (w : World) (note reply : List ℕ) (open : is_shut w.
     pub commit_failed : reply ≡ reply_bytes (Refused refusals.Disk) → new.store ≡ failed w.store planned.next → Rose from.disk_faults to.disk_faults
         → Carried known (commands.Commit note) (state_of w from) reply (state_of new to)
     commit_failed answer made rose =
-        inl (subst (λ (o : Outcome). Comes known o (state_of w from) reply (state_of new to)) (sym (open_commit w note None open is_planned.due)) (inr (inl (record {
+        inl (subst (λ (o : Outcome). Comes known o (state_of w from) reply (state_of new to)) (sym (open_commit w note None unshut is_planned.due)) (inr (inl (record {
           planned = planned;
           next = is_planned.next;
           answer = answer;
@@ -112,7 +111,7 @@ module _ (known : Type 0) (w : World) (note reply : List ℕ) (open : is_shut w.
       ready = ready_at_rest (state_of new to) (subst (λ (s : Stored). StandsFor to.now.disk.seen s.kept) (sym made) commits_.stands) rests;
     }
 
-    pub commit_goes_wrong : {E : Type 0} (error : E) → new.store ≡ failed w.store planned.next → Commits w.store.kept planned.next from to (Err error)
+    pub commit_goes_wrong : {E : Type 0} (error : E) → new.store ≡ failed w.store planned.next → Commits {T = ℕ} w.store.kept planned.next from to (Err error)
         → GoesOn (commands.Commit note) (state_of w from) (state_of new to) from to
     commit_goes_wrong error made commits_ = record {
       moments = commit_moments (Err error) commits_;
@@ -134,28 +133,28 @@ seen_same from to true (inr settles) = ap (λ (d : DiskState). d.seen) settles.d
 seen_same from to false looks = ap (λ (m : Moment). m.disk.seen) looks.still.now
 
 -- a file that was read in a session stands for a commit
+one_of_two : (state : State World) (image : List ℕ) → IsAllowed state image → (c : StoredCommit) × StandsFor image c
+one_of_two state image (inl kept) = (state.world.store.kept, kept.stands)
+one_of_two state image (inr attempted) = (attempted.next, attempted.stands)
+
 stands_for_one : (state : State World) → IsReady machine state → (c : StoredCommit) × StandsFor state.disk.seen c
-stands_for_one state ready = one (ready.allowed state.disk.seen ready.ready.sound)
-where
-  one : IsAllowed state state.disk.seen → (c : StoredCommit) × StandsFor state.disk.seen c
-  one (inl kept) = (state.world.store.kept, kept.stands)
-  one (inr attempted) = (attempted.next, attempted.stands)
+stands_for_one state ready = one_of_two state state.disk.seen (ready.allowed state.disk.seen ready.ready.sound)
+
+over : (w : World) (from to : Outside) → is_shut w.store ≡ true → IsAllowed (state_of w from) from.now.disk.seen → IsAllowed (state_of w to) from.now.disk.seen
+over w from to shut (inl kept) = inl (record { stands = kept.stands; before = λ unshut. absurd (false≢true (sym unshut ∙ shut)) })
+over w from to shut (inr attempted) = inr (record { next = attempted.next; attempted = attempted.attempted; stands = attempted.stands; before = attempted.before })
 
 -- after what was pending is settled, the file that is read is what a crash leaves
 ready_settled : (w : World) (from to : Outside) → is_shut w.store ≡ true → to.now.disk ≡ settled from.now.disk.seen → IsReady machine (state_of w from) → IsReady machine (state_of w to)
 ready_settled w from to shut is ready = record {
   allowed = λ image of_it.
       let same : image ≡ from.now.disk.seen = image_of_settled (settled from.now.disk.seen) image (IsSettled-settled from.now.disk.seen) (subst (λ (d : DiskState). IsImage d image) is of_it) in
-      subst (IsAllowed (state_of w to)) (sym same) (over (ready.allowed from.now.disk.seen ready.ready.sound));
+      subst (IsAllowed (state_of w to)) (sym same) (over w from to shut (ready.allowed from.now.disk.seen ready.ready.sound));
   ready = record {
     sound = subst IsSound (sym is) (IsSound-settled (settled from.now.disk.seen) (IsSettled-settled from.now.disk.seen));
-    rests = λ open. absurd (false≢true (sym open ∙ shut));
+    rests = λ unshut. absurd (false≢true (sym unshut ∙ shut));
   };
 }
-where
-  over : IsAllowed (state_of w from) from.now.disk.seen → IsAllowed (state_of w to) from.now.disk.seen
-  over (inl kept) = inl (record { stands = kept.stands; before = λ open. absurd (false≢true (sym open ∙ shut)) })
-  over (inr attempted) = inr (record { next = attempted.next; attempted = attempted.attempted; stands = attempted.stands; before = attempted.before })
 
 module _ (command : Command) (w : World) (from to : Outside) (ready : IsReady machine (state_of w from)) where
   synced_moments : (shut : Bool) → SyncsAtMost shut from to → Goes (IsWithinCommand (state_of w from) command from.now.said) from to
@@ -206,10 +205,8 @@ module _ (command : Command) (w : World) (from to : Outside) (ready : IsReady ma
     said = ap (λ (m : Moment). m.said) looks.still.now;
     input = looks.input;
     ready = subst (λ (s : Stored). IsReady machine (state_of (with_store w s) to)) (sym is)
-    (ready_same (state_of w from) (state_of (with_views_of views) to) (record { kept = refl; before = refl; attempted = refl; slot = refl; other = refl }) (ap (λ (m : Moment). m.disk) looks.still.now) ready);
-  } where
-    with_views_of : List NamedTable → World
-    with_views_of v = with_store w (with_views w.store v)
+    (ready_same (state_of w from) (state_of (with_tables w views) to) (record { kept = refl; before = refl; attempted = refl; slot = refl; other = refl }) (ap (λ (m : Moment). m.disk) looks.still.now) ready);
+  }
 
 module _ (known : Type 0) (w : World) (from to : Outside) (reply : List ℕ) (later : from.disk_faults ≤ to.disk_faults) where
   reopens_of : outcome_of w commands.Reopen ≡ reopens
@@ -264,9 +261,9 @@ module _ (known : Type 0) (w : World) (from to : Outside) (reply : List ℕ) (la
         disk = settles_of syncs w;
       }))))
 
-  module _ (open : is_shut w.store ≡ false) where
+  module _ (unshut : is_shut w.store ≡ false) where
     open_revert : (some : Bool) → is_some w.store.before ≡ some → outcome_of w commands.Revert ≡ unless_due (first_of (unless some refusals.NoName ∷ [])) w reverts
-    open_revert some e = outcome_open w commands.Revert (open_goes w.store false open) ∙ ap (λ b. unless_due (first_of (unless b refusals.NoName ∷ [])) w reverts) e
+    open_revert some e = outcome_open w commands.Revert (open_goes w.store false unshut) ∙ ap (λ b. unless_due (first_of (unless b refusals.NoName ∷ [])) w reverts) e
 
     pub revert_none : is_some w.store.before ≡ false → reply ≡ reply_bytes (Refused refusals.NoName) → Carried known commands.Revert (state_of w from) reply (state_of w from)
     revert_none none answer = inl (refused_comes known from refusals.NoName w reply (outcome_of w commands.Revert) (open_revert false none) answer)
