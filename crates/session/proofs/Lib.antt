@@ -6,6 +6,7 @@ pub mod Outcomes
 pub mod Planned
 pub mod Readings
 pub mod Ready
+pub mod Started
 pub mod Stepped
 pub mod Structured
 pub mod Undamaged

@@ -37,6 +37,26 @@ pub goes_always : (shut goes : Bool) → goes ≡ true → (shut && not goes) �
 goes_always true goes e = ap not e
 goes_always false goes e = refl
 
+-- a command that is none of those that reach the disk reaches none
+pub unreached : (command : Command) → ((note : List ℕ) → command ≡ commands.Commit note → ⊥) → (command ≡ commands.Reopen → ⊥) → (command ≡ commands.Revert → ⊥) → reaches_disk command ≡ false
+unreached (commands.Commit note) commit reopen revert = absurd (commit note refl)
+unreached commands.Reopen commit reopen revert = absurd (reopen refl)
+unreached commands.Revert commit reopen revert = absurd (revert refl)
+unreached commands.Nothing commit reopen revert = refl
+unreached (commands.Getas name schema) commit reopen revert = refl
+unreached (commands.Drop name) commit reopen revert = refl
+unreached commands.Struct commit reopen revert = refl
+unreached (commands.Add route literals) commit reopen revert = refl
+unreached (commands.Insert route place copies literals) commit reopen revert = refl
+unreached (commands.Set route row prop literal) commit reopen revert = refl
+unreached (commands.Remove route place rows) commit reopen revert = refl
+unreached (commands.Size route) commit reopen revert = refl
+unreached (commands.Show route) commit reopen revert = refl
+unreached commands.Log commit reopen revert = refl
+unreached commands.Rollback commit reopen revert = refl
+unreached commands.Space commit reopen revert = refl
+unreached commands.Quit commit reopen revert = refl
+
 -- no call of the disk was made
 pub still : {known : Type 0} (old new : World) (outside : Outside) → LeavesDisk known (state_of old outside) (state_of new outside)
 still old new outside = record { bytes = λ _. refl; faults = refl }

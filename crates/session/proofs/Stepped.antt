@@ -1,5 +1,5 @@
 -- How a line steps.
-use Rattle.std.proofs.Common.{◌≡◌, ℕ, true, false, List, [], refl, ap, subst, sym, ◌∙◌, inl, inr}
+use Rattle.std.proofs.Common.{◌≡◌, ℕ, true, false, List, [], refl, ap, subst, sym, ◌∙◌, inl, inr, ⊎_elim}
 use Rattle.std.specs.Prelude.{◌⊎◌}
 use Rattle.cmd_text.specs.Lines.{IsRefusedAs, Reads}
 use Rattle.cmd_text.specs.OneWord.{IsOneWord}
@@ -10,10 +10,13 @@ use Rattle.cmd_text.specs.declared.error.CmdError.{CmdError}
 use Rattle.cmd_text.specs.declared.error.CmdError.TheVariants as errors
 use Rattle.cmd_text.specs.declared.refusal.Refusal.TheVariants.{Memory}
 use Rattle.cmd_text.specs.declared.reply.Reply.TheVariants.{Quit, Refused}
+use Rattle.host_io.specs.Outside.{Outside}
+use Rattle.host_io.proofs.Moments.{weaker}
 use Rattle.lines.specs.Machine.{State}
 use Rattle.storage.specs.Stored.{is_shut}
 use Rattle.session.specs.Carried.{Carried, Comes}
 use Rattle.session.specs.Commands.{Outcome, goes_when_shut, outcome_of, takes_memory}
+use Rattle.session.specs.Going.{GoesOn, GoesOnLine}
 use Rattle.session.specs.Lines.{is_blank, is_quit}
 use Rattle.session.specs.Refusals.{refusal_of_reading}
 use Rattle.session.specs.Step.{Step}
@@ -40,6 +43,18 @@ takes_of line in_place (commands.Commit note) reads = refl
 takes_of line in_place commands.Log reads = refl
 takes_of line in_place commands.Reopen reads = refl
 takes_of line in_place commands.Revert reads = refl
+
+-- what goes on in a command goes on in its line
+pub line_goes : (old new : State World) (from to : Outside) (line : List ℕ) (command : Command) → Reads line command → GoesOn command old new from to → GoesOnLine line old new from to
+line_goes old new from to line command reads goes = record {
+  moments = weaker (λ at h. record {
+    silent = h.silent;
+    images = λ image is. ⊎_elim (λ allowed. inl allowed) (λ commits. inr (record { command = command; reads = reads; commits = commits })) (h.images image is);
+  }) goes.moments;
+  said = goes.said;
+  input = goes.input;
+  ready = goes.ready;
+}
 
 module _ (known : Type 0) where
   pub step_of_command : (old new : State World) (line reply : List ℕ) (command : Command) → Reads line command → Carried known command old reply new → Step known old line reply new

@@ -1,4 +1,4 @@
-ghost use Rattle.std.specs.Prelude.{◌≡◌, ◌⊎◌, ◌+◌, ◌≤◌, ◌↔◌, [], true, false, length};
+ghost use Rattle.std.specs.Prelude.{◌≡◌, ◌⊎◌, ◌+◌, ◌≤◌, ◌↔◌, ◌&&◌, [], not, true, false, length};
 ghost use Rattle.cmd_text.specs.declared.command.Command.{Command as TheCommand};
 ghost use Rattle.cmd_text.specs.declared.command.Command.TheVariants as commands;
 ghost use Rattle.cmd_text.specs.Lines.{Reads};
@@ -78,11 +78,10 @@ impl Session {
         ensures unsaid { HasLines result → ChangesNothing H.tells command.now (state_of self.old (H.outside host.old)) (state_of self.new (H.outside host.new)) }
         ensures silent { result ≡ Reply.Silent → command.now ≡ commands.Nothing }
 
-        // The disk is told to have failed only where it did.
-        ensures counts { CountsFaults (result ≡ Reply.Refused Refusal.Disk) (H.outside host.old) (H.outside host.new) }
+        ensures counts { CountsFaults ⊥ (H.outside host.old) (H.outside host.new) }
         ensures goes { H.tells → GoesOn command.now (state_of self.old (H.outside host.old)) (state_of self.new (H.outside host.new)) (H.outside host.old) (H.outside host.new) }
     {
-        if self.store.is_shut() && !goes_when_shut(command) {
+        if self.refuses(command) {
             return replies::refused(Refusal::Shut);
         }
         match command {
@@ -91,6 +90,13 @@ impl Session {
             Command::Revert => self.revert(host),
             _ => self.carry_out(command),
         }
+    }
+
+    /// Whether the session is shut for the command.
+    fn refuses(&self, command: &Command) -> bool
+        ensures { result ≡ is_shut self.now.store && not (goes_when_shut command.now) }
+    {
+        self.store.is_shut() && !goes_when_shut(command)
     }
 
     /// Carries a command out that reaches no disk, and gives the reply to it.

@@ -5,7 +5,7 @@ ghost use Rattle.host_io.specs.Disk.{IsSettled};
 ghost use Rattle.lines.specs.Crash.{IsReady};
 ghost use Rattle.lines.specs.Served.{state_of};
 ghost use Rattle.recovery.specs.Commits.{IsCommit};
-ghost use Rattle.session.specs.Starting.{IsStartRefusal, StartsAs};
+ghost use Rattle.session.specs.Starting.{IsStartRefusal, StartsAs, cause_of_opening};
 ghost use Rattle.session.specs.Step.{machine};
 ghost use Rattle.session.specs.declared.starting.StartError.TheVariants as start_error;
 ghost use Rattle.storage.specs.declared.mode.Mode.TheVariants as modes;
@@ -51,12 +51,19 @@ impl From<OpenError> for StartError {
     ghost from_gives = { λ o e. e ≡ cause_of_opening o };
 
     fn from(error: OpenError) -> StartError {
-        match error {
-            OpenError::NotAStore => StartError::NotAStore,
-            OpenError::Damaged(place) => StartError::Damaged(place),
-            OpenError::Failed => StartError::Failed,
-            OpenError::Memory => StartError::Memory,
-        }
+        of_opening(error)
+    }
+}
+
+/// How a file that is not opened is refused.
+fn of_opening(error: OpenError) -> StartError
+    ensures { result ≡ cause_of_opening error }
+{
+    match error {
+        OpenError::NotAStore => StartError::NotAStore,
+        OpenError::Damaged(place) => StartError::Damaged(place),
+        OpenError::Failed => StartError::Failed,
+        OpenError::Memory => StartError::Memory,
     }
 }
 
@@ -90,8 +97,29 @@ pub fn start<H: Host>(
     if host.len()? == 0 {
         return make(alloc, host, mode, cap);
     }
-    let store = Store::open(alloc, host, mode, cap)?;
-    Ok(session_over(alloc, store))
+    open_store(alloc, host, mode, cap)
+}
+
+/// Opens the store of a file that is not empty.
+fn open_store<H: Host>(
+    alloc: Global,
+    host: &mut H,
+    mode: Mode,
+    cap: u64,
+) -> Result<Session, StartError>
+    requires settled { H.tells → IsSettled (H.outside host.old).now.disk }
+    requires some { H.tells → (H.outside host.old).now.disk.seen ≢ [] }
+    requires capped { cap < 2 ^ 63 }
+    ensures counts { CountsFaults (IsErrOf result StartError.Failed) (H.outside host.old) (H.outside host.new) }
+    ensures same { H.tells → Looks (H.outside host.old) (H.outside host.new) }
+    ensures refused { H.tells → IfErr result (IsStartRefusal mode (H.outside host.old) (H.outside host.new)) }
+    ensures starts { H.tells → IfOk result (λ session. StartsAs mode cap (H.outside host.old).now.disk.seen (state_of session (H.outside host.new))) }
+    ensures ready { H.tells → IfOk result (λ session. IsReady machine (state_of session (H.outside host.new))) }
+{
+    match Store::open(alloc, host, mode, cap) {
+        Ok(store) => Ok(session_over(alloc, store)),
+        Err(error) => Err(of_opening(error)),
+    }
 }
 
 /// A session over a store, whose commit is whole.

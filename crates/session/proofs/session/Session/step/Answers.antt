@@ -1,0 +1,28 @@
+use Rattle.std.proofs.Common.{refl, sym, ◌∙◌, arith}
+use Rattle.host_io.proofs.Moments.{begins}
+use Rattle.lines.specs.Served.{state_of}
+use Rattle.session.proofs.Outcomes.{answered_carried, answered_same, outcome_open, still, unreached}
+use Rattle.session.proofs.Ready.{ready_same}
+use Rattle.session.proofs.session.Session.step.Goals as goal
+
+pub returns-in_default : goal.returns-in_default
+returns-in_default g c =
+    let outside = g.H.Disk.outside c.args.host.now in
+    let w = c.args.self.now in
+    let new = c.carry_out.new.self in
+    let command = c.args.command.now in
+    let is = outcome_open w command (sym c.refuses.ensures ∙ c.if-refuses.false) in
+    let without = unreached command c.in_default.not-Commit c.in_default.not-Reopen c.in_default.not-Revert in
+    record {
+      carried = answered_carried g.H.Disk.tells outside command w c.carry_out.result new is without c.carry_out.ensures;
+      fits = c.carry_out.ensures.fits;
+      unsaid = λ lines. let kept = c.carry_out.ensures.kept lines in record { takes = kept.0; world = kept.1; disk = still w new outside };
+      silent = c.carry_out.ensures.silent;
+      counts = record { later = omega arith; cause = λ never. absurd never; takes = refl; says = refl };
+      goes = λ tells. record {
+        moments = begins outside;
+        said = refl;
+        input = refl;
+        ready = ready_same (state_of w outside) (state_of new outside) (answered_same command w c.carry_out.result new c.carry_out.ensures) refl (c.requires.ready tells);
+      };
+    }
