@@ -1,5 +1,0 @@
-pub mod Spelled
-pub mod Found
-pub mod Readings
-pub mod OneJob
-pub mod Lone

@@ -1,4 +1,0 @@
-pub mod Causes
-pub mod Command
-pub mod Asking
-pub mod Words
