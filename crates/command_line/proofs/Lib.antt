@@ -1,0 +1,4 @@
+pub mod Spelled
+pub mod Found
+pub mod Readings
+pub mod OneJob

@@ -1,0 +1,107 @@
+ghost use Rattle.std.specs.Prelude.{◌≡◌, ℕ, List, Err, IfOk, IfSome, IfNone};
+ghost use Rattle.clap.specs.Matches.{found_of};
+ghost use Rattle.clap.specs.Walk.{rows_of};
+ghost use Rattle.command_line.specs.Asking.{Asks, IsCap, IsFile, IsUse, is_given};
+ghost use Rattle.command_line.specs.Words.{AsksFor, AsksForSome, texts_of};
+
+use crate::command::{CAP, CHECK, EXTEND, FILE, READ, command};
+use crate::error::WordsError;
+use crate::job::{Job, Task};
+use crate::mode::Mode;
+use crate::number::number_of;
+use clap::ArgMatches;
+use clap::parser::ValueSource;
+use mk_value::Text;
+use std::alloc::Global;
+
+/// The least cap: the size of a file without views.
+const LEAST_CAP: u64 = 208;
+
+/// The greatest cap, which is also the one that is meant where none is given.
+const MOST_CAP: u64 = 2_147_483_632;
+
+/// The job that the words ask for, of which the first is the program's own name.
+///
+/// # Errors
+///
+/// `Usage` where they ask for none, and only there; `Memory` where an allocation was refused.
+pub fn read_words(alloc: Global, words: &[&str]) -> Result<Job, WordsError>
+    ensures ok { IfOk result (λ job. AsksFor (texts_of words.now) job) }
+    ensures usage { result ≡ Err WordsError.Usage → ¬ AsksForSome (texts_of words.now) }
+{
+    let matches = command(alloc)?.try_get_matches_from(words)?;
+    job_of(alloc, &matches)
+}
+
+/// The job that matches ask for.
+fn job_of(alloc: Global, matches: &ArgMatches<'_>) -> Result<Job, WordsError>
+    ensures ok { IfOk result (λ job. Asks (rows_of (found_of matches.now)) job) }
+    ensures usage { result ≡ Err WordsError.Usage → (job : Job) → Asks (rows_of (found_of matches.now)) job → ⊥ }
+{
+    let Some(file) = file_of(matches) else {
+        return Err(WordsError::Usage);
+    };
+    let Some(cap) = cap_of(matches) else {
+        return Err(WordsError::Usage);
+    };
+    let Some((mode, task)) = use_of(matches) else {
+        return Err(WordsError::Usage);
+    };
+    Ok(Job {
+        file: Text::from_str(alloc, file)?,
+        mode,
+        cap,
+        task,
+    })
+}
+
+/// The name of the file, where it is not empty.
+fn file_of<'a>(matches: &ArgMatches<'a>) -> Option<&'a str>
+    ensures some { IfSome result (λ file. IsFile (rows_of (found_of matches.now)) file.now) }
+    ensures none { IfNone result ((file : List ℕ) → IsFile (rows_of (found_of matches.now)) file → ⊥) }
+{
+    let file = matches.get_str(FILE)?;
+    if file.is_empty() { None } else { Some(file) }
+}
+
+/// The cap that is given, or meant.
+fn cap_of(matches: &ArgMatches<'_>) -> Option<u64>
+    ensures some { IfSome result (λ cap. IsCap (rows_of (found_of matches.now)) cap) }
+    ensures none { IfNone result ((cap : ℕ) → IsCap (rows_of (found_of matches.now)) cap → ⊥) }
+{
+    let Some(text) = matches.get_str(CAP) else {
+        return Some(MOST_CAP);
+    };
+    let cap = number_of(text)?;
+    if cap < LEAST_CAP || MOST_CAP < cap {
+        return None;
+    }
+    Some(cap)
+}
+
+/// How the store is used and what is done with it, where the options go together.
+fn use_of(matches: &ArgMatches<'_>) -> Option<(Mode, Task)>
+    ensures some { IfSome result (λ found. IsUse (rows_of (found_of matches.now)) found.0 found.1) }
+    ensures none { IfNone result ((mode : Mode) (task : Task) → IsUse (rows_of (found_of matches.now)) mode task → ⊥) }
+{
+    let extends = is_given(matches, EXTEND);
+    let reads = is_given(matches, READ);
+    match (is_given(matches, CHECK), extends, reads) {
+        (true, false, false) if !is_given(matches, CAP) => Some((Mode::Read, Task::Check)),
+        (false, true, false) => Some((Mode::Extend, Task::Serve)),
+        (false, false, true) => Some((Mode::Read, Task::Serve)),
+        (false, false, false) => Some((Mode::Write, Task::Serve)),
+        _ => None,
+    }
+}
+
+/// Whether the words give this, be it an option or the file.
+#[tactic(auto, using(crate::proofs::Found::given_by_source))]
+fn is_given(matches: &ArgMatches<'_>, name: &str) -> bool
+    ensures { result ≡ is_given name.now (rows_of (found_of matches.now)) }
+{
+    matches!(
+        matches.value_source(name),
+        Some(ValueSource::CommandLine)
+    )
+}
