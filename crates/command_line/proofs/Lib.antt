@@ -2,3 +2,4 @@ pub mod Spelled
 pub mod Found
 pub mod Readings
 pub mod OneJob
+pub mod Lone

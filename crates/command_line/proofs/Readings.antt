@@ -1,5 +1,6 @@
 -- What `clap` says of the one command, whatever the words.
-use Rattle.std.proofs.Common.{◌≡◌, ◌∙◌, List, ℕ, [], Result, Err, ap, refl, subst, sym, true, inl, inr}
+use Rattle.std.proofs.Common.{◌≡◌, ◌∙◌, List, ℕ, [], Result, Ok, Err, ap, refl, subst, sym, true, inl, inr}
+use Rattle.std.specs.Result.{IfOk, IsErr}
 use Rattle.clap.specs.Faults.{fault_of, is_simple_and_free}
 use Rattle.clap.specs.Kinds.{HasKind, IsAmong}
 use Rattle.clap.specs.Matches.{found_of}
@@ -40,3 +41,8 @@ module _ (command : App) (is : command ≡ the_command) (words : List (List ℕ)
         cc
     | inr among ↦ subst (IsAmong (kind_of error)) (ap (λ (c : App). fault_of c words) is ∙ none) among
   ]
+
+-- an answer that no value fits is an error
+pub no_ok : {T E : Type 0} (P : T → Type 0) (answer : Result T E) → IfOk answer P → ((value : T) → P value → ⊥) → IsErr answer
+no_ok P (Ok value) fits none = absurd (none value fits)
+no_ok P (Err error) fits none = refl

@@ -67,3 +67,10 @@ pub record IsSameJob (one other : Job) : Type 0 where
   pub mode : one.mode ≡ other.mode
   pub cap : one.cap ≡ other.cap
   pub task : one.task ≡ other.task
+
+-- lines are answered over a store in this file, and nothing else is asked for
+pub record IsServed (name : List ℕ) (job : Job) : Type 0 where
+  pub file : job.file.bytes ≡ name
+  pub mode : job.mode ≡ Write
+  pub cap : job.cap ≡ most_cap
+  pub task : job.task ≡ Serve

@@ -15,5 +15,5 @@ mod reading;
 pub use error::WordsError;
 pub use job::{Job, Task};
 pub use mode::Mode;
-pub use laws::words_ask_for_one_job;
+pub use laws::{a_name_alone_is_served, words_ask_for_one_job};
 pub use reading::read_words;

@@ -1,4 +1,4 @@
-ghost use Rattle.std.specs.Prelude.{◌≡◌, ℕ, List, Err, IfOk, IfSome, IfNone};
+ghost use Rattle.std.specs.Prelude.{◌≡◌, ℕ, List, Err, IfOk, IsErr, IfSome, IfNone};
 ghost use Rattle.clap.specs.Matches.{found_of};
 ghost use Rattle.clap.specs.Walk.{rows_of};
 ghost use Rattle.command_line.specs.Asking.{Asks, IsCap, IsFile, IsUse, is_given};
@@ -24,10 +24,11 @@ const MOST_CAP: u64 = 2_147_483_632;
 ///
 /// # Errors
 ///
-/// `Usage` where they ask for none, and only there; `Memory` where an allocation was refused.
+/// `Usage` where they ask for none, and only there. `Memory` where an allocation was refused, whatever the words.
 pub fn read_words(alloc: Global, words: &[&str]) -> Result<Job, WordsError>
     ensures ok { IfOk result (λ job. AsksFor (texts_of words.now) job) }
     ensures usage { result ≡ Err WordsError.Usage → ¬ AsksForSome (texts_of words.now) }
+    ensures none { ¬ AsksForSome (texts_of words.now) → IsErr result }
 {
     let matches = command(alloc)?.try_get_matches_from(words)?;
     job_of(alloc, &matches)
