@@ -1,5 +1,5 @@
 -- What the one command makes of a word by itself that begins with no hyphen.
-use Rattle.std.proofs.Common.{◌≡◌, ◌≢◌, ◌∙◌, ℕ, List, [], ◌∷◌, Some, None, Bool, true, false, refl, sym, ap, ap₂, arith, codes}
+use Rattle.std.proofs.Common.{◌≡◌, ◌≢◌, ◌∙◌, ℕ, List, [], ◌∷◌, Some, None, false, refl, sym, ap, ap₂, arith}
 use Rattle.std.proofs.lemmas.Bool.{false≢true, ne_eqb}
 use Rattle.std.specs.Prelude.{is_some}
 use Rattle.std.specs.Str.{bytes_eq}
@@ -7,7 +7,7 @@ use Rattle.clap.specs.Faults.{check_fault, defaults_fault, entered_fault, fault_
 use Rattle.clap.specs.Kinds.{Kinds, or_else}
 use Rattle.clap.specs.Lexer.{long_of, short_of}
 use Rattle.clap.specs.Simple.{Shape, built, entered, matches_of}
-use Rattle.clap.specs.Walk.{Held, Row, Rule, Step, Walk, after_step, arg_by_index, finished, idle, nothing_held, settled, to_positional, value, walk_from, walked, word_met}
+use Rattle.clap.specs.Walk.{Held, Rule, Step, Walk, after_step, arg_by_index, finished, idle, nothing_held, settled, to_positional, value, walk_from, walked, word_met}
 use Rattle.command_line.specs.Asking.{Asks, IsServed}
 use Rattle.command_line.specs.Command.{the_command}
 use Rattle.command_line.specs.Words.{AsksFor}
@@ -60,7 +60,7 @@ module _ (first : ℕ) (rest : List ℕ) (plain : first ≢ 45) where
   lone_right program =
       let command = (built the_command).top in
       let by_parts : fault_of the_command (program ∷ (first ∷ rest) ∷ [])
-          ≡ fault_by (turn_fault command [] (walk_from nothing_held) (first ∷ rest)) (walked command.rules [] (walk_from nothing_held) (first ∷ rest)) = refl in
+      ≡ fault_by (turn_fault command [] (walk_from nothing_held) (first ∷ rest)) (walked command.rules [] (walk_from nothing_held) (first ∷ rest)) = refl in
       by_parts ∙ ap₂ fault_by (no_turn_fault command) (walks_to_file command.rules)
 
   lone_asks : (program : List ℕ) (job : Job) → IsServed (first ∷ rest) job → Asks (matches_of the_command (program ∷ (first ∷ rest) ∷ [])) job

@@ -1,9 +1,9 @@
 -- What words ask for is one job.
-use Rattle.std.proofs.Common.{◌≡◌, ◌∙◌, ℕ, ◌<◌, ◌^◌, List, Option, Some, None, sym, arith, decimal}
+use Rattle.std.proofs.Common.{◌≡◌, ◌∙◌, ℕ, ◌<◌, ◌^◌, List, Option, Some, None, sym, arith}
 use Rattle.std.proofs.lemmas.Fmt.{decimal_injective}
 use Rattle.std.proofs.lemmas.Option.{same_Some}
 use Rattle.clap.specs.Walk.{Row}
-use Rattle.command_line.specs.Asking.{Asks, IsCap, IsSameJob, MeansCap}
+use Rattle.command_line.specs.Asking.{Asks, IsSameJob, MeansCap}
 use Rattle.command_line.specs.declared.job.Job.{Job}
 
 one_cap : (given : Option (List ℕ)) (one other : ℕ) → one < 2 ^ 64 → other < 2 ^ 64 → MeansCap given one → MeansCap given other → one ≡ other

@@ -1,7 +1,9 @@
 -- What the options and the file ask for that were found in words: the tests that the words have to pass, and the job.
 use Rattle.std.specs.Prelude.{◌≡◌, ◌≢◌, ℕ, ◌≤◌, ◌||◌, Bool, true, false, if◌then◌else◌, List, [], Option, Some, None, codes, decimal, find, option_and_then}
 use Rattle.std.specs.Str.{bytes_eq}
-use Rattle.clap.specs.Walk.{Row, first_of}
+use Rattle.clap.specs.Matches.{found_of}
+use Rattle.clap.specs.Walk.{Row, first_of, rows_of}
+use Rattle.clap.specs.declared.parser.matches.ArgMatches.{ArgMatches}
 use Rattle.clap.specs.declared.parser.matches.ValueSource.{ValueSource}
 use Rattle.clap.specs.declared.parser.matches.ValueSource.TheVariants.{CommandLine, DefaultValue}
 use Rattle.command_line.specs.declared.job.Job.{Job}
@@ -10,6 +12,11 @@ use Rattle.command_line.specs.declared.job.Task.TheVariants.{Serve, Check}
 use Rattle.command_line.specs.declared.mode.Mode.{Mode}
 use Rattle.command_line.specs.declared.mode.Mode.TheVariants.{Write, Extend, Read}
 
+-- what was found, a row for each option and for the file
+abbrev pub found_rows : ArgMatches → List Row
+found_rows matches = rows_of (found_of matches)
+
+-- a value that comes from the words, and is no default
 abbrev pub is_of_words : Option ValueSource → Bool
 is_of_words (Some CommandLine) = true
 is_of_words (Some DefaultValue) = false

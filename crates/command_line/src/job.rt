@@ -1,5 +1,5 @@
-use mk_value::Text;
 use crate::mode::Mode;
+use mk_value::Text;
 
 /// What words ask for.
 #[derive(Debug, Drop)]

@@ -1,7 +1,5 @@
 ghost use Rattle.std.specs.Prelude.{◌≡◌, ℕ, List, Err, IfOk, IsErr, IfSome, IfNone};
-ghost use Rattle.clap.specs.Matches.{found_of};
-ghost use Rattle.clap.specs.Walk.{rows_of};
-ghost use Rattle.command_line.specs.Asking.{Asks, IsCap, IsFile, IsUse, is_given};
+ghost use Rattle.command_line.specs.Asking.{Asks, IsCap, IsFile, IsUse, found_rows, is_given};
 ghost use Rattle.command_line.specs.Words.{AsksFor, AsksForSome, texts_of};
 
 use crate::command::{CAP, CHECK, EXTEND, FILE, READ, command};
@@ -36,8 +34,8 @@ pub fn read_words(alloc: Global, words: &[&str]) -> Result<Job, WordsError>
 
 /// The job that matches ask for.
 fn job_of(alloc: Global, matches: &ArgMatches<'_>) -> Result<Job, WordsError>
-    ensures ok { IfOk result (λ job. Asks (rows_of (found_of matches.now)) job) }
-    ensures usage { result ≡ Err WordsError.Usage → (job : Job) → Asks (rows_of (found_of matches.now)) job → ⊥ }
+    ensures ok { IfOk result (λ job. Asks (found_rows matches.now) job) }
+    ensures usage { result ≡ Err WordsError.Usage → (job : Job) → Asks (found_rows matches.now) job → ⊥ }
 {
     let Some(file) = file_of(matches) else {
         return Err(WordsError::Usage);
@@ -58,8 +56,8 @@ fn job_of(alloc: Global, matches: &ArgMatches<'_>) -> Result<Job, WordsError>
 
 /// The name of the file, where it is not empty.
 fn file_of<'a>(matches: &ArgMatches<'a>) -> Option<&'a str>
-    ensures some { IfSome result (λ file. IsFile (rows_of (found_of matches.now)) file.now) }
-    ensures none { IfNone result ((file : List ℕ) → IsFile (rows_of (found_of matches.now)) file → ⊥) }
+    ensures some { IfSome result (λ file. IsFile (found_rows matches.now) file.now) }
+    ensures none { IfNone result ((file : List ℕ) → IsFile (found_rows matches.now) file → ⊥) }
 {
     let file = matches.get_str(FILE)?;
     if file.is_empty() { None } else { Some(file) }
@@ -67,8 +65,8 @@ fn file_of<'a>(matches: &ArgMatches<'a>) -> Option<&'a str>
 
 /// The cap that is given, or meant.
 fn cap_of(matches: &ArgMatches<'_>) -> Option<u64>
-    ensures some { IfSome result (λ cap. IsCap (rows_of (found_of matches.now)) cap) }
-    ensures none { IfNone result ((cap : ℕ) → IsCap (rows_of (found_of matches.now)) cap → ⊥) }
+    ensures some { IfSome result (λ cap. IsCap (found_rows matches.now) cap) }
+    ensures none { IfNone result ((cap : ℕ) → IsCap (found_rows matches.now) cap → ⊥) }
 {
     let Some(text) = matches.get_str(CAP) else {
         return Some(MOST_CAP);
@@ -82,8 +80,8 @@ fn cap_of(matches: &ArgMatches<'_>) -> Option<u64>
 
 /// How the store is used and what is done with it, where the options go together.
 fn use_of(matches: &ArgMatches<'_>) -> Option<(Mode, Task)>
-    ensures some { IfSome result (λ found. IsUse (rows_of (found_of matches.now)) found.0 found.1) }
-    ensures none { IfNone result ((mode : Mode) (task : Task) → IsUse (rows_of (found_of matches.now)) mode task → ⊥) }
+    ensures some { IfSome result (λ found. IsUse (found_rows matches.now) found.0 found.1) }
+    ensures none { IfNone result ((mode : Mode) (task : Task) → IsUse (found_rows matches.now) mode task → ⊥) }
 {
     let extends = is_given(matches, EXTEND);
     let reads = is_given(matches, READ);
@@ -99,10 +97,7 @@ fn use_of(matches: &ArgMatches<'_>) -> Option<(Mode, Task)>
 /// Whether the words give this, be it an option or the file.
 #[tactic(auto, using(crate::proofs::Found::given_by_source))]
 fn is_given(matches: &ArgMatches<'_>, name: &str) -> bool
-    ensures { result ≡ is_given name.now (rows_of (found_of matches.now)) }
+    ensures { result ≡ is_given name.now (found_rows matches.now) }
 {
-    matches!(
-        matches.value_source(name),
-        Some(ValueSource::CommandLine)
-    )
+    matches!(matches.value_source(name), Some(ValueSource::CommandLine))
 }

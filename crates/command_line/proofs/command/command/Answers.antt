@@ -1,10 +1,10 @@
 -- The command is built up as the definition says.
 use Rattle.std.proofs.Common.{rules, ap₂, ◌≡◌, ◌∙◌}
 use Rattle.std.proofs.lemmas.Result.{IfOk-weaker}
-use Rattle.clap.specs.Simple.{App, app_of, with_rule}
-use Rattle.clap.specs.Walk.{Rule, rule_of}
+use Rattle.clap.specs.Simple.{with_rule}
+use Rattle.clap.specs.Walk.{rule_of}
 use Rattle.std.specs.Prelude.{codes}
-use Rattle.command_line.specs.Command.{flag_rule, option_rule, required_rule, the_command}
+use Rattle.command_line.specs.Command.{option_rule, required_rule, the_command}
 use Rattle.command_line.proofs.command.command.Goals as goal
 
 pub returns : goal.returns

@@ -1,4 +1,4 @@
-use Rattle.std.proofs.Common.{ℕ, subst, sym, true≢false, ◌∙◌}
+use Rattle.std.proofs.Common.{subst, sym, true≢false, ◌∙◌}
 use Rattle.command_line.proofs.Spelled.{HasSignOrZero, decimal_is_plain, read_where_spelled, spelled_by_plain}
 use Rattle.command_line.proofs.number.number_of.Goals as goal
 
