@@ -1,5 +1,5 @@
-use crate::mode::Mode;
 use mk_value::Text;
+use storage::Mode;
 
 /// What words ask for.
 #[derive(Debug, Drop)]

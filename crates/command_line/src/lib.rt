@@ -8,12 +8,10 @@ mod command;
 mod error;
 mod job;
 mod laws;
-mod mode;
 mod number;
 mod reading;
 
 pub use error::WordsError;
 pub use job::{Job, Task};
 pub use laws::{a_name_alone_is_served, words_ask_for_one_job};
-pub use mode::Mode;
 pub use reading::read_words;

@@ -5,12 +5,12 @@ ghost use Rattle.command_line.specs.Words.{AsksFor, AsksForSome, texts_of};
 use crate::command::{CAP, CHECK, EXTEND, FILE, READ, command};
 use crate::error::WordsError;
 use crate::job::{Job, Task};
-use crate::mode::Mode;
 use crate::number::number_of;
 use clap::ArgMatches;
 use clap::parser::ValueSource;
 use mk_value::Text;
 use std::alloc::Global;
+use storage::Mode;
 
 /// The least cap: the size of a file without views.
 const LEAST_CAP: u64 = 208;
