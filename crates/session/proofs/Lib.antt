@@ -3,7 +3,6 @@ pub mod Fitted
 pub mod Known
 pub mod OnDisk
 pub mod Outcomes
-pub mod Planned
 pub mod Readings
 pub mod Ready
 pub mod Started

@@ -1,5 +1,9 @@
 -- What a session starts with.
-use Rattle.std.proofs.Common.{◌≡◌, ◌≢◌, ℕ, List, [], ◌∷◌, refl, ap, sym, subst, ◌∙◌}
+use Rattle.std.proofs.Common.{◌≡◌, ◌≢◌, ℕ, List, [], ◌∷◌, Result, Ok, Err, refl, ap, sym, subst, ◌∙◌}
+use Rattle.std.specs.Prelude.{IfErr}
+use Rattle.recovery.specs.Refusals.{IsDamagedAt, IsNoStore}
+use Rattle.session.specs.declared.starting.StartError.{StartError}
+use Rattle.session.specs.declared.starting.StartError.TheVariants as start_error
 use Rattle.host_io.specs.Calls.{Looks}
 use Rattle.host_io.specs.Disk.{DiskState}
 use Rattle.host_io.specs.Outside.{Moment, Outside}
@@ -22,6 +26,29 @@ start_refused mode old new opening.NotAStore some looks cause = (some, cause, lo
 start_refused mode old new (opening.Damaged place) some looks cause = (some, cause, looks)
 start_refused mode old new opening.Failed some looks cause = tt
 start_refused mode old new opening.Memory some looks cause = looks
+
+looks_join : (old mid new : Outside) → Looks old mid → Looks mid new → Looks old new
+looks_join old mid new first then = record {
+  still = record { now = then.still.now ∙ first.still.now; past = then.still.past ∙ first.still.past };
+  input = then.input ∙ first.input;
+}
+
+refusal_after : (mode : Mode) (old mid new : Outside) (e : StartError) → Looks old mid → IsStartRefusal mode mid new e → IsStartRefusal mode old new e
+refusal_after mode old mid new start_error.Empty looks h =
+    (h.0, sym (ap (λ (m : Moment). m.disk.seen) looks.still.now) ∙ h.1, looks_join old mid new looks h.2)
+refusal_after mode old mid new start_error.NotAStore looks h =
+    let same = ap (λ (m : Moment). m.disk.seen) looks.still.now in
+    (subst (λ (bytes : List ℕ). bytes ≢ []) same h.0, subst IsNoStore same h.1, looks_join old mid new looks h.2)
+refusal_after mode old mid new (start_error.Damaged place) looks h =
+    let same = ap (λ (m : Moment). m.disk.seen) looks.still.now in
+    (subst (λ (bytes : List ℕ). bytes ≢ []) same h.0, subst (λ (bytes : List ℕ). IsDamagedAt bytes place) same h.1, looks_join old mid new looks h.2)
+refusal_after mode old mid new start_error.Failed looks h = tt
+refusal_after mode old mid new start_error.Memory looks h = looks_join old mid new looks h
+
+-- why none is started, after a look at the file
+pub refused_after : {T : Type 0} (mode : Mode) (old mid new : Outside) (r : Result T StartError) → Looks old mid → IfErr r (IsStartRefusal mode mid new) → IfErr r (IsStartRefusal mode old new)
+refused_after mode old mid new (Ok x) looks h = tt
+refused_after mode old mid new (Err e) looks h = refusal_after mode old mid new e looks h
 
 starts_with : (mode : Mode) (cap : ℕ) (file : List ℕ) (state : State World) → file ≢ [] → StartsFrom mode cap file state → StartsAs mode cap file state
 starts_with mode cap [] state some from = absurd (some refl)

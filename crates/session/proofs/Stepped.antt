@@ -15,14 +15,16 @@ use Rattle.host_io.proofs.Moments.{weaker}
 use Rattle.lines.specs.Machine.{State}
 use Rattle.storage.specs.Stored.{is_shut}
 use Rattle.session.specs.Carried.{Carried, Comes}
-use Rattle.session.specs.Commands.{Outcome, goes_when_shut, outcome_of, takes_memory}
+use Rattle.session.specs.Commands.{Outcome, commits, gives, goes_when_shut, outcome_of, takes_memory}
+use Rattle.session.specs.Disk.{IsAllowed}
+use Rattle.session.specs.Moments.{IsUnderWay}
 use Rattle.session.specs.Going.{GoesOn, GoesOnLine}
 use Rattle.session.specs.Lines.{is_blank, is_quit}
 use Rattle.session.specs.Refusals.{refusal_of_reading}
 use Rattle.session.specs.Step.{Step}
 use Rattle.session.specs.World.{World}
 use Rattle.session.proofs.Outcomes.{goes_always, outcome_open}
-use Rattle.session.proofs.Readings.{blank_reads, quit_reads}
+use Rattle.session.proofs.Readings.{blank_only, blank_reads, quit_reads}
 
 -- a line that reads as one word is read without memory
 takes_of : (line : List ℕ) → ((command : Command) → IsOneWord command → Reads line command → ⊥) → (command : Command) → Reads line command → takes_memory command ≡ true
@@ -43,6 +45,17 @@ takes_of line in_place (commands.Commit note) reads = refl
 takes_of line in_place commands.Log reads = refl
 takes_of line in_place commands.Reopen reads = refl
 takes_of line in_place commands.Revert reads = refl
+
+nothing_commits : (w : World) (note : List ℕ) → outcome_of w commands.Nothing ≡ commits note → ⊥
+nothing_commits w note e =
+    let given : gives [] w ≡ commits note = sym (outcome_open w commands.Nothing (goes_always (is_shut w.store) true refl)) ∙ e in cc
+
+-- while a line of spaces is answered nothing is under way
+pub quiet_of_blank : (state : State World) (line image : List ℕ) → is_blank line ≡ true → IsAllowed state image ⊎ IsUnderWay state line image → IsAllowed state image
+quiet_of_blank state line image blank (inl allowed) = allowed
+quiet_of_blank state line image blank (inr under_way) =
+    absurd (nothing_commits state.world under_way.commits.note
+    (subst (λ (c : Command). outcome_of state.world c ≡ commits under_way.commits.note) (blank_only line under_way.command blank under_way.reads) under_way.commits.due))
 
 -- what goes on in a command goes on in its line
 pub line_goes : (old new : State World) (from to : Outside) (line : List ℕ) (command : Command) → Reads line command → GoesOn command old new from to → GoesOnLine line old new from to
