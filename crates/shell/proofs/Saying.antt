@@ -167,3 +167,9 @@ unchecked error.Memory s old new is looks =
 unchecked error.Empty s old new is looks = absurd (let f : ◌≡◌ {A = Result FileFault Status} (Ok Empty) (Err s) = is in cc)
 unchecked error.NotAStore s old new is looks = absurd (let f : ◌≡◌ {A = Result FileFault Status} (Ok NotAStore) (Err s) = is in cc)
 unchecked (error.Damaged place) s old new is looks = absurd (let f : ◌≡◌ {A = Result FileFault Status} (Ok (Damaged place)) (Err s) = is in cc)
+
+-- a report that the output did not take whole
+pub unsaid_report : {E : Type 0} (report : Report) (old new : Outside) (error : E) → SaysAll {T = Unit {0}} (check_line report) old new (Err error) → SaysReport report status.SayFault old new
+unsaid_report report old new error says =
+    (take says.part (check_line report), says_part (check_line report) old new (Err error) says,
+    omega (arith, length-take-le says.part (check_line report) says.within, says.err))

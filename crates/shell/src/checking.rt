@@ -1,5 +1,5 @@
 //! A file is looked at as a whole.
-ghost use Rattle.std.specs.Prelude.{◌≡◌, ◌≢◌, ◌⊎◌, IfErr, IfOk, IsErrOf};
+ghost use Rattle.std.specs.Prelude.{◌≡◌, ◌≢◌, ◌⊎◌, [], IfErr, IfOk, IsErrOf};
 ghost use Rattle.host_io.specs.Calls.{CountsFaults, Looks, Rose};
 ghost use Rattle.host_io.specs.Disk.{IsSettled};
 ghost use Rattle.host_io.specs.Outside.{Outside};
@@ -39,7 +39,7 @@ pub(crate) fn check_file<H: Host>(alloc: Global, out: &mut Text, host: &mut H) -
     }
 }
 
-/// The report on the store of a file that is not empty.
+/// The report on the store of a file, which is not to be empty.
 fn check_store<H: Host>(alloc: Global, host: &mut H) -> Result<Report, StartError>
     requires settled { H.tells → IsSettled (H.outside host.old).now.disk }
     ensures counts { CountsFaults (IsErrOf result StartError.Failed) (H.outside host.old) (H.outside host.new) }
@@ -50,7 +50,22 @@ fn check_store<H: Host>(alloc: Global, host: &mut H) -> Result<Report, StartErro
     if host.len()? == 0 {
         return Err(StartError::Empty);
     }
-    Ok(check(alloc, host)?)
+    report_on(alloc, host)
+}
+
+/// The report on the store of a file that is not empty.
+fn report_on<H: Host>(alloc: Global, host: &mut H) -> Result<Report, StartError>
+    requires settled { H.tells → IsSettled (H.outside host.old).now.disk }
+    requires some { H.tells → (H.outside host.old).now.disk.seen ≢ [] }
+    ensures counts { CountsFaults (IsErrOf result StartError.Failed) (H.outside host.old) (H.outside host.new) }
+    ensures same { H.tells → Looks (H.outside host.old) (H.outside host.new) }
+    ensures found { H.tells → IfOk result (Reports (H.outside host.old).now.disk.seen) }
+    ensures refused { H.tells → IfErr result (IsStartRefusal modes.Read (H.outside host.old) (H.outside host.new)) }
+{
+    match check(alloc, host) {
+        Ok(report) => Ok(report),
+        Err(error) => Err(StartError::from(error)),
+    }
 }
 
 /// Says a report on a file.
