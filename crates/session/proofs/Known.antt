@@ -1,14 +1,13 @@
 -- What may come of a line over a disk whose bytes are known.
-use Rattle.std.proofs.Common.{◌≡◌, ℕ, List, inl, inr}
-use Rattle.std.specs.Prelude.{◌⊎◌}
+use Rattle.std.proofs.Common.{ℕ, List, inl, inr}
 use Rattle.cmd_text.specs.declared.command.Command.{Command}
 use Rattle.cmd_text.specs.declared.command.Command.TheVariants as commands
 use Rattle.commit_plan.specs.Plans.{Planned}
 use Rattle.lines.specs.Machine.{State}
-use Rattle.session.specs.Carried.{Acknowledges, BringsBack, Carried, Comes, FailsToReopen, FailsToRevert, FailsUnderWay, FindsDamage, FindsNoCommit, Gives, IsFull, LeavesDiskFor, Reopens, WantsMemory}
+use Rattle.session.specs.Carried.{Acknowledges, BringsBack, Carried, Comes, FailsToReopen, FailsToRevert, FailsUnderWay, FindsDamage, Gives, IsFull, LeavesDiskFor, Reopens}
 use Rattle.session.specs.Commands.{Outcome, gives, commits, reopens, reverts, outcome_of}
 use Rattle.session.specs.Disk.{LeavesDisk, ReadsDisk, SettlesAtMost, WritesCommit}
-use Rattle.session.specs.Step.{CarriesOut, LacksMemory, RefusesLine, Step}
+use Rattle.session.specs.Step.{Step}
 use Rattle.session.specs.World.{World}
 
 module _ {known : Type 0} (k : known) (old new : State World) where

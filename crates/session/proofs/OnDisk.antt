@@ -1,7 +1,7 @@
 -- What comes of the commands that reach the disk.
-use Rattle.std.proofs.Common.{◌≡◌, ◌≢◌, ℕ, ◌≤◌, Bool, true, false, List, [], ◌∷◌, Option, Some, None, Result, Ok, Err, refl, ap, sym, subst, ◌∙◌, inl, inr}
+use Rattle.std.proofs.Common.{◌≡◌, ℕ, ◌≤◌, Bool, true, false, List, [], ◌∷◌, Option, Some, None, Result, Ok, Err, refl, ap, sym, subst, ◌∙◌, inl, inr}
 use Rattle.std.specs.Option.{is_some}
-use Rattle.std.specs.Prelude.{◌⊎◌, IsErrOf}
+use Rattle.std.specs.Prelude.{◌⊎◌}
 use Rattle.std.proofs.lemmas.Bool.{false≢true}
 use Rattle.cmd_text.specs.Replies.{reply_bytes}
 use Rattle.cmd_text.specs.declared.command.Command.{Command}
@@ -10,33 +10,33 @@ use Rattle.cmd_text.specs.declared.refusal.Refusal.{Refusal}
 use Rattle.cmd_text.specs.declared.refusal.Refusal.TheVariants as refusals
 use Rattle.cmd_text.specs.declared.reply.Reply.TheVariants.{Commit, Refused, Reopen, Revert}
 use Rattle.commit_plan.specs.Plans.{Planned}
-use Rattle.host_io.specs.Calls.{CountsFaults, Looks, Rose}
+use Rattle.host_io.specs.Calls.{Looks, Rose}
 use Rattle.host_io.specs.Disk.{DiskState, IsImage, IsSound, settled}
 use Rattle.host_io.specs.Outside.{Goes, Moment, Outside}
 use Rattle.host_io.specs.Ranges.{AgreesBut}
 use Rattle.host_io.proofs.Images.{IsSettled-settled, IsSound-settled, image_of_settled}
-use Rattle.host_io.proofs.Moments.{begins, steps, steps_looks, weaker}
+use Rattle.host_io.proofs.Moments.{steps, steps_looks, weaker}
 use Rattle.lines.specs.Crash.{IsReady}
 use Rattle.lines.specs.Machine.{State}
 use Rattle.lines.specs.Served.{state_of}
 use Rattle.recovery.specs.Commits.{Commit as StoredCommit}
 use Rattle.recovery.specs.Opening.{NamesCause}
-use Rattle.recovery.specs.Refusals.{IsBefore, broken, whole}
+use Rattle.recovery.specs.Refusals.{IsBefore, broken}
 use Rattle.recovery.specs.Standing.{StandsFor}
 use Rattle.recovery.specs.declared.error.OpenError.{OpenError}
 use Rattle.recovery.specs.declared.error.OpenError.TheVariants as opening
 use Rattle.storage.specs.Committing.{Commits}
 use Rattle.storage.specs.Reverting.{NamesRefusal, Reverts, views_without_homes}
 use Rattle.storage.specs.Stored.{Rests, Stored, committed, failed, is_shut, reopened, with_views}
-use Rattle.storage.specs.Syncing.{Settles, SyncsAtMost}
+use Rattle.storage.specs.Syncing.{SyncsAtMost}
 use Rattle.storage.specs.declared.error.RevertError.{RevertError}
 use Rattle.storage.specs.declared.error.RevertError.TheVariants as reverting
 use Rattle.view_store.specs.Views.{NamedTable}
 use Rattle.session.specs.Carried.{Carried, Comes}
-use Rattle.session.specs.Commands.{Outcome, commit_due, commits, outcome_of, refused, reopens, revert_due, reverts, unless_due}
-use Rattle.session.specs.Disk.{IsAllowed, IsInOrder, IsKept, SettlesAtMost, commit_ranges}
+use Rattle.session.specs.Commands.{Outcome, commit_due, commits, outcome_of, reopens, reverts, unless_due}
+use Rattle.session.specs.Disk.{IsAllowed, SettlesAtMost, commit_ranges}
 use Rattle.session.specs.Going.{GoesOn}
-use Rattle.session.specs.Moments.{IsCommitting, IsWithinCommand}
+use Rattle.session.specs.Moments.{IsWithinCommand}
 use Rattle.session.specs.Planning.{IsPlannedNext, IsUnplanned}
 use Rattle.session.specs.Refusals.{first_of, refusal_of_opening, refusal_of_revert, unless}
 use Rattle.session.specs.Step.{machine}
@@ -118,7 +118,7 @@ module _ (known : Type 0) (w : World) (note reply : List ℕ) (unshut : is_shut 
       said = commits_.said;
       input = commits_.input;
       ready = subst (λ (s : Stored). IsReady machine (state_of (with_store w s) to)) (sym made)
-      (ready_when_shut (state_of (with_store w (failed w.store planned.next)) to) planned.next refl commits_.left commits_.sound);
+          (ready_when_shut (state_of (with_store w (failed w.store planned.next)) to) planned.next refl commits_.left commits_.sound);
     }
 
 -- how the disk is after a file was opened anew
@@ -205,7 +205,7 @@ module _ (command : Command) (w : World) (from to : Outside) (ready : IsReady ma
     said = ap (λ (m : Moment). m.said) looks.still.now;
     input = looks.input;
     ready = subst (λ (s : Stored). IsReady machine (state_of (with_store w s) to)) (sym is)
-    (ready_same (state_of w from) (state_of (with_tables w views) to) (record { kept = refl; before = refl; attempted = refl; slot = refl; other = refl }) (ap (λ (m : Moment). m.disk) looks.still.now) ready);
+        (ready_same (state_of w from) (state_of (with_tables w views) to) (record { kept = refl; before = refl; attempted = refl; slot = refl; other = refl }) (ap (λ (m : Moment). m.disk) looks.still.now) ready);
   }
 
 module _ (known : Type 0) (w : World) (from to : Outside) (reply : List ℕ) (later : from.disk_faults ≤ to.disk_faults) where

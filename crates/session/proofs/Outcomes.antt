@@ -1,11 +1,11 @@
 -- What comes of a command, where the session is shut and where it is not.
-use Rattle.std.proofs.Common.{◌≡◌, ℕ, Bool, true, false, cond, ◌&&◌, List, Option, Some, None, refl, ap, sym, subst, ◌∙◌, inl, inr}
-use Rattle.std.specs.Prelude.{◌⊎◌, not, if◌then◌else◌}
+use Rattle.std.proofs.Common.{◌≡◌, ℕ, Bool, true, false, cond, ◌&&◌, List, Option, Some, None, refl, ap, sym, subst, inl, inr}
+use Rattle.std.specs.Prelude.{not, if◌then◌else◌}
 use Rattle.cmd_text.specs.Replies.{reply_bytes}
 use Rattle.cmd_text.specs.declared.command.Command.{Command}
 use Rattle.cmd_text.specs.declared.command.Command.TheVariants as commands
 use Rattle.cmd_text.specs.declared.refusal.Refusal.{Refusal}
-use Rattle.cmd_text.specs.declared.refusal.Refusal.TheVariants.{Memory, Shut}
+use Rattle.cmd_text.specs.declared.refusal.Refusal.TheVariants.{Shut}
 use Rattle.cmd_text.specs.declared.reply.Reply.{Reply}
 use Rattle.cmd_text.specs.declared.reply.Reply.TheVariants.{Refused}
 use Rattle.host_io.specs.Outside.{Outside}
@@ -14,10 +14,10 @@ use Rattle.lines.specs.Served.{state_of}
 use Rattle.storage.specs.Stored.{Stored, is_shut}
 use Rattle.view_store.specs.Views.{NamedTable}
 use Rattle.session.specs.Answered.{Answered, IsGiven}
-use Rattle.session.specs.Carried.{Carried, ChangesNothing, Comes, Gives, LeavesDiskFor}
+use Rattle.session.specs.Carried.{Carried, Comes, LeavesDiskFor}
 use Rattle.session.specs.Commands.{Outcome, gives, commits, reopens, reverts, goes_when_shut, outcome_in, outcome_of, reaches_disk, refused, unless_due}
 use Rattle.session.specs.Disk.{LeavesDisk}
-use Rattle.session.specs.World.{World, with_store, with_tables}
+use Rattle.session.specs.World.{World, with_tables}
 use Rattle.session.proofs.Ready.{SameFile}
 
 shut_or_not : (shut goes : Bool) (one two : Outcome) → (shut && not goes) ≡ false → (if shut && not goes then one else two) ≡ two

@@ -1,17 +1,17 @@
 -- When the disk is as the next line needs it.
-use Rattle.std.proofs.Common.{◌≡◌, ℕ, true, false, List, Option, Some, refl, ap, sym, subst, ◌∙◌, inl, inr}
+use Rattle.std.proofs.Common.{◌≡◌, ℕ, false, List, Option, Some, refl, ap, sym, subst, ◌∙◌, inl, inr}
 use Rattle.std.specs.Option.{is_some}
-use Rattle.std.specs.Prelude.{◌⊎◌, IsSome}
+use Rattle.std.specs.Prelude.{IsSome}
 use Rattle.std.proofs.lemmas.Bool.{false≢true}
-use Rattle.host_io.specs.Disk.{DiskState, IsImage, IsSound, settled}
-use Rattle.host_io.proofs.Images.{IsSettled-settled, IsSound-settled, image_of_settled}
+use Rattle.host_io.specs.Disk.{DiskState, IsImage, IsSound}
+use Rattle.host_io.proofs.Images.{IsSound-settled, image_of_settled}
 use Rattle.lines.specs.Crash.{IsReady}
 use Rattle.lines.specs.Machine.{State}
-use Rattle.recovery.specs.Commits.{Commit, IsCommit, footprint_of, mark_of}
-use Rattle.recovery.specs.Refusals.{IsBefore, MayStand, Older, whole}
+use Rattle.recovery.specs.Commits.{Commit, IsCommit, mark_of}
+use Rattle.recovery.specs.Refusals.{IsBefore, MayStand, whole}
 use Rattle.recovery.specs.Standing.{StandsFor}
 use Rattle.storage.specs.Stored.{Rests, Stored, is_shut}
-use Rattle.session.specs.Disk.{IsAllowed, IsInOrder, IsKept}
+use Rattle.session.specs.Disk.{IsAllowed}
 use Rattle.session.specs.Step.{machine}
 use Rattle.session.specs.World.{World}
 

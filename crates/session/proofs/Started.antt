@@ -14,7 +14,7 @@ use Rattle.recovery.specs.Commits.{IsCommit}
 use Rattle.recovery.specs.Opening.{NamesCause}
 use Rattle.recovery.specs.declared.error.OpenError.{OpenError}
 use Rattle.recovery.specs.declared.error.OpenError.TheVariants as opening
-use Rattle.storage.specs.Stored.{Rests, Stored, opened_store}
+use Rattle.storage.specs.Stored.{Rests, opened_store}
 use Rattle.storage.specs.declared.mode.Mode.{Mode}
 use Rattle.session.specs.Starting.{IsStartRefusal, StartsAs, StartsFrom, cause_of_opening}
 use Rattle.session.specs.Step.{machine}

@@ -1,5 +1,5 @@
 -- How a line steps.
-use Rattle.std.proofs.Common.{◌≡◌, ℕ, true, false, List, [], refl, ap, subst, sym, ◌∙◌, inl, inr, ⊎_elim}
+use Rattle.std.proofs.Common.{◌≡◌, ℕ, true, List, [], refl, ap, subst, sym, ◌∙◌, inl, inr, ⊎_elim}
 use Rattle.std.specs.Prelude.{◌⊎◌}
 use Rattle.cmd_text.specs.Lines.{IsRefusedAs, Reads}
 use Rattle.cmd_text.specs.OneWord.{IsOneWord}
@@ -8,14 +8,13 @@ use Rattle.cmd_text.specs.declared.command.Command.{Command}
 use Rattle.cmd_text.specs.declared.command.Command.TheVariants as commands
 use Rattle.cmd_text.specs.declared.error.CmdError.{CmdError}
 use Rattle.cmd_text.specs.declared.error.CmdError.TheVariants as errors
-use Rattle.cmd_text.specs.declared.refusal.Refusal.TheVariants.{Memory}
 use Rattle.cmd_text.specs.declared.reply.Reply.TheVariants.{Quit, Refused}
 use Rattle.host_io.specs.Outside.{Outside}
 use Rattle.host_io.proofs.Moments.{weaker}
 use Rattle.lines.specs.Machine.{State}
 use Rattle.storage.specs.Stored.{is_shut}
 use Rattle.session.specs.Carried.{Carried, Comes}
-use Rattle.session.specs.Commands.{Outcome, commits, gives, goes_when_shut, outcome_of, takes_memory}
+use Rattle.session.specs.Commands.{Outcome, commits, gives, outcome_of, takes_memory}
 use Rattle.session.specs.Disk.{IsAllowed}
 use Rattle.session.specs.Moments.{IsUnderWay}
 use Rattle.session.specs.Going.{GoesOn, GoesOnLine}

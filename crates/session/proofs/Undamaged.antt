@@ -1,13 +1,12 @@
 -- A file that stands for a commit is not refused.
-use Rattle.std.proofs.Common.{◌≡◌, ℕ, zero, suc, ◌-◌, ◌<◌, ◌≤◌, List, length, Option, Some, None, refl, ap, sym, subst, ◌∙◌, inl, inr, arith}
+use Rattle.std.proofs.Common.{◌≡◌, ℕ, zero, suc, ◌<◌, ◌≤◌, List, Option, Some, None, refl, ap, sym, subst, inl, inr, arith}
 use Rattle.std.specs.Prelude.{◌⊎◌}
-use Rattle.commit_marks.specs.declared.error.MarkError.TheVariants as mark_error
 use Rattle.commit_marks.specs.declared.mark.Mark.{Mark}
-use Rattle.commit_marks.specs.Marks.{Chooses, HasMark, HasOneNumber, HasOther, IsBadMark, IsFirstSpoiled, IsHeaded, IsMarkRefusal, IsOpen, other_slot, slot_place}
+use Rattle.commit_marks.specs.Marks.{Chooses, HasMark, HasOneNumber, HasOther, IsBadMark, IsHeaded, IsOpen, other_slot, slot_place}
 use Rattle.commit_marks.proofs.Bodies.{one_mark}
 use Rattle.commit_marks.proofs.Chosen.{marks_unique, open_from_mark}
-use Rattle.recovery.specs.Commits.{Commit, mark_of}
-use Rattle.recovery.specs.Refusals.{IsDamagedAt, IsNoStore, IsRefusedAt}
+use Rattle.recovery.specs.Commits.{Commit}
+use Rattle.recovery.specs.Refusals.{IsDamagedAt, IsRefusedAt}
 use Rattle.recovery.specs.Standing.{Stands, StandsFor}
 use Rattle.recovery.specs.Opening.{NamesCause}
 use Rattle.recovery.specs.declared.error.OpenError.{OpenError}

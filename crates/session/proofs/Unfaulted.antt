@@ -1,5 +1,5 @@
 -- Lines while no call of the disk fails.
-use Rattle.std.proofs.Common.{◌≡◌, ℕ, ◌≤◌, ◌<◌, ◌+◌, ◌^◌, ◌-◌, Bool, true, false, List, [], ◌∷◌, refl, ap, sym, subst, ◌∙◌, inl, inr, arith, ltb}
+use Rattle.std.proofs.Common.{◌≡◌, ℕ, ◌≤◌, ◌<◌, true, false, List, [], ◌∷◌, refl, ap, sym, subst, ◌∙◌, inl, inr, arith, ltb}
 use Rattle.std.proofs.lemmas.Bool.Decides.{nat_tests}
 use Rattle.std.specs.Option.{is_some}
 use Rattle.std.specs.Prelude.{◌⊎◌}
@@ -9,18 +9,18 @@ use Rattle.cmd_text.specs.declared.command.Command.TheVariants as commands
 use Rattle.host_io.specs.Calls.{Rose}
 use Rattle.lines.specs.Lines.{IsTooLong}
 use Rattle.lines.specs.Machine.{Answers, Run, State, Turn}
-use Rattle.storage.specs.Stored.{Stored, is_shut}
+use Rattle.storage.specs.Stored.{is_shut}
 use Rattle.session.specs.Answered.{IsGiven}
 use Rattle.session.specs.Carried.{Carried, Comes, LeavesDiskFor}
-use Rattle.session.specs.Commands.{Outcome, gives, commits, reopens, reverts, goes_when_shut, outcome_in, outcome_of, reaches_disk}
+use Rattle.session.specs.Commands.{Outcome, gives, commits, reopens, reverts, goes_when_shut, outcome_in, outcome_of}
 use Rattle.session.specs.Disk.{LeavesDisk}
 use Rattle.session.specs.Step.{Step, machine}
-use Rattle.session.specs.Unfaulted.{AreAnswered, ComesWell, IsAnswered, StepsWell}
+use Rattle.session.specs.Unfaulted.{AreAnswered, ComesWell, StepsWell}
 use Rattle.session.specs.World.{World}
 use Rattle.session.proofs.Outcomes.{given_same, open_goes, outcome_open}
 
 below_or_not : (x y : ℕ) → (x < y) ⊎ (y ≤ x)
-below_or_not x y = elim (ltb x y) as (λ b. ltb x y ≡ b → (x < y) ⊎ (y ≤ x)) [ | true ↦ λ e. inl (grind (arith, nat_tests)) | false ↦ λ e. inr (grind (arith, nat_tests)) ] refl
+below_or_not x y = elim (ltb x y) as (λ b. ltb x y ≡ b → (x < y) ⊎ (y ≤ x)) [ true ↦ λ e. inl (grind (arith, nat_tests)) | false ↦ λ e. inr (grind (arith, nat_tests)) ] refl
 
 -- a count that rose has risen whatever comes later
 rose_later : (a b c : ℕ) → a ≤ b → b ≤ c → Rose a b → Rose a c
@@ -115,9 +115,10 @@ module _ (old new : State World) (unshut : is_shut old.world.store ≡ false) (s
 
   carried_well : (command : Command) (line reply : List ℕ) → Reads line command → Carried (Unit {0}) command old reply new → StepsWell old line reply new × (is_shut new.world.store ≡ false)
   carried_well command line reply reads (inl comes) =
-      let well = comes_well old new unshut still (outcome_in old.world command) reply (subst (λ (o : Outcome). Comes (Unit {0}) o old reply new) (open_of command) comes) in
-      (inl (record { command = command; reads = reads; comes = inl well }),
-      well_open old new unshut still (outcome_in old.world command) reply (λ said left e. gives_open command old.world said left unshut e) well)
+      let well = comes_well old new unshut still (outcome_in old.world command) reply (subst (λ (o : Outcome). Comes (Unit {0}) o old reply new) (open_of command) comes) in (
+        inl (record { command = command; reads = reads; comes = inl well }),
+        well_open old new unshut still (outcome_in old.world command) reply (λ said left e. gives_open command old.world said left unshut e) well,
+      )
   carried_well command line reply reads (inr w) =
       (inl (record { command = command; reads = reads; comes = inr w }), stays_open old new unshut still old.world w.world unshut)
 
@@ -153,14 +154,16 @@ answered_unfaulted old last (line ∷ lines) (turn ∷ turns) unshut run still =
     let first = turn_faults old turn.after line turn.reply run.1 in
     elim run.2 [
       | inl ended ↦
-      let e = ap (λ (s : State World). s.disk_faults) ended.2 in
-      let later : turn.after.disk_faults ≤ last.disk_faults = omega (arith, e) in
-      let well = turn_well old turn.after unshut (λ rose. still (rose_later old.disk_faults turn.after.disk_faults last.disk_faults first later rose)) line turn.reply run.1 in
-      (record { unshut = well.1; well = subst (λ (l : List ℕ). IsTooLong l ⊎ StepsWell old l turn.reply turn.after) (sym run.0) well.0 },
-      subst (λ (ts : List (Turn World)). AreAnswered turn.after ts) (sym ended.1) tt)
+          let e = ap (λ (s : State World). s.disk_faults) ended.2 in
+          let later : turn.after.disk_faults ≤ last.disk_faults = omega (arith, e) in
+          let well = turn_well old turn.after unshut (λ rose. still (rose_later old.disk_faults turn.after.disk_faults last.disk_faults first later rose)) line turn.reply run.1 in (
+            record { unshut = well.1; well = subst (λ (l : List ℕ). IsTooLong l ⊎ StepsWell old l turn.reply turn.after) (sym run.0) well.0 },
+            subst (λ (ts : List (Turn World)). AreAnswered turn.after ts) (sym ended.1) tt,
+          )
       | inr more ↦
-      let later = run_faults turn.after last lines turns more.1 in
-      let well = turn_well old turn.after unshut (λ rose. still (rose_later old.disk_faults turn.after.disk_faults last.disk_faults first later rose)) line turn.reply run.1 in
-      (record { unshut = well.1; well = subst (λ (l : List ℕ). IsTooLong l ⊎ StepsWell old l turn.reply turn.after) (sym run.0) well.0 },
-      answered_unfaulted turn.after last lines turns well.1 more.1 (λ rose. still (rose_before old.disk_faults turn.after.disk_faults last.disk_faults first later rose)))
+          let later = run_faults turn.after last lines turns more.1 in
+          let well = turn_well old turn.after unshut (λ rose. still (rose_later old.disk_faults turn.after.disk_faults last.disk_faults first later rose)) line turn.reply run.1 in (
+            record { unshut = well.1; well = subst (λ (l : List ℕ). IsTooLong l ⊎ StepsWell old l turn.reply turn.after) (sym run.0) well.0 },
+            answered_unfaulted turn.after last lines turns well.1 more.1 (λ rose. still (rose_before old.disk_faults turn.after.disk_faults last.disk_faults first later rose)),
+          )
     ]

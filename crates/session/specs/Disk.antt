@@ -1,5 +1,5 @@
 -- What a line may do to the disk, and how the disk is between lines. What is said of its bytes is said where they are known.
-use Rattle.std.specs.Prelude.{◌≡◌, ◌⊎◌, ℕ, ◌≤◌, List, [], ◌∷◌, Some, IsSome, true, false}
+use Rattle.std.specs.Prelude.{◌≡◌, ◌⊎◌, ℕ, ◌≤◌, List, ◌∷◌, Some, IsSome, true, false}
 use Rattle.commit_marks.specs.Marks.{other_slot, slot_range}
 use Rattle.commit_plan.specs.Plans.{IsPlanOf, Planned}
 use Rattle.commit_writes.specs.Blocks.{extents_of}

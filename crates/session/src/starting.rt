@@ -132,12 +132,7 @@ fn session_over(alloc: Global, store: Store) -> Session
 }
 
 /// Makes a store without views in an empty file, unless it is only read.
-fn make<H: Host>(
-    alloc: Global,
-    host: &mut H,
-    mode: Mode,
-    cap: u64,
-) -> Result<Session, StartError>
+fn make<H: Host>(alloc: Global, host: &mut H, mode: Mode, cap: u64) -> Result<Session, StartError>
     requires empty { H.tells → (H.outside host.old).now.disk.seen ≡ [] }
     requires capped { cap < 2 ^ 63 }
     ensures counts { CountsFaults (IsErrOf result StartError.Failed) (H.outside host.old) (H.outside host.new) }

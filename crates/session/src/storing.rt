@@ -13,9 +13,8 @@ ghost use Rattle.session.specs.Going.{GoesOn};
 ghost use Rattle.session.specs.Step.{machine};
 ghost use Rattle.session.specs.Saying.{IsOneLine};
 
-use crate::Session;
 use crate::refusals::{of_opening, of_plan, of_revert};
-use crate::replies;
+use crate::{Session, replies};
 use cmd_text::{Note, Refusal, Reply};
 use commit_plan::Plan;
 use host_io::{Failed, Host};

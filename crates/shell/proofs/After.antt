@@ -1,7 +1,6 @@
 -- What comes of a file after a look at it.
-use Rattle.std.proofs.Common.{◌≡◌, ◌≢◌, ℕ, List, [], ap, sym, subst, ◌∙◌, inl, inr}
-use Rattle.std.specs.Prelude.{◌⊎◌}
-use Rattle.host_io.specs.Calls.{Looks, StandsStill}
+use Rattle.std.proofs.Common.{◌≡◌, ◌≢◌, ℕ, List, [], ap, sym, subst, ◌∙◌}
+use Rattle.host_io.specs.Calls.{Looks}
 use Rattle.host_io.specs.Outside.{Moment, Outside}
 use Rattle.lines.specs.Served.{state_of}
 use Rattle.session.specs.Starting.{StartsAs}
@@ -9,7 +8,7 @@ use Rattle.storage.specs.Spaces.{Reports}
 use Rattle.storage.specs.declared.mode.Mode.{Mode}
 use Rattle.storage.specs.declared.mode.Mode.TheVariants.{Read}
 use Rattle.shell.specs.Faults.{IsFault}
-use Rattle.shell.specs.Ran.{Answers, Checks, Opens, RanChecking, RanServing, RefusesFile, SaysReport, Starts}
+use Rattle.shell.specs.Ran.{Answers, Checks, Opens, RanChecking, RanServing, RefusesFile}
 use Rattle.shell.specs.Said.{IsSilent, check_line, fault_line}
 use Rattle.shell.specs.declared.status.Status.{Status}
 use Rattle.shell.specs.declared.status.Status.TheVariants.{Done, Usage, Refused, TakeFault, SayFault, Memory, TooMuch, DiskFault}

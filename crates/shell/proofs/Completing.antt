@@ -1,5 +1,5 @@
 -- A run in which nothing goes wrong is done, or wanted memory.
-use Rattle.std.proofs.Common.{◌≡◌, ◌≢◌, ℕ, ◌+◌, ◌<◌, ◌≤◌, ◌⊎◌, List, [], ◌∷◌, ◌++◌, length, length-append, refl, ap, sym, subst, ◌∙◌, inl, inr, arith}
+use Rattle.std.proofs.Common.{◌≡◌, ◌≢◌, ℕ, ◌≤◌, ◌⊎◌, List, [], ◌∷◌, length, length-append, refl, ap, sym, subst, ◌∙◌, inl, inr, arith}
 use Rattle.command_line.specs.Asking.{IsSameJob}
 use Rattle.command_line.specs.Words.{AsksFor}
 use Rattle.command_line.specs.declared.job.Job.{Job}
@@ -12,12 +12,11 @@ use Rattle.recovery.specs.Commits.{Commit}
 use Rattle.recovery.specs.Standing.{StandsFor}
 use Rattle.recovery.specs.declared.error.OpenError.{OpenError}
 use Rattle.recovery.specs.declared.error.OpenError.TheVariants as opening
-use Rattle.session.specs.World.{World}
 use Rattle.session.proofs.Undamaged.{no_cause}
 use Rattle.storage.specs.declared.mode.Mode.{Mode}
 use Rattle.storage.specs.declared.mode.Mode.TheVariants.{Read}
 use Rattle.shell.specs.Faults.{IsFault}
-use Rattle.shell.specs.Ran.{Answers, GoesWell, MayOpen, Ran, RanAs, RanFor, RanServing, RefusesFile, ServesFrom}
+use Rattle.shell.specs.Ran.{GoesWell, MayOpen, Ran, RanAs}
 use Rattle.shell.specs.declared.fault.FileFault.{FileFault}
 use Rattle.shell.specs.declared.fault.FileFault.TheVariants.{Empty, NotAStore, Damaged}
 use Rattle.shell.specs.declared.status.Status.{Status}

@@ -1,11 +1,10 @@
 -- Lines that the program says by itself, and what their saying means for a run.
-use Rattle.std.proofs.Common.{◌≡◌, ℕ, ◌<◌, ◌≤◌, ◌⊎◌, Bool, true, false, List, [], ◌∷◌, ◌++◌, length, take, drop, codes, Result, Ok, Err, is_err, refl, sym, ap, subst, inl, inr, lit<, arith}
-use Rattle.std.proofs.lemmas.Fmt.{decimal_digit}
+use Rattle.std.proofs.Common.{◌≡◌, ℕ, true, false, List, take, drop, Result, Ok, Err, is_err, refl, sym, ap, subst, inl, inr, arith}
 use Rattle.std.proofs.lemmas.List.{take-append-drop, take_all, length-take-le}
 use Rattle.host_io.specs.Outside.{Moment, Outside}
-use Rattle.host_io.specs.Calls.{CountsSay, CountsDisk, Looks, Rose}
+use Rattle.host_io.specs.Calls.{CountsSay, Looks, Rose}
 use Rattle.lines.specs.Spoken.{SaysAll}
-use Rattle.lines.specs.Lines.{max_budget, newline}
+use Rattle.lines.specs.Lines.{max_budget}
 use Rattle.lines.specs.Served.{Serves}
 use Rattle.lines.specs.declared.serving.End.{End}
 use Rattle.lines.specs.declared.serving.End.TheVariants.{Done, TakeFault, SayFault, TooMuch}
@@ -23,7 +22,7 @@ use Rattle.shell.specs.declared.fault.FileFault.TheVariants.{Empty, NotAStore, D
 use Rattle.shell.specs.Statuses.{status_of}
 use Rattle.shell.specs.declared.status.Status.{Status}
 use Rattle.shell.specs.declared.status.Status.TheVariants as status
-use Rattle.shell.specs.Ran.{Answers, GreetsInPart, IsServed, Opens, RanChecking, RanFrom, RanServing, RefusesFile, SaysReport, ServesAs, ServesFrom, Starts}
+use Rattle.shell.specs.Ran.{GreetsInPart, IsServed, Opens, RanChecking, RanFrom, RanServing, RefusesFile, SaysReport, ServesAs, ServesFrom, Starts}
 
 -- what was said of a line is a front of it
 pub says_part : {T E : Type 0} (line : List ℕ) (old new : Outside) (result : Result T E)
@@ -170,6 +169,8 @@ unchecked (error.Damaged place) s old new is looks = absurd (let f : ◌≡◌ {
 
 -- a report that the output did not take whole
 pub unsaid_report : {E : Type 0} (report : Report) (old new : Outside) (error : E) → SaysAll {T = Unit {0}} (check_line report) old new (Err error) → SaysReport report status.SayFault old new
-unsaid_report report old new error says =
-    (take says.part (check_line report), says_part (check_line report) old new (Err error) says,
-    omega (arith, length-take-le says.part (check_line report) says.within, says.err))
+unsaid_report report old new error says = (
+  take says.part (check_line report),
+  says_part (check_line report) old new (Err error) says,
+  omega (arith, length-take-le says.part (check_line report) says.within, says.err),
+)

@@ -134,13 +134,7 @@ fn greet_and_serve<H: Host>(session: &mut Session, rooms: &mut Rooms, host: &mut
     if greet(session.number(), &mut rooms.reply, host).is_err() {
         return Status::SayFault;
     }
-    serve(
-        session,
-        host,
-        &mut rooms.line,
-        &mut rooms.reply,
-        MAX_BUDGET,
-    )
+    serve(session, host, &mut rooms.line, &mut rooms.reply, MAX_BUDGET)
 }
 
 /// Says the greeting, which names the number of a commit.

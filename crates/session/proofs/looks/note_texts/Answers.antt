@@ -1,4 +1,4 @@
-use Rattle.std.proofs.Common.{◌≡◌, ◌+◌, ◌-◌, ◌<◌, ◌++◌, ◌∙◌, length, get_or, ◌∷◌, drop, map, reverse, subst, sym, ap, arith}
+use Rattle.std.proofs.Common.{◌≡◌, ◌+◌, ◌-◌, ◌++◌, ◌∙◌, length, get_or, ◌∷◌, drop, map, reverse, subst, sym, ap, arith}
 use Rattle.std.proofs.lemmas.List.{length-map, length-reverse, get_or-reverse}
 use Rattle.mk_value.proofs.Walks.{drop_read, map_read}
 use Rattle.cmd_text.specs.Replies.{contents}

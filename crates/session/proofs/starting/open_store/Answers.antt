@@ -1,4 +1,4 @@
-use Rattle.std.proofs.Common.{◌≡◌, sym, subst}
+use Rattle.std.proofs.Common.{sym, subst}
 use Rattle.lines.specs.Crash.{IsReady}
 use Rattle.lines.specs.Served.{state_of}
 use Rattle.storage.specs.Stored.{Stored}

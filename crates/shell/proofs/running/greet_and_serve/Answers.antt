@@ -1,5 +1,5 @@
 -- The greeting is said whole or in part, and the lines are served from the session's world.
-use Rattle.std.proofs.Common.{◌≡◌, ◌∙◌, ℕ, sym, subst, inl}
+use Rattle.std.proofs.Common.{ℕ, sym, subst, inl}
 use Rattle.lines.specs.Spoken.{SaysAll}
 use Rattle.shell.specs.Said.{greeting_line}
 use Rattle.shell.proofs.Saying.{greets_in_part, ran_from}

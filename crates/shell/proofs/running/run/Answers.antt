@@ -1,5 +1,5 @@
 -- The lines that are said in place of serving, and a run in which nothing goes wrong.
-use Rattle.std.proofs.Common.{◌∙◌, ap, Err}
+use Rattle.std.proofs.Common.{ap, Err}
 use Rattle.command_line.specs.Words.{texts_of}
 use Rattle.shell.specs.Said.{usage_line}
 use Rattle.shell.proofs.Completing.{completes, ran_job}

@@ -24,13 +24,13 @@ returns-clause-carried g c =
     subst (λ (w : World). Carried g.H.Disk.tells (commands.Commit note) (state_of w from) reply (state_of new to)) c.self.view_is
     (elim c.match-carry.branch [
       | in-Ok-carry w ↦
-      let e = w.in-Ok-carry.ensures in
-      commit_made g.H.Disk.tells inside note reply unshut c.in-Ok.plan planned new from to e.places e.counts.disk.later w.in-Ok-carry.number e.number
-      (ap reply_bytes (w.result-is ∙ w.committed.ensures.value)) e.ok e.commits
+          let e = w.in-Ok-carry.ensures in
+          commit_made g.H.Disk.tells inside note reply unshut c.in-Ok.plan planned new from to e.places e.counts.disk.later w.in-Ok-carry.number e.number
+          (ap reply_bytes (w.result-is ∙ w.committed.ensures.value)) e.ok e.commits
       | in-Err-carry w ↦
-      let e = w.in-Err-carry.ensures in
-      commit_failed g.H.Disk.tells inside note reply unshut c.in-Ok.plan planned new from to e.places e.counts.disk.later
-      (ap reply_bytes (w.result-is ∙ w.refused-in-Err-carry.ensures.value)) e.err (e.counts.disk.cause refl)
+          let e = w.in-Err-carry.ensures in
+          commit_failed g.H.Disk.tells inside note reply unshut c.in-Ok.plan planned new from to e.places e.counts.disk.later
+          (ap reply_bytes (w.result-is ∙ w.refused-in-Err-carry.ensures.value)) e.err (e.counts.disk.cause refl)
     ])
 
 pub returns-clause-goes : goal.returns-clause-goes
@@ -46,9 +46,9 @@ returns-clause-goes g c = λ tells.
     subst (λ (w : World). GoesOn (commands.Commit note) (state_of w from) (state_of new to) from to) c.self.view_is
     (elim c.match-carry.branch [
       | in-Ok-carry w ↦
-      let e = w.in-Ok-carry.ensures in
-      commit_goes g.H.Disk.tells inside note reply unshut c.in-Ok.plan planned new from to e.places e.counts.disk.later w.in-Ok-carry.number e.ok (e.rests tells) (e.commits tells)
+          let e = w.in-Ok-carry.ensures in
+          commit_goes g.H.Disk.tells inside note reply unshut c.in-Ok.plan planned new from to e.places e.counts.disk.later w.in-Ok-carry.number e.ok (e.rests tells) (e.commits tells)
       | in-Err-carry w ↦
-      let e = w.in-Err-carry.ensures in
-      commit_goes_wrong g.H.Disk.tells inside note reply unshut c.in-Ok.plan planned new from to e.places e.counts.disk.later w.in-Err-carry.field-0 e.err (e.commits tells)
+          let e = w.in-Err-carry.ensures in
+          commit_goes_wrong g.H.Disk.tells inside note reply unshut c.in-Ok.plan planned new from to e.places e.counts.disk.later w.in-Err-carry.field-0 e.err (e.commits tells)
     ])

@@ -1,4 +1,4 @@
-use Rattle.std.proofs.Common.{◌≡◌, Err, false, true, ap, refl, sym, subst, ◌∙◌}
+use Rattle.std.proofs.Common.{◌≡◌, Err, false, true, ap, sym, subst, ◌∙◌}
 use Rattle.std.specs.Option.{is_some}
 use Rattle.cmd_text.specs.Replies.{reply_bytes}
 use Rattle.cmd_text.specs.declared.command.Command.TheVariants as commands
@@ -27,13 +27,13 @@ returns-clause-carried g c =
     subst (λ (w : World). Carried g.H.Disk.tells commands.Revert (state_of w from) reply (state_of new to)) c.self.view_is
     (elim c.match-revert.branch [
       | in-Ok w ↦
-      let e = w.in-Ok.ensures in
-      revert_made g.H.Disk.tells inside from to reply e.counts.later unshut some e.same new w.in-Ok.number e.ok (ap reply_bytes (w.result-is ∙ w.reverted.ensures.value))
+          let e = w.in-Ok.ensures in
+          revert_made g.H.Disk.tells inside from to reply e.counts.later unshut some e.same new w.in-Ok.number e.ok (ap reply_bytes (w.result-is ∙ w.reverted.ensures.value))
       | in-Err w ↦
-      let e = w.in-Err.ensures in
-      subst (λ (s : Stored). Carried g.H.Disk.tells commands.Revert (state_of inside from) reply (state_of (with_store inside s) to)) (sym e.err)
-      (revert_refused g.H.Disk.tells inside from to reply e.counts.later unshut some e.same w.in-Err.error
-      (ap reply_bytes (w.result-is ∙ w.refused-in-Err.ensures.value) ∙ ap (λ r. reply_bytes (Refused r)) w.of_revert.ensures) e.refused (λ is. e.counts.cause (ap Err is)))
+          let e = w.in-Err.ensures in
+          subst (λ (s : Stored). Carried g.H.Disk.tells commands.Revert (state_of inside from) reply (state_of (with_store inside s) to)) (sym e.err)
+          (revert_refused g.H.Disk.tells inside from to reply e.counts.later unshut some e.same w.in-Err.error
+          (ap reply_bytes (w.result-is ∙ w.refused-in-Err.ensures.value) ∙ ap (λ r. reply_bytes (Refused r)) w.of_revert.ensures) e.refused (λ is. e.counts.cause (ap Err is)))
     ])
 
 pub returns-clause-goes : goal.returns-clause-goes
@@ -46,9 +46,9 @@ returns-clause-goes g c = λ tells.
     subst (λ (w : World). GoesOn commands.Revert (state_of w from) (state_of new to) from to) c.self.view_is
     (elim c.match-revert.branch [
       | in-Ok w ↦
-      let e = w.in-Ok.ensures in
-      looked_goes commands.Revert inside from to ready new (e.same tells) (views_without_homes e.ok.older.views) e.ok.views
+          let e = w.in-Ok.ensures in
+          looked_goes commands.Revert inside from to ready new (e.same tells) (views_without_homes e.ok.older.views) e.ok.views
       | in-Err w ↦
-      let e = w.in-Err.ensures in
-      looked_goes commands.Revert inside from to ready new (e.same tells) inside.store.views e.err
+          let e = w.in-Err.ensures in
+          looked_goes commands.Revert inside from to ready new (e.same tells) inside.store.views e.err
     ])
