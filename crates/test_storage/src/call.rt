@@ -13,7 +13,6 @@ use std::process::Abort;
 use std::test::Fail;
 use storage::{Mode, Report, check};
 use struct_text::parse;
-use view_store::empty_table;
 
 /// A call of a store. A place is a path to a view; in a literal `~` stands for 512 letters.
 pub enum Call {
@@ -99,27 +98,19 @@ impl Call {
             Call::Revert => revert(alloc, fixture),
             Call::Reopen => reopen(alloc, fixture),
             Call::Check(changes) => check_changed(alloc, fixture.file(), changes),
-            _ => self.look(alloc, fixture),
-        }
-    }
-
-    /// What a look at the store shows.
-    fn look(&self, alloc: Global, fixture: &Fixture) -> Result<String, Fail> {
-        match self {
             Call::Space => space(alloc, fixture),
             Call::Notes => notes(alloc, fixture),
             Call::Before => before(alloc, fixture),
             Call::Mode => mode(alloc, fixture),
             Call::IsShut => is_shut(alloc, fixture),
-            Call::Views => Ok(shown(alloc, fixture.store().views())?.into_string()),
-            _ => Err(Fail::new("no look")),
+            Call::Views => views(alloc, fixture),
         }
     }
 }
 
 fn make(alloc: Global, fixture: &mut Fixture, structure: &str) -> Result<String, Fail> {
     let (name, schema) = parse(alloc, structure)?;
-    fixture.put(&name, empty_table(alloc, &schema)?)?;
+    fixture.make(alloc, &name, &schema)?;
     Ok(String::from_str(alloc, DONE)?)
 }
 
@@ -248,6 +239,10 @@ fn is_shut(alloc: Global, fixture: &Fixture) -> Result<String, Fail> {
     Ok(format!(in alloc; "{shut}")?)
 }
 
+fn views(alloc: Global, fixture: &Fixture) -> Result<String, Fail> {
+    Ok(shown(alloc, fixture.store().views())?.into_string())
+}
+
 /// What a look at a file with these bytes changed finds.
 fn check_changed(alloc: Global, file: &[u8], changes: &[(usize, u8)]) -> Result<String, Fail> {
     let file = changed(alloc, file, changes)?;
@@ -279,7 +274,7 @@ fn changed(alloc: Global, file: &[u8], changes: &[(usize, u8)]) -> Result<Vec<u8
 /// The store of a case.
 fn opened(alloc: Global, case: &Case) -> Result<Fixture, Fail> {
     if case.file.len == 0 {
-        return Fixture::create(alloc, case.mode, case.cap);
+        return Fixture::create(alloc, case.faults, case.mode, case.cap);
     }
     let mut file = changed(alloc, &WORKED, case.file.changes)?;
     file.truncate(case.file.len);

@@ -28,7 +28,25 @@ struct Scenario {
     calls: u64,
 }
 
-const SCENARIOS: [Scenario; 3] = [
+const SCENARIOS: [Scenario; 4] = [
+    // The other slot was never open, so no gate is closed. Three blocks, the directory and the body come, and then as ever.
+    Scenario {
+        title: "the first commit",
+        before: &[],
+        edits: &[
+            (Call::Make("people[name:S,age:I]"), DONE),
+            (Call::Insert("people", 0, r#"{("Ann",31)}"#, 1), DONE),
+        ],
+        old: Standing {
+            number: 0,
+            views: "",
+        },
+        new: Standing {
+            number: 1,
+            views: r#"people[name:S,age:I]{("Ann",31)}"#,
+        },
+        calls: 8,
+    },
     // The other gate is closed in two calls. The age goes to the place of the first directory, and the new one behind the old.
     // Then come the body of the mark and a sync, the gate and a sync.
     Scenario {
@@ -147,7 +165,7 @@ fn left_by(call: u64, calls: u64, effect: Effect) -> Images {
 
 /// The file before the commit.
 fn file_before(rt: &impl Abort, alloc: Global, scenario: &Scenario) -> Result<Vec<u8>, Fail> {
-    let new = Fixture::create(alloc, Mode::Write, CAP)?;
+    let new = Fixture::create(alloc, &[], Mode::Write, CAP)?;
     let made = answer_all(rt, alloc, scenario.title, new, scenario.before)?;
     Ok(Vec::from_slice(alloc, made.file())?)
 }
@@ -236,6 +254,23 @@ fn leaves(
     Ok(())
 }
 
+/// Once all but the gate was synced, an image with the gate open stands for the new commit.
+fn waits_for_its_gate(
+    rt: &impl Abort,
+    alloc: Global,
+    scenario: &Scenario,
+    fixture: &Fixture,
+    synced: u64,
+) -> Result<(), Fail> {
+    let image = fixture.crash(synced, Effect::Nothing)?;
+    let mut file = Vec::from_slice(alloc, image.as_slice())?;
+    assert!(rt; file.len() >= 192);
+    let gate = if scenario.new.number % 2 == 0 { 64 } else { 128 };
+    file[gate] = 0xa5;
+    let opened = Fixture::open(alloc, &file, &[], Mode::Write, CAP)?;
+    stands_for(rt, alloc, &opened, &scenario.new)
+}
+
 /// Makes the commit, and looks at the images of a crash after each call. Gives the number of the first call.
 fn makes(rt: &impl Abort, alloc: Global, scenario: &Scenario, file: &[u8]) -> Result<u64, Fail> {
     let mut fixture = edited(rt, alloc, scenario, file, &[])?;
@@ -247,11 +282,14 @@ fn makes(rt: &impl Abort, alloc: Global, scenario: &Scenario, file: &[u8]) -> Re
         let after = first.saturating_add(made);
         leaves(rt, alloc, scenario, &fixture, after, &left_after(made, scenario.calls))?;
     }
+    let synced = fixture.calls().saturating_sub(2);
+    waits_for_its_gate(rt, alloc, scenario, &fixture, synced)?;
     stands(rt, alloc, scenario, &mut fixture, Left::New)?;
     Ok(first)
 }
 
-/// Fails to make the commit, looks at the images of a crash after that, and opens the file anew, which stands for what is read.
+/// Fails to make the commit, looks at the images of a crash after that, and opens the file anew. It stands for what is read then, and no
+/// crash changes that any more.
 fn fails(
     rt: &impl Abort,
     alloc: Global,
@@ -268,7 +306,9 @@ fn fails(
     let number = fixture.reopen(alloc)?;
     assert!(rt; !fixture.is_shut());
     assert_eq!(rt; number, fixture.store().number());
-    stands(rt, alloc, scenario, &mut fixture, images[1])
+    let [_, read, _] = *images;
+    leaves(rt, alloc, scenario, &fixture, fixture.calls(), &[read; 3])?;
+    stands(rt, alloc, scenario, &mut fixture, read)
 }
 
 #[test]

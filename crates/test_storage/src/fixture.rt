@@ -4,13 +4,13 @@ ghost use Rattle.commit_plan.specs.Following.{IsNote};
 ghost use Rattle.mk_value.specs.Limits.{max_rows};
 
 use host_io::{Effect, Failed, Fault, MemHost};
-use mk_value::{Bytes, MAX_VIEWS, Name, Path, Row, TableRead, Text, Value};
+use mk_value::{Bytes, MAX_VIEWS, Name, Path, Row, Schema, Text, Value};
 use recovery::OpenError;
 use std::alloc::Global;
 use std::marker::Model;
 use std::test::Fail;
 use storage::{Mode, PlanError, RevertError, Store};
-use view_store::{EditError, Table, structure_fits};
+use view_store::{EditError, empty_table, structure_fits};
 
 /// How many writes and syncs, and how many bytes written, a host has room for.
 const ROOM: usize = 100_000;
@@ -56,12 +56,12 @@ impl From<Failed> for CommitError {
 }
 
 impl Fixture {
-    /// A new store that may end at the cap.
-    pub fn create(alloc: Global, mode: Mode, cap: u32) -> Result<Fixture, Fail> {
+    /// A new store in an empty file.
+    pub fn create(alloc: Global, script: &[Fault], mode: Mode, cap: u32) -> Result<Fixture, Fail> {
         if mode == Mode::Read {
             return Err(Fail::new("a new store is not only read"));
         }
-        let mut host = MemHost::new(alloc, b"", b"", &[], 0, ROOM)?;
+        let mut host = MemHost::new(alloc, b"", b"", script, 0, ROOM)?;
         let store = Store::create(alloc, &mut host, mode, u64::from(cap))?;
         Ok(Fixture { store, host })
     }
@@ -107,13 +107,12 @@ impl Fixture {
         Ok(self.host.crash(after, choice)?)
     }
 
-    /// Puts a table in where there is no view of the name.
-    pub fn put(&mut self, name: &Name, table: Table) -> Result<(), Fail>
-    {
-        if !structure_fits(name, table.schema()) || self.store.views().names().len() >= MAX_VIEWS {
+    /// Puts a view of this schema in that has no rows.
+    pub fn make(&mut self, alloc: Global, name: &Name, schema: &Schema) -> Result<(), Fail> {
+        if !structure_fits(name, schema) || self.store.views().names().len() >= MAX_VIEWS {
             return Err(Fail::new("no room"));
         }
-        self.store.put_view(name, table)?;
+        self.store.put_view(name, empty_table(alloc, schema)?)?;
         Ok(())
     }
 

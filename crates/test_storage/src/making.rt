@@ -26,7 +26,7 @@ const OPENED: [Turn; 6] = [
 #[test]
 fn makes_the_worked_file(rt: HostRuntime) -> Result<(), Fail> {
     let alloc = rt.alloc();
-    let new = Fixture::create(alloc, Mode::Write, CAP)?;
+    let new = Fixture::create(alloc, &[], Mode::Write, CAP)?;
     assert_eq!(rt; new.file(), NEW.as_slice());
     let made = answer_all(&rt, alloc, "made", new, &MAKING)?;
     assert_eq!(rt; made.file(), WORKED.as_slice());

@@ -39,7 +39,7 @@ fn notes_are_kept(rt: HostRuntime) -> Result<(), Fail> {
 
 /// So many commits, each with its number as its note.
 fn noted(alloc: Global, commits: u64) -> Result<Fixture, Fail> {
-    let mut fixture = Fixture::create(alloc, Mode::Write, CAP)?;
+    let mut fixture = Fixture::create(alloc, &[], Mode::Write, CAP)?;
     for number in 1..=commits {
         let mut text = Text::new(alloc);
         text.push_integer(number)?;
