@@ -254,7 +254,10 @@ fn found(alloc: Global, answer: Result<Report, OpenError>) -> Result<String, All
     match answer {
         Ok(report) => {
             let space = report.space;
-            format!(in alloc; "{} {} {} {} {}", space.number, space.end, space.used, report.views, report.blocks)
+            format!(in alloc;
+                "{} {} {} {} {}",
+                space.number, space.end, space.used, report.views, report.blocks
+            )
         }
         Err(error) => format!(in alloc; "{error:?}"),
     }

@@ -5,7 +5,8 @@ use storage::Mode;
 
 const ANN: &str = r#"people[name:S,age:I]{("Ann",31)}"#;
 
-const BOOK: &str = r#"book[name:S,phones[kind:S,number:S],born:I]{("Ann",{("home","555-0100"),("work","555-0101")},1970),("Bob",{},1971)}"#;
+const BOOK: &str =
+    r#"book[name:S,phones[kind:S,number:S],born:I]{("Ann",{("home","555-0100"),("work","555-0101")},1970),("Bob",{},1971)}"#;
 
 const CASES: [Case; 2] = [
     Case {
@@ -81,7 +82,10 @@ const CASES: [Case; 2] = [
             (Call::Insert("book", 1, r#"{("Bob",{},1971)}"#, 1), DONE),
             (Call::Commit(""), "Ok(1)"),
             (Call::Set("book/0/phones", 1, "number", r#""7""#), DONE),
-            (Call::Insert("book/1/phones", 0, r#"{("cell","9")}"#, 1), DONE),
+            (
+                Call::Insert("book/1/phones", 0, r#"{("cell","9")}"#, 1),
+                DONE,
+            ),
             (Call::Remove("book/0/phones", 0, 1), DONE),
             (
                 Call::Views,

@@ -109,7 +109,10 @@ const SCENARIOS: [Scenario; 4] = [
             (Call::Space, "2 544 160"),
         ],
         edits: &[
-            (Call::Set("people", 0, "name", r#""Ann of the long name""#), DONE),
+            (
+                Call::Set("people", 0, "name", r#""Ann of the long name""#),
+                DONE,
+            ),
             (Call::Set("people", 0, "age", "32"), DONE),
         ],
         old: Standing {
@@ -265,7 +268,11 @@ fn waits_for_its_gate(
     let image = fixture.crash(synced, Effect::Nothing)?;
     let mut file = Vec::from_slice(alloc, image.as_slice())?;
     assert!(rt; file.len() >= 192);
-    let gate = if scenario.new.number % 2 == 0 { 64 } else { 128 };
+    let gate = if scenario.new.number % 2 == 0 {
+        64
+    } else {
+        128
+    };
     file[gate] = 0xa5;
     let opened = Fixture::open(alloc, &file, &[], Mode::Write, CAP)?;
     stands_for(rt, alloc, &opened, &scenario.new)
@@ -277,10 +284,22 @@ fn makes(rt: &impl Abort, alloc: Global, scenario: &Scenario, file: &[u8]) -> Re
     let first = fixture.calls();
     let answer = commit(alloc, &mut fixture)?;
     assert_eq!(rt; answer, Ok(scenario.new.number), "{}", scenario.title);
-    assert_eq!(rt; fixture.calls().checked_sub(first), Some(scenario.calls), "{}", scenario.title);
+    assert_eq!(rt;
+        fixture.calls().checked_sub(first),
+        Some(scenario.calls),
+        "{}",
+        scenario.title
+    );
     for made in 0..=scenario.calls {
         let after = first.saturating_add(made);
-        leaves(rt, alloc, scenario, &fixture, after, &left_after(made, scenario.calls))?;
+        leaves(
+            rt,
+            alloc,
+            scenario,
+            &fixture,
+            after,
+            &left_after(made, scenario.calls),
+        )?;
     }
     let synced = fixture.calls().saturating_sub(2);
     waits_for_its_gate(rt, alloc, scenario, &fixture, synced)?;
@@ -300,7 +319,12 @@ fn fails(
 ) -> Result<(), Fail> {
     let mut fixture = edited(rt, alloc, scenario, file, &[fault])?;
     let answer = commit(alloc, &mut fixture)?;
-    assert_eq!(rt; answer, Err(CommitError::Failed), "{}: {fault:?}", scenario.title);
+    assert_eq!(rt;
+        answer,
+        Err(CommitError::Failed),
+        "{}: {fault:?}",
+        scenario.title
+    );
     assert!(rt; fixture.is_shut());
     leaves(rt, alloc, scenario, &fixture, fixture.calls(), images)?;
     let number = fixture.reopen(alloc)?;

@@ -120,11 +120,23 @@ impl Fixture {
         self.store.drop_view(name)
     }
 
-    pub fn insert(&mut self, path: &Path, pos: usize, row: &Row, copies: u16) -> Result<(), EditError> {
+    pub fn insert(
+        &mut self,
+        path: &Path,
+        pos: usize,
+        row: &Row,
+        copies: u16,
+    ) -> Result<(), EditError> {
         self.store.insert_rows(path, pos, row, usize::from(copies))
     }
 
-    pub fn set(&mut self, path: &Path, row: usize, prop: &Name, value: &Value) -> Result<(), EditError> {
+    pub fn set(
+        &mut self,
+        path: &Path,
+        row: usize,
+        prop: &Name,
+        value: &Value,
+    ) -> Result<(), EditError> {
         self.store.set(path, row, prop, value)
     }
 
@@ -133,7 +145,12 @@ impl Fixture {
     }
 
     /// Removes rows in a copy of the views, and makes it the views that are edited.
-    pub fn remove_in_copy(&mut self, path: &Path, pos: usize, count: usize) -> Result<(), EditError> {
+    pub fn remove_in_copy(
+        &mut self,
+        path: &Path,
+        pos: usize,
+        count: usize,
+    ) -> Result<(), EditError> {
         let mut views = self.store.views().same()?;
         views.remove_rows(path, pos, count)?;
         self.store.put_views(views);

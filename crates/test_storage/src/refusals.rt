@@ -1,7 +1,5 @@
 //! Commits that are not planned, files that are not opened, and calls of the disk that fail.
-use crate::call::{
-    CAP, Call, Case, DONE, EMPTY_FILE, File, Turn, WORKED_FILE, answer_all, holds,
-};
+use crate::call::{CAP, Call, Case, DONE, EMPTY_FILE, File, Turn, WORKED_FILE, answer_all, holds};
 use crate::fixture::Fixture;
 use crate::worked::WORKED;
 use host_io::{Effect, Fault, MemHost};
@@ -186,7 +184,11 @@ const CALLS: u64 = 7;
 #[test]
 fn files_are_not_opened_where_the_disk_fails(rt: HostRuntime) -> Result<(), Fail> {
     for call in 0..=CALLS {
-        let wanted = if call < CALLS { Some(OpenError::Failed) } else { None };
+        let wanted = if call < CALLS {
+            Some(OpenError::Failed)
+        } else {
+            None
+        };
         assert_eq!(rt; failing_at(rt.alloc(), call).err(), wanted, "call {call}");
         let script = [Fault {
             call,

@@ -1,5 +1,7 @@
 //! Paths, rows and values from texts, and texts of views.
-use mk_value::{Kind, Memory, Name, Path, Row, Schema, TableRead, Text, Value, print_value, to_value};
+use mk_value::{
+    Kind, Memory, Name, Path, Row, Schema, TableRead, Text, Value, print_value, to_value,
+};
 use std::alloc::Global;
 use std::test::Fail;
 use struct_text::print;
@@ -55,7 +57,12 @@ fn value(alloc: Global, literal: &str, kind: &Kind) -> Result<Value, Fail> {
 }
 
 /// The value that a literal spells for a property.
-pub fn value_for(alloc: Global, schema: &Schema, prop: &Name, literal: &str) -> Result<Value, Fail> {
+pub fn value_for(
+    alloc: Global,
+    schema: &Schema,
+    prop: &Name,
+    literal: &str,
+) -> Result<Value, Fail> {
     let Some(at) = schema.find(prop.as_str()) else {
         return Err(Fail::new("no such property"));
     };
