@@ -43,16 +43,20 @@ const CUT: &[u8] = b"getas a[x:I]\n\n  getas  b[s[t:S]] \nadd a 1\n\xff\nquit";
 
 const SAID: &[u8] = b"ok mkshell 0\nok a[x:I]\nok b[s[t:S]]\nok 0\nerr 2 syntax 0\nok quit\n";
 
-const SPACES: &[u8] = b"getas c[v:I]\ninsert c 0 64\ncommit\nspace\nset c 0 v 1\ncommit\nspace\nset c 0 v 15\ncommit\nspace\n\
+const SPACES: &[u8] =
+    b"getas c[v:I]\ninsert c 0 64\ncommit\nspace\nset c 0 v 1\ncommit\nspace\nset c 0 v 15\ncommit\nspace\n\
 set c 0 v 32768\ncommit\nspace\nset c 0 v 0\ncommit\nspace\n";
 
-const SPACES_SAID: &[u8] = b"ok mkshell 0\nok c[v:I]\nok 64\nok commit 1\nok space 1 256 48\nok\nok commit 2\nok space 2 304 64\nok\n\
+const SPACES_SAID: &[u8] =
+    b"ok mkshell 0\nok c[v:I]\nok 64\nok commit 1\nok space 1 256 48\nok\nok commit 2\nok space 2 304 64\nok\n\
 ok commit 3\nok space 3 352 80\nok\nok commit 4\nok space 4 608 304\nok\nok commit 5\nok space 5 608 48\n";
 
-const CAPPED: &[u8] = b"getas c[v:I]\ninsert c 0 64\ncommit\nset c 0 v 1\ncommit\nset c 0 v 15\ncommit\nset c 0 v 32768\ncommit\n\
+const CAPPED: &[u8] =
+    b"getas c[v:I]\ninsert c 0 64\ncommit\nset c 0 v 1\ncommit\nset c 0 v 15\ncommit\nset c 0 v 32768\ncommit\n\
 set c 0 v 0\ncommit\ninsert c 64 4000 1\ncommit\nremove c 0 4064\ncommit\n";
 
-const CAPPED_SAID: &[u8] = b"ok mkshell 0\nok c[v:I]\nok 64\nok commit 1\nok\nok commit 2\nok\nok commit 3\nok\nok commit 4\nok\nok commit 5\n\
+const CAPPED_SAID: &[u8] =
+    b"ok mkshell 0\nok c[v:I]\nok 64\nok commit 1\nok\nok commit 2\nok\nok commit 3\nok\nok commit 4\nok\nok commit 5\n\
 ok 4064\nerr 10 full 800 608\nok 0\nok commit 6\n";
 
 const CASES: [Case; 21] = [
@@ -94,15 +98,7 @@ const CASES: [Case; 21] = [
         b"refused empty\n",
     ),
     // Commits that change one column, of 64 values that take more bits and fewer again.
-    (
-        RIGHT,
-        b"",
-        SPACES,
-        NEVER,
-        0,
-        Status::Done,
-        SPACES_SAID,
-    ),
+    (RIGHT, b"", SPACES, NEVER, 0, Status::Done, SPACES_SAID),
     (
         &["mkshell", "--cap", "608", "f"],
         b"",

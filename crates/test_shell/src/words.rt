@@ -133,7 +133,11 @@ const ASK_NOTHING: [&[&str]; 52] = [
 ];
 
 /// The job that the program's own name and these words ask for.
-fn job_of(alloc: Global, own: &'static str, words: &[&'static str]) -> Result<Result<Job, WordsError>, Fail> {
+fn job_of(
+    alloc: Global,
+    own: &'static str,
+    words: &[&'static str],
+) -> Result<Result<Job, WordsError>, Fail> {
     let mut all = Vec::new(alloc);
     all.push(own)?;
     all.extend_from_slice(words)?;
