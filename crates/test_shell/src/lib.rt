@@ -5,6 +5,8 @@
 #![tactic(auto)]
 
 #[cfg(test)]
+mod commits;
+#[cfg(test)]
 mod echo;
 #[cfg(test)]
 mod long_lines;
