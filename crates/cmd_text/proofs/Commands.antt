@@ -4,7 +4,7 @@ use Rattle.std.specs.Str.{bytes_eq}
 use Rattle.mk_value.specs.Data.{Datum, integer, long, text, bytes, relation, rows_of}
 use Rattle.mk_value.specs.LiteralValues.{literal_of}
 use Rattle.mk_value.specs.Literals.{tokens_of}
-use Rattle.mk_value.specs.Tokens.{Token, word}
+use Rattle.mk_value.specs.Tokens.{Token, word, text as text_token}
 use Rattle.mk_value.specs.declared.literal.Literal.{Literal}
 use Rattle.mk_value.specs.declared.literal.Literal.TheVariants as literals
 use Rattle.mk_value.specs.Paths.{Route}
@@ -20,8 +20,8 @@ use Rattle.cmd_text.specs.declared.command.Command.TheVariants as commands
 use Rattle.cmd_text.specs.declared.error.CmdError.{CmdError}
 use Rattle.cmd_text.specs.declared.error.CmdError.TheVariants.{Syntax}
 use Rattle.cmd_text.specs.declared.verb.Verb.{Verb}
-use Rattle.cmd_text.specs.declared.verb.Verb.TheVariants.{Drop, Struct, Add, Insert, Set, Remove, Size, Show, Quit}
-use Rattle.cmd_text.proofs.Parts.{BeginsWith}
+use Rattle.cmd_text.specs.declared.verb.Verb.TheVariants.{Drop, Struct, Add, Insert, Set, Remove, Size, Show, Commit, Log, Rollback, Reopen, Revert, Space, Quit}
+use Rattle.cmd_text.proofs.Parts.{BeginsWith, no_note}
 use Rattle.cmd_text.proofs.Refusals.{refused_behind}
 
 -- a literal of the program for each literal
@@ -111,6 +111,15 @@ of_command Show tokens h =
         is = ap (λ t. keyword (codes "show") ∷ t) (joined tokens h.front h.rest (path_tokens target.0) [] h.is target.1.is h.behind ∙ append-nil (path_tokens target.0));
       },
     )
+of_command Commit tokens (inl none) =
+    (commands.Commit [], record { whole = no_note; is = inr (refl, ap (λ t. keyword (codes "commit") ∷ t) none) })
+of_command Commit tokens (inr (content, (few, is))) =
+    (commands.Commit content, record { whole = few; is = inl (ap (λ t. keyword (codes "commit") ∷ t) is) })
+of_command Log tokens h = (commands.Log, record { whole = tt; is = ap (λ t. keyword (codes "log") ∷ t) h })
+of_command Rollback tokens h = (commands.Rollback, record { whole = tt; is = ap (λ t. keyword (codes "rollback") ∷ t) h })
+of_command Reopen tokens h = (commands.Reopen, record { whole = tt; is = ap (λ t. keyword (codes "reopen") ∷ t) h })
+of_command Revert tokens h = (commands.Revert, record { whole = tt; is = ap (λ t. keyword (codes "revert") ∷ t) h })
+of_command Space tokens h = (commands.Space, record { whole = tt; is = ap (λ t. keyword (codes "space") ∷ t) h })
 of_command Quit tokens h = (commands.Quit, record { whole = tt; is = ap (λ t. keyword (codes "quit") ∷ t) h })
 
 -- The tokens are the word of a command and what is of its form.
@@ -226,7 +235,19 @@ spelled (commands.Remove route place rows) h = inr (record {
 })
 spelled (commands.Size route) h = inr (record { verb = Size; rest = path_tokens route; is = refl; of_form = path_alone route h })
 spelled (commands.Show route) h = inr (record { verb = Show; rest = path_tokens route; is = refl; of_form = path_alone route h })
+spelled (commands.Commit note) h =
+    inr (record { verb = Commit; rest = text_token note ∷ []; is = refl; of_form = inr (note, (h, refl)) })
+spelled commands.Log h = inr (record { verb = Log; rest = []; is = refl; of_form = refl })
+spelled commands.Rollback h = inr (record { verb = Rollback; rest = []; is = refl; of_form = refl })
+spelled commands.Reopen h = inr (record { verb = Reopen; rest = []; is = refl; of_form = refl })
+spelled commands.Revert h = inr (record { verb = Revert; rest = []; is = refl; of_form = refl })
+spelled commands.Space h = inr (record { verb = Space; rest = []; is = refl; of_form = refl })
 spelled commands.Quit h = inr (record { verb = Quit; rest = []; is = refl; of_form = refl })
+
+-- what spells a command is its own list of tokens, or `commit` alone
+own_tokens : (command : Command) (tokens : List Token) → SpellsCommand tokens command → (tokens ≡ command_tokens command) ⊎ (tokens ≡ keyword (codes "commit") ∷ [])
+own_tokens (commands.Commit note) tokens spells = elim spells.is [ inl own ↦ inl own | inr out ↦ inr out.1 ]
+own_tokens command tokens spells = inl spells.is
 
 -- the command of a word
 verb_named : List ℕ → Verb
@@ -238,7 +259,13 @@ verb_named letters =
     else (if bytes_eq letters (codes "set") then Set
     else (if bytes_eq letters (codes "remove") then Remove
     else (if bytes_eq letters (codes "size") then Size
-    else (if bytes_eq letters (codes "show") then Show else Quit)))))))
+    else (if bytes_eq letters (codes "show") then Show
+    else (if bytes_eq letters (codes "commit") then Commit
+    else (if bytes_eq letters (codes "log") then Log
+    else (if bytes_eq letters (codes "rollback") then Rollback
+    else (if bytes_eq letters (codes "reopen") then Reopen
+    else (if bytes_eq letters (codes "revert") then Revert
+    else (if bytes_eq letters (codes "space") then Space else Quit)))))))))))))
 
 verb_named-word_of : (verb : Verb) → verb_named (word_of verb) ≡ verb
 unfolding verb_named
@@ -250,6 +277,12 @@ verb_named-word_of Set = refl
 verb_named-word_of Remove = refl
 verb_named-word_of Size = refl
 verb_named-word_of Show = refl
+verb_named-word_of Commit = refl
+verb_named-word_of Log = refl
+verb_named-word_of Rollback = refl
+verb_named-word_of Reopen = refl
+verb_named-word_of Revert = refl
+verb_named-word_of Space = refl
 verb_named-word_of Quit = refl
 
 pub one_verb : (a b : Verb) → word_of a ≡ word_of b → a ≡ b
@@ -265,9 +298,12 @@ nothing_spelled : (t : Token) (tokens : List Token) → t ∷ tokens ≡ [] → 
 nothing_spelled t tokens e = cc
 
 begins_command : (t : Token) (tokens : List Token) → CommandTokens (t ∷ tokens) → IsSpelled (t ∷ tokens)
-begins_command t tokens (command, spells) = elim (spelled command spells.whole) [
-  | inl none ↦ absurd (nothing_spelled t tokens (spells.is ∙ none))
-  | inr some ↦ record { verb = some.verb; rest = some.rest; is = spells.is ∙ some.is; of_form = some.of_form }
+begins_command t tokens (command, spells) = elim (own_tokens command (t ∷ tokens) spells) [
+  | inl own ↦ elim (spelled command spells.whole) [
+    | inl none ↦ absurd (nothing_spelled t tokens (own ∙ none))
+    | inr some ↦ record { verb = some.verb; rest = some.rest; is = own ∙ some.is; of_form = some.of_form }
+  ]
+  | inr bare ↦ record { verb = Commit; rest = []; is = bare; of_form = inl refl }
 ]
 
 behind_word : (verb : Verb) (tokens : List Token) → CommandTokens (keyword (word_of verb) ∷ tokens) → IsOfForm (form_of verb) tokens

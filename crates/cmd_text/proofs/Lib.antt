@@ -1,4 +1,5 @@
 pub mod Behind
+pub mod Characters
 pub mod Commands
 pub mod Cuts
 pub mod Lines

@@ -5,13 +5,14 @@ use Rattle.std.proofs.lemmas.List.Elements.{All-nil, All-cons, All-head}
 use Rattle.mk_value.specs.Data.{Datum}
 use Rattle.mk_value.specs.Literals.{tokens_of}
 use Rattle.mk_value.specs.Names.{IsName, is_name_byte}
-use Rattle.mk_value.specs.Tokens.{Token, word, number as number_token, sign}
+use Rattle.mk_value.specs.Tokens.{Token, word, number as number_token, text, sign}
 use Rattle.mk_value.specs.declared.path.Step.{Step}
 use Rattle.tokens.specs.Fronts.{IsFront}
 use Rattle.tokens.specs.Literals.{IsLiteral, max_braces}
 use Rattle.tokens.specs.Paths.{step_tokens, path_tokens, slash}
 use Rattle.cmd_text.specs.Grammar.{count, literals_tokens}
-use Rattle.cmd_text.specs.Forms.{Part, name, number, path, literal, Form, nothing, values, next, IsPart, IsOfForm}
+use Rattle.cmd_text.specs.Notes.{IsNote}
+use Rattle.cmd_text.specs.Forms.{Part, name, number, path, literal, note, Form, nothing, values, optional, next, IsPart, IsOfForm}
 use Rattle.cmd_text.proofs.Cuts.{two_cuts}
 use Rattle.tokens.proofs.Braces.{literal_some}
 use Rattle.tokens.proofs.Languages.{BeginsLiteral, literal_begins, literal_not_empty}
@@ -32,6 +33,7 @@ GoesOn path t = t ≡ sign slash
 GoesOn name t = ⊥
 GoesOn number t = ⊥
 GoesOn literal t = ⊥
+GoesOn note t = ⊥
 
 -- a part has a first token, which is no slash
 pub record PartBegins (tokens : List Token) : Type 0 where
@@ -55,10 +57,11 @@ literal_no_slash d front rest whole e =
     begins_no_slash some.0 (literal_begins some.0 some.1 (d, record { whole = whole; is = sym some.2 })) first
 
 pub part_begins : (part : Part) (tokens : List Token) → IsPart part tokens → PartBegins tokens
-part_begins name tokens (text, (named, is)) = record { first = word text; rest = []; is = is; no_slash = λ e. cc }
+part_begins name tokens (letters, (named, is)) = record { first = word letters; rest = []; is = is; no_slash = λ e. cc }
 part_begins number tokens (n, (few, is)) = record { first = count n; rest = []; is = is; no_slash = λ e. cc }
 part_begins path tokens (route, spells) =
     record { first = word route.name; rest = flat_map step_tokens route.steps; is = spells.is; no_slash = λ e. cc }
+part_begins note tokens (content, (few, is)) = record { first = text content; rest = []; is = is; no_slash = λ e. cc }
 part_begins literal [] h = absurd (literal_not_empty h)
 part_begins literal (t ∷ tokens) h = record { first = t; rest = tokens; is = refl; no_slash = begins_no_slash t (literal_begins t tokens h) }
 
@@ -68,10 +71,19 @@ no_part part h = let begins = part_begins part [] h in absurd_first begins.first
     absurd_first : (t : Token) (rest : List Token) → [] ≡ t ∷ rest → ⊥
     absurd_first t rest e = cc
 
+part_no_slash : (part : Part) (t : Token) (tokens : List Token) → IsPart part (t ∷ tokens) → t ≡ sign slash → ⊥
+part_no_slash part t tokens h e =
+    let begins = part_begins part (t ∷ tokens) h in
+    let is : t ∷ tokens ≡ begins.first ∷ begins.rest = begins.is in
+    let same : begins.first ≡ t = cc in
+    begins.no_slash (same ∙ e)
+
 -- nothing of a form begins with a slash
 pub form_no_slash : (form : Form) (tokens : List Token) → IsOfForm form tokens → BeginsWith (λ t. t ≡ sign slash) tokens → ⊥
 form_no_slash form [] h b = b
 form_no_slash nothing (t ∷ tokens) h b = cc
+form_no_slash (optional part) (t ∷ tokens) (inl is) b = cc
+form_no_slash (optional part) (t ∷ tokens) (inr h) b = part_no_slash part t tokens h b
 form_no_slash values (t ∷ tokens) ([], (whole, is)) b = cc
 form_no_slash values (t ∷ tokens) (d ∷ literals, (whole, is)) b =
     literal_no_slash d (literals_tokens literals) tokens (All-head (λ x. IsLiteral max_braces x) d literals whole) (sym (ap (λ x. x ∷ tokens) b) ∙ is)
@@ -87,9 +99,11 @@ form_goes_on path form tokens h b = form_no_slash form tokens h b
 form_goes_on name form (t ∷ tokens) h b = b
 form_goes_on number form (t ∷ tokens) h b = b
 form_goes_on literal form (t ∷ tokens) h b = b
+form_goes_on note form (t ∷ tokens) h b = b
 form_goes_on name form [] h b = b
 form_goes_on number form [] h b = b
 form_goes_on literal form [] h b = b
+form_goes_on note form [] h b = b
 
 one_longer : (t u : Token) (tokens more : List Token) → tokens ≡ t ∷ [] → tokens ++ more ≡ u ∷ [] → more ≡ []
 one_longer t u tokens more e f =
@@ -107,6 +121,7 @@ behind_steps (s ∷ a) (t ∷ b) c e = behind_steps a b c (let tail : flat_map s
 pub part_longer : (part : Part) (tokens more : List Token) → IsPart part tokens → IsPart part (tokens ++ more) → (more ≡ []) ⊎ BeginsWith (GoesOn part) more
 part_longer name tokens more (a, (_, is)) (b, (_, longer)) = inl (one_longer (word a) (word b) tokens more is longer)
 part_longer number tokens more (a, (_, is)) (b, (_, longer)) = inl (one_longer (count a) (count b) tokens more is longer)
+part_longer note tokens more (a, (_, is)) (b, (_, longer)) = inl (one_longer (text a) (text b) tokens more is longer)
 part_longer path tokens more (a, is) (b, longer) =
     let e : path_tokens a ++ more ≡ path_tokens b = sym (ap (λ x. x ++ more) is.is) ∙ longer.is in
     let tail : flat_map step_tokens a.steps ++ more ≡ flat_map step_tokens b.steps = cc in
@@ -169,15 +184,21 @@ in_part part form front rest (more, longer) unfinished joins =
 short_name : IsName (97 ∷ [])
 short_name = record { not_empty = lit< tt; short = lit≤ tt; characters = All-cons (λ b. is_name_byte b ≡ true) 97 [] refl (All-nil _); begins = refl }
 
+-- the empty note is one
+pub no_note : IsNote []
+no_note = record { text = record { utf8 = search rules; no_zero = All-nil _ }; short = lit≤ tt }
+
 pub some_part : (part : Part) → (tokens : List Token) × IsPart part tokens
 some_part name = (word (97 ∷ []) ∷ [], (97 ∷ [], (short_name, refl)))
 some_part number = (count 0 ∷ [], (0, (lit< tt, refl)))
 some_part path = (word (97 ∷ []) ∷ [], (record { name = 97 ∷ []; steps = [] }, record { whole = record { name = short_name; steps = All-nil _ }; is = refl }))
 some_part literal = (number_token (pos 0) ∷ [], (Datum.long (pos 0), record { whole = search rules; is = refl }))
+some_part note = (text [] ∷ [], ([], (no_note, refl)))
 
 pub some_form : (form : Form) → (tokens : List Token) × IsOfForm form tokens
 some_form nothing = ([], refl)
 some_form values = ([], ([], (All-nil _, refl)))
+some_form (optional part) = ([], inl refl)
 some_form (next part form) = (
   (some_part part).0 ++ (some_form form).0,
   before_form part form (some_part part).0 (some_form form).0 (some_part part).1 (some_form form).1,

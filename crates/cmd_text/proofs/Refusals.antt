@@ -3,12 +3,12 @@ use Rattle.std.proofs.Common.{◌≡◌, ◌⊎◌, inl, inr, ℕ, zero, suc, �
 use Rattle.std.proofs.lemmas.List.Elements.{All-cons, All-head, All-tail}
 use Rattle.std.proofs.lemmas.List.{map-append, take-map, length-map}
 use Rattle.mk_value.specs.Literals.{tokens_of}
-use Rattle.mk_value.specs.Tokens.{Token, word}
+use Rattle.mk_value.specs.Tokens.{Token, word, text}
 use Rattle.tokens.specs.Cutting.{Piece}
 use Rattle.tokens.specs.Fronts.{Language, IsFront, IsFirstWrong, EndsEarly, Stops, tokens_in}
 use Rattle.tokens.specs.Literals.{IsLiteral, max_braces}
 use Rattle.cmd_text.specs.declared.error.CmdError.{CmdError}
-use Rattle.cmd_text.specs.Forms.{Part, literal, Form, NameTokens, NumberTokens, nothing, values, next, Takes, IsPart, IsOfForm, IsWrongAt, Refuses}
+use Rattle.cmd_text.specs.Forms.{Part, literal, Form, NameTokens, NumberTokens, NoteTokens, nothing, values, optional, next, Takes, IsPart, IsOfForm, IsWrongAt, Refuses}
 use Rattle.cmd_text.specs.Grammar.{count, literals_tokens}
 use Rattle.cmd_text.specs.Readers.{place_of_first}
 use Rattle.cmd_text.proofs.Parts.{BeginsWith, GoesOn, behind_part, before_form, in_part, no_part, some_form, some_part}
@@ -232,6 +232,44 @@ pub refuses_values : (p : Piece) (pieces : List Piece) (end : ℕ) (error : CmdE
 refuses_values p pieces end error (inl memory) = inl memory
 refuses_values p pieces end error (inr (place, (is, wrong))) = inr (place, (is, values_wrong p pieces end place wrong))
 
+-- what may be left out goes on as the part does, wherever there is a token left
+alone : (part : Part) (tokens : List Token) → IsOfForm (next part nothing) tokens → IsPart part tokens
+alone part tokens h = subst (IsPart part) (sym (h.is ∙ ap (λ rest. h.front ++ rest) h.behind ∙ append-nil h.front)) h.in_front
+
+not_left_out : (part : Part) (t : Token) (tokens : List Token) → IsOfForm (optional part) (t ∷ tokens) → IsOfForm (next part nothing) (t ∷ tokens)
+not_left_out part t tokens (inl is) = absurd (cc)
+not_left_out part t tokens (inr h) = record { front = t ∷ tokens; rest = []; in_front = h; behind = refl; is = sym (append-nil (t ∷ tokens)) }
+
+optional_front : (part : Part) (tokens : List Token) → IsFront (IsOfForm (next part nothing)) tokens → IsFront (IsOfForm (optional part)) tokens
+optional_front part tokens (more, h) = (more, inr (alone part (tokens ++ more) h))
+
+optional_next : (part : Part) (front : List Piece) (t : Token) → IsFront (IsOfForm (optional part)) (tokens_in front ++ (t ∷ [])) → IsFront (IsOfForm (next part nothing)) (tokens_in front ++ (t ∷ []))
+optional_next part [] t (more, h) = (more, not_left_out part t more h)
+optional_next part (p ∷ front) t (more, h) = (more, not_left_out part p.token ((tokens_in front ++ (t ∷ [])) ++ more) h)
+
+optional_wrong : (part : Part) (p : Piece) (pieces : List Piece) (end place : ℕ) → IsWrongAt (IsOfForm (next part nothing)) (record { pieces = p ∷ pieces; end = end }) place
+    → IsWrongAt (IsOfForm (optional part)) (record { pieces = p ∷ pieces; end = end }) place
+optional_wrong part p pieces end place (inl wrong) = inl (record {
+  front = wrong.front;
+  piece = wrong.piece;
+  rest = wrong.rest;
+  split = wrong.split;
+  goes_on = optional_front part (tokens_in wrong.front) wrong.goes_on;
+  wrong = λ goes. wrong.wrong (optional_next part wrong.front wrong.piece.token goes);
+  at = wrong.at;
+})
+optional_wrong part p pieces end place (inr early) = inr (record {
+  goes_on = optional_front part (tokens_in (p ∷ pieces)) early.goes_on;
+  unfinished = λ h. early.unfinished (not_left_out part p.token (tokens_in pieces) h);
+  at = early.at;
+})
+
+-- where a part is refused, it is so where it may be left out, if there is a piece left
+pub refuses_optional : (part : Part) (p : Piece) (pieces : List Piece) (end : ℕ) (error : CmdError) → Refuses (next part nothing) (record { pieces = p ∷ pieces; end = end }) error
+    → Refuses (optional part) (record { pieces = p ∷ pieces; end = end }) error
+refuses_optional part p pieces end error (inl memory) = inl memory
+refuses_optional part p pieces end error (inr (place, (is, wrong))) = inr (place, (is, optional_wrong part p pieces end place wrong))
+
 -- a part that stands at the front is taken from it
 pub takes_part : (part : Part) (front rest : List Piece) (end : ℕ) → IsPart part (tokens_in front) → (BeginsWith (GoesOn part) (tokens_in rest) → ⊥)
     → Takes part (tokens_in front) (record { pieces = front ++ rest; end = end }) (record { pieces = rest; end = end })
@@ -280,7 +318,10 @@ refused_at_token part form p pieces end wrong = refused_at_stop part form (p ∷
 })
 
 pub no_name_first : (t : Token) → (NameTokens (t ∷ []) → ⊥) → IsFront NameTokens (t ∷ []) → ⊥
-no_name_first t other (more, (text, (named, is))) = let same : t ≡ word text = cc in other (text, (named, ap (λ x. x ∷ []) same))
+no_name_first t other (more, (letters, (named, is))) = let same : t ≡ word letters = cc in other (letters, (named, ap (λ x. x ∷ []) same))
 
 pub no_number_first : (t : Token) → (NumberTokens (t ∷ []) → ⊥) → IsFront NumberTokens (t ∷ []) → ⊥
 no_number_first t other (more, (n, (few, is))) = let same : t ≡ count n = cc in other (n, (few, ap (λ x. x ∷ []) same))
+
+pub no_note_first : (t : Token) → (NoteTokens (t ∷ []) → ⊥) → IsFront NoteTokens (t ∷ []) → ⊥
+no_note_first t other (more, (content, (few, is))) = let same : t ≡ text content = cc in other (content, (few, ap (λ x. x ∷ []) same))

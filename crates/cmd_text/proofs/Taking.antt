@@ -6,7 +6,7 @@ use Rattle.mk_value.specs.Data.{Datum}
 use Rattle.mk_value.specs.Literals.{tokens_of}
 use Rattle.mk_value.specs.Names.{IsName}
 use Rattle.mk_value.specs.Paths.{Route}
-use Rattle.mk_value.specs.Tokens.{Token, word, sign}
+use Rattle.mk_value.specs.Tokens.{Token, word, text, sign}
 use Rattle.tokens.specs.Fronts.{Stops, tokens_in}
 use Rattle.tokens.specs.Literals.{SpellsLiteral}
 use Rattle.tokens.specs.Meanings.{piece_of, pieces_of, token_of, tokens_of_pieces}
@@ -14,12 +14,14 @@ use Rattle.tokens.specs.Paths.{GoesOnWithSlash, SpellsPath, path_tokens, slash}
 use Rattle.tokens.specs.declared.error.PartError.{PartError}
 use Rattle.tokens.specs.declared.error.PartError.TheVariants as errors
 use Rattle.tokens.specs.declared.token.Piece.{Piece}
-use Rattle.cmd_text.specs.Forms.{Form, IsPart, NameTokens, NumberTokens, Part, Refuses, Rest, Takes, next, nothing, name, number, path, literal}
+use Rattle.cmd_text.specs.Forms.{Form, IsPart, NameTokens, NumberTokens, NoteTokens, Part, Refuses, Rest, Takes, next, nothing, optional, name, number, path, literal, note}
 use Rattle.cmd_text.specs.Grammar.{IsCount, count}
+use Rattle.cmd_text.specs.Notes.{IsNote}
 use Rattle.cmd_text.specs.Readers.{place_of_first}
+use Rattle.cmd_text.specs.declared.error.CmdError.{CmdError}
 use Rattle.cmd_text.specs.declared.error.CmdError.TheVariants.{Syntax}
 use Rattle.cmd_text.proofs.Parts.{BeginsWith, GoesOn, part_begins}
-use Rattle.cmd_text.proofs.Refusals.{no_name_first, no_number_first, refused_at_end, refused_at_stop, refused_at_token, refused_more, takes_part}
+use Rattle.cmd_text.proofs.Refusals.{no_name_first, no_note_first, no_number_first, refuses_optional, refused_at_end, refused_at_stop, refused_at_token, refused_more, takes_part}
 
 pub tokens_in-pieces_of : (pieces : List Piece) → tokens_in (pieces_of pieces) ≡ tokens_of_pieces pieces
 tokens_in-pieces_of [] = refl
@@ -33,12 +35,12 @@ never : (tokens : List Token) → BeginsWith (λ t. ⊥) tokens → ⊥
 never [] h = h
 never (t ∷ tokens) h = h
 
-pub takes_name : (all : List Piece) (p : Piece) (pieces : List Piece) (end : ℕ) (text : List ℕ) → all ≡ p ∷ pieces → token_of p.token ≡ word text → IsName text
-    → Takes name (word text ∷ []) (rest_at end all) (rest_at end pieces)
-takes_name all p pieces end text e is named =
-    subst (λ ps. Takes name (word text ∷ []) (rest_at end ps) (rest_at end pieces)) (sym e)
+pub takes_name : (all : List Piece) (p : Piece) (pieces : List Piece) (end : ℕ) (letters : List ℕ) → all ≡ p ∷ pieces → token_of p.token ≡ word letters → IsName letters
+    → Takes name (word letters ∷ []) (rest_at end all) (rest_at end pieces)
+takes_name all p pieces end letters e is named =
+    subst (λ ps. Takes name (word letters ∷ []) (rest_at end ps) (rest_at end pieces)) (sym e)
     (subst (λ t. Takes name (t ∷ []) (rest_at end (p ∷ pieces)) (rest_at end pieces)) is
-    (takes_part name (piece_of p ∷ []) (pieces_of pieces) end (text, (named, ap (λ t. t ∷ []) is)) (never (tokens_in (pieces_of pieces)))))
+    (takes_part name (piece_of p ∷ []) (pieces_of pieces) end (letters, (named, ap (λ t. t ∷ []) is)) (never (tokens_in (pieces_of pieces)))))
 
 pub takes_number : (all : List Piece) (p : Piece) (pieces : List Piece) (end : ℕ) (n : ℕ) → all ≡ p ∷ pieces → token_of p.token ≡ count n → IsCount n
     → Takes number (count n ∷ []) (rest_at end all) (rest_at end pieces)
@@ -58,6 +60,24 @@ pub refuses_number : (all : List Piece) (p : Piece) (pieces : List Piece) (end :
 refuses_number all p pieces end e other form =
     subst (λ ps. Refuses (next number form) (rest_at end ps) (Syntax p.place)) (sym e)
     (inr (p.place, (refl, refused_at_token number form (piece_of p) (pieces_of pieces) end (no_number_first (token_of p.token) other))))
+
+pub takes_note : (all : List Piece) (p : Piece) (pieces : List Piece) (end : ℕ) (content : List ℕ) → all ≡ p ∷ pieces → token_of p.token ≡ text content → IsNote content
+    → Takes note (text content ∷ []) (rest_at end all) (rest_at end pieces)
+takes_note all p pieces end content e is few =
+    subst (λ ps. Takes note (text content ∷ []) (rest_at end ps) (rest_at end pieces)) (sym e)
+    (subst (λ t. Takes note (t ∷ []) (rest_at end (p ∷ pieces)) (rest_at end pieces)) is
+    (takes_part note (piece_of p ∷ []) (pieces_of pieces) end (content, (few, ap (λ t. t ∷ []) is)) (never (tokens_in (pieces_of pieces)))))
+
+pub refuses_note : (all : List Piece) (p : Piece) (pieces : List Piece) (end : ℕ) → all ≡ p ∷ pieces → (NoteTokens (token_of p.token ∷ []) → ⊥)
+    → (form : Form) → Refuses (next note form) (rest_at end all) (Syntax p.place)
+refuses_note all p pieces end e other form =
+    subst (λ ps. Refuses (next note form) (rest_at end ps) (Syntax p.place)) (sym e)
+    (inr (p.place, (refl, refused_at_token note form (piece_of p) (pieces_of pieces) end (no_note_first (token_of p.token) other))))
+
+-- where a part that may be left out is refused
+pub refused_optional : (part : Part) (all : List Piece) (end : ℕ) (error : CmdError) → 0 < length all → Refuses (next part nothing) (rest_at end all) error → Refuses (optional part) (rest_at end all) error
+refused_optional part [] end error some refused = absurd (omega arith)
+refused_optional part (p ∷ pieces) end error some refused = refuses_optional part (piece_of p) (pieces_of pieces) end error refused
 
 pub refuses_end : (part : Part) (all : List Piece) (end : ℕ) → length all ≡ 0 → (form : Form) → Refuses (next part form) (rest_at end all) (Syntax end)
 refuses_end part [] end e form = inr (end, (refl, refused_at_end part form end))

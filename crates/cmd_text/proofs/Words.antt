@@ -1,32 +1,51 @@
 -- Lines of one word at most: what their pieces are.
 use Rattle.std.proofs.Common.{◌≡◌, ◌⊎◌, inl, inr, ℕ, ◌≤◌, true, List, [], ◌∷◌, length, refl, sym, ap, subst, ◌∙◌, true≢false, arith}
-use Rattle.mk_value.specs.Tokens.{Token, word}
+use Rattle.mk_value.specs.Tokens.{Token, word, text}
 use Rattle.tokens.specs.Cutting.{Cuts, FlawFrom, inline_pieces}
 use Rattle.tokens.specs.Cutting as cutting
 use Rattle.tokens.specs.Fronts.{tokens_in}
 use Rattle.tokens.specs.Meanings.{pieces_of, token_of}
 use Rattle.tokens.specs.declared.token.Piece.{Piece}
 use Rattle.tokens.proofs.Chains.{cut_once, cut_or_flawed}
-use Rattle.cmd_text.specs.Forms.{form_of, nothing, word_of}
+use Rattle.cmd_text.specs.Forms.{Form, form_of, word_of}
+use Rattle.cmd_text.specs.Forms as forms
 use Rattle.cmd_text.specs.Grammar.{SpellsCommand, keyword}
 use Rattle.cmd_text.specs.Lines.{Reads, ReadsStructure, gives_structure}
-use Rattle.cmd_text.specs.OneWord.{IsOneWord, ReadsPieces}
+use Rattle.cmd_text.specs.OneWord.{IsBehindOneWord, IsOneWord, ReadsPieces}
 use Rattle.cmd_text.specs.declared.command.Command.{Command}
 use Rattle.cmd_text.specs.declared.command.Command.TheVariants as commands
 use Rattle.cmd_text.specs.declared.verb.Verb.{Verb}
 use Rattle.cmd_text.specs.declared.verb.Verb.TheVariants as verbs
 use Rattle.cmd_text.proofs.Commands.{one_verb}
 
--- the tokens are the one word of a command
+-- the tokens are the one word of a command, and what may stand behind it
 record IsWord (tokens : List Token) : Type 0 where
   pub verb : Verb
-  pub bare : form_of verb ≡ nothing
-  pub is : tokens ≡ keyword (word_of verb) ∷ []
+  pub rest : List Token
+  pub bare : IsBehindOneWord (form_of verb) rest
+  pub is : tokens ≡ keyword (word_of verb) ∷ rest
+
+empty_note : (content : List ℕ) (tokens : List Token) → content ≡ [] → tokens ≡ keyword (word_of verbs.Commit) ∷ text content ∷ [] → IsWord tokens
+empty_note content tokens empty is = record {
+  verb = verbs.Commit;
+  rest = text [] ∷ [];
+  bare = inr refl;
+  is = is ∙ ap (λ letters. keyword (word_of verbs.Commit) ∷ text letters ∷ []) empty;
+}
 
 one_word : (command : Command) (tokens : List Token) → IsOneWord command → SpellsCommand tokens command → (tokens ≡ []) ⊎ IsWord tokens
 one_word commands.Nothing tokens one spells = inl spells.is
-one_word commands.Struct tokens one spells = inr (record { verb = verbs.Struct; bare = refl; is = spells.is })
-one_word commands.Quit tokens one spells = inr (record { verb = verbs.Quit; bare = refl; is = spells.is })
+one_word commands.Struct tokens one spells = inr (record { verb = verbs.Struct; rest = []; bare = refl; is = spells.is })
+one_word (commands.Commit note) tokens one spells = elim spells.is [
+  | inl own ↦ inr (empty_note note tokens one own)
+  | inr out ↦ inr (record { verb = verbs.Commit; rest = []; bare = inl refl; is = out.1 })
+]
+one_word commands.Log tokens one spells = inr (record { verb = verbs.Log; rest = []; bare = refl; is = spells.is })
+one_word commands.Rollback tokens one spells = inr (record { verb = verbs.Rollback; rest = []; bare = refl; is = spells.is })
+one_word commands.Reopen tokens one spells = inr (record { verb = verbs.Reopen; rest = []; bare = refl; is = spells.is })
+one_word commands.Revert tokens one spells = inr (record { verb = verbs.Revert; rest = []; bare = refl; is = spells.is })
+one_word commands.Space tokens one spells = inr (record { verb = verbs.Space; rest = []; bare = refl; is = spells.is })
+one_word commands.Quit tokens one spells = inr (record { verb = verbs.Quit; rest = []; bare = refl; is = spells.is })
 one_word (commands.Getas name schema) tokens one spells = absurd one
 one_word (commands.Drop name) tokens one spells = absurd one
 one_word (commands.Add path values) tokens one spells = absurd one
@@ -48,7 +67,7 @@ rest_of_it t u x y e = cc
 same_word : (a b : List ℕ) → word a ≡ word b → a ≡ b
 same_word a b e = cc
 
--- of such a line the first piece is the word, and nothing stands behind it
+-- of such a line the first piece is the word
 word_first : (first : Piece) (rest : List Piece) (command : Command) → IsOneWord command → SpellsCommand (tokens_in (pieces_of (first ∷ rest))) command → IsWord (tokens_in (pieces_of (first ∷ rest)))
 word_first first rest command one spells = elim (one_word command (tokens_in (pieces_of (first ∷ rest))) one spells) [
   | inl none ↦ absurd (no_first (token_of first.token) (tokens_in (pieces_of rest)) none)
@@ -59,28 +78,36 @@ pub is_a_verb : (all : List Piece) (first : Piece) (rest : List Piece) (command 
     → IsOneWord command → SpellsCommand (tokens_in (pieces_of all)) command → ⊥
 is_a_verb all first rest command e other one spells =
     let found = word_first first rest command one (subst (λ ps. SpellsCommand (tokens_in (pieces_of ps)) command) e spells) in
-    other found.verb (first_of (token_of first.token) (keyword (word_of found.verb)) (tokens_in (pieces_of rest)) [] found.is)
+    other found.verb (first_of (token_of first.token) (keyword (word_of found.verb)) (tokens_in (pieces_of rest)) found.rest found.is)
 
+-- and behind it stands what may stand there
 pub is_bare : (all : List Piece) (first : Piece) (rest : List Piece) (command : Command) (verb : Verb) → all ≡ first ∷ rest → token_of first.token ≡ keyword (word_of verb)
-    → IsOneWord command → SpellsCommand (tokens_in (pieces_of all)) command → form_of verb ≡ nothing
+    → IsOneWord command → SpellsCommand (tokens_in (pieces_of all)) command → IsBehindOneWord (form_of verb) (tokens_in (pieces_of rest))
 is_bare all first rest command verb e is one spells =
     let found = word_first first rest command one (subst (λ ps. SpellsCommand (tokens_in (pieces_of ps)) command) e spells) in
-    let same = sym is ∙ first_of (token_of first.token) (keyword (word_of found.verb)) (tokens_in (pieces_of rest)) [] found.is in
-    ap form_of (one_verb verb found.verb (same_word (word_of verb) (word_of found.verb) same)) ∙ found.bare
-
-pub is_alone : (all : List Piece) (first : Piece) (rest : List Piece) (command : Command) → all ≡ first ∷ rest
-    → IsOneWord command → SpellsCommand (tokens_in (pieces_of all)) command → tokens_in (pieces_of rest) ≡ []
-is_alone all first rest command e one spells =
-    let found = word_first first rest command one (subst (λ ps. SpellsCommand (tokens_in (pieces_of ps)) command) e spells) in
-    rest_of_it (token_of first.token) (keyword (word_of found.verb)) (tokens_in (pieces_of rest)) [] found.is
+    let same = sym is ∙ first_of (token_of first.token) (keyword (word_of found.verb)) (tokens_in (pieces_of rest)) found.rest found.is in
+    let behind = rest_of_it (token_of first.token) (keyword (word_of found.verb)) (tokens_in (pieces_of rest)) found.rest found.is in
+    subst (λ v. IsBehindOneWord (form_of v) (tokens_in (pieces_of rest))) (sym (one_verb verb found.verb (same_word (word_of verb) (word_of found.verb) same)))
+    (subst (IsBehindOneWord (form_of found.verb)) (sym behind) found.bare)
 
 -- such a line has few pieces
+one_more : (t : Token) (tokens : List Token) → t ∷ tokens ≡ text [] ∷ [] → tokens ≡ []
+one_more t tokens e = cc
+
+few_behind : (form : Form) (t u : Token) (tokens : List Token) → IsBehindOneWord form (t ∷ u ∷ tokens) → ⊥
+few_behind forms.nothing t u tokens h = no_first t (u ∷ tokens) h
+few_behind (forms.optional forms.note) t u tokens (inl h) = no_first t (u ∷ tokens) h
+few_behind (forms.optional forms.note) t u tokens (inr h) = no_first u tokens (one_more t (u ∷ tokens) h)
+few_behind _ t u tokens h = absurd h
+
 few_pieces : (pieces : List cutting.Piece) → (tokens_in pieces ≡ []) ⊎ IsWord (tokens_in pieces) → length pieces ≤ inline_pieces
 few_pieces [] h = omega arith
 few_pieces (p ∷ []) h = omega arith
-few_pieces (p ∷ q ∷ pieces) (inl none) = absurd (no_first p.token (tokens_in (q ∷ pieces)) none)
-few_pieces (p ∷ q ∷ pieces) (inr some) =
-    absurd (no_first q.token (tokens_in pieces) (rest_of_it p.token (keyword (word_of some.verb)) (tokens_in (q ∷ pieces)) [] some.is))
+few_pieces (p ∷ q ∷ []) h = omega arith
+few_pieces (p ∷ q ∷ r ∷ pieces) (inl none) = absurd (no_first p.token (tokens_in (q ∷ r ∷ pieces)) none)
+few_pieces (p ∷ q ∷ r ∷ pieces) (inr some) =
+    let behind = rest_of_it p.token (keyword (word_of some.verb)) (tokens_in (q ∷ r ∷ pieces)) some.rest some.is in
+    absurd (few_behind (form_of some.verb) q.token r.token (tokens_in pieces) (subst (IsBehindOneWord (form_of some.verb)) (sym behind) some.bare))
 
 pub cut_in_place : (line : List ℕ) (command : Command) → IsOneWord command → ReadsPieces line command
     → (pieces : List cutting.Piece) × (Cuts line pieces × (length pieces ≤ inline_pieces))

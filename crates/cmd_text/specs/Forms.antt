@@ -2,28 +2,31 @@
 use Rattle.std.specs.Prelude.{◌≡◌, ◌⊎◌, ℕ, List, [], ◌∷◌, ◌++◌, codes}
 use Rattle.mk_value.specs.Data.{Datum}
 use Rattle.mk_value.specs.Names.{IsName}
-use Rattle.mk_value.specs.Tokens.{Token, word}
+use Rattle.mk_value.specs.Tokens.{Token, word, text}
 use Rattle.tokens.specs.Cutting.{Piece}
 use Rattle.tokens.specs.Fronts.{Language, IsFirstWrong, EndsEarly, tokens_in}
 use Rattle.tokens.specs.Literals.{LiteralTokens}
 use Rattle.tokens.specs.Paths.{PathTokens}
 use Rattle.cmd_text.specs.Grammar.{AreLiterals, CommandTokens, IsCount, count, literals_tokens}
+use Rattle.cmd_text.specs.Notes.{IsNote}
 use Rattle.cmd_text.specs.declared.error.CmdError.{CmdError}
 use Rattle.cmd_text.specs.declared.error.CmdError.TheVariants.{Syntax, Memory}
 use Rattle.cmd_text.specs.declared.verb.Verb.{Verb}
-use Rattle.cmd_text.specs.declared.verb.Verb.TheVariants.{Drop, Struct, Add, Insert, Set, Remove, Size, Show, Quit}
+use Rattle.cmd_text.specs.declared.verb.Verb.TheVariants.{Drop, Struct, Add, Insert, Set, Remove, Size, Show, Commit, Log, Rollback, Reopen, Revert, Space, Quit}
 
--- a part: a name, a number, a path or a literal
+-- a part: a name, a number, a path, a literal or a note
 pub data Part : Type 0 where
   name : Part
   number : Part
   path : Part
   literal : Part
+  note : Part
 
--- parts in order, and behind them nothing, or any number of literals
+-- parts in order, and behind them nothing, any number of literals, or one part that may be left out
 pub data Form : Type 0 where
   nothing : Form
   values : Form
+  optional : Part → Form
   next : Part → Form → Form
 
 -- the tokens are some of one language, and some of another behind them
@@ -34,12 +37,15 @@ pub record Joins (first second : Language) (tokens : List Token) : Type 0 where
   pub behind : second rest
   pub is : tokens ≡ front ++ rest
 
--- the token of a name, or of a number without a sign
+-- the token of a name, of a number without a sign, or of a note
 abbrev pub NameTokens : Language
-NameTokens tokens = (text : List ℕ) × (IsName text × (tokens ≡ word text ∷ []))
+NameTokens tokens = (letters : List ℕ) × (IsName letters × (tokens ≡ word letters ∷ []))
 
 abbrev pub NumberTokens : Language
 NumberTokens tokens = (n : ℕ) × (IsCount n × (tokens ≡ count n ∷ []))
+
+abbrev pub NoteTokens : Language
+NoteTokens tokens = (content : List ℕ) × (IsNote content × (tokens ≡ text content ∷ []))
 
 abbrev pub ValuesTokens : Language
 ValuesTokens tokens = (literals : List Datum) × (AreLiterals literals × (tokens ≡ literals_tokens literals))
@@ -49,10 +55,12 @@ IsPart name = NameTokens
 IsPart number = NumberTokens
 IsPart path = PathTokens
 IsPart literal = LiteralTokens
+IsPart note = NoteTokens
 
 abbrev pub IsOfForm : Form → Language
 IsOfForm nothing = λ tokens. tokens ≡ []
 IsOfForm values = ValuesTokens
+IsOfForm (optional part) = λ tokens. (tokens ≡ []) ⊎ IsPart part tokens
 IsOfForm (next part form) = Joins (IsPart part) (IsOfForm form)
 
 -- the first word of each command, and the command of a word
@@ -65,6 +73,12 @@ word_of Set = codes "set"
 word_of Remove = codes "remove"
 word_of Size = codes "size"
 word_of Show = codes "show"
+word_of Commit = codes "commit"
+word_of Log = codes "log"
+word_of Rollback = codes "rollback"
+word_of Reopen = codes "reopen"
+word_of Revert = codes "revert"
+word_of Space = codes "space"
 word_of Quit = codes "quit"
 
 -- what stands behind it
@@ -77,6 +91,12 @@ form_of Set = next path (next number (next name (next literal nothing)))
 form_of Remove = next path (next number (next number nothing))
 form_of Size = next path nothing
 form_of Show = next path nothing
+form_of Commit = optional note
+form_of Log = nothing
+form_of Rollback = nothing
+form_of Reopen = nothing
+form_of Revert = nothing
+form_of Space = nothing
 form_of Quit = nothing
 
 -- what is left of a line to read: pieces, and the length of the line

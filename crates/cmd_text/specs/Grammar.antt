@@ -1,16 +1,17 @@
 -- The commands, each by the tokens that spell it.
-use Rattle.std.specs.Prelude.{◌≡◌, ℕ, ◌<◌, ◌^◌, pos, List, [], ◌∷◌, ◌++◌, All, codes}
+use Rattle.std.specs.Prelude.{◌≡◌, ◌⊎◌, ℕ, ◌<◌, ◌^◌, pos, List, [], ◌∷◌, ◌++◌, All, codes}
 use Rattle.std.specs.List.{flat_map}
 use Rattle.mk_value.specs.Data.{Datum}
 use Rattle.mk_value.specs.Literals.{tokens_of}
 use Rattle.mk_value.specs.LiteralValues.{literal_of}
 use Rattle.mk_value.specs.Names.{IsName}
-use Rattle.mk_value.specs.Tokens.{Token, word, number}
+use Rattle.mk_value.specs.Tokens.{Token, word, number, text}
 use Rattle.tokens.specs.Fronts.{Language}
 use Rattle.tokens.specs.Literals.{IsLiteral, max_braces}
 use Rattle.tokens.specs.Paths.{IsPath, path_tokens}
+use Rattle.cmd_text.specs.Notes.{IsNote}
 use Rattle.cmd_text.specs.declared.command.Command.{Command}
-use Rattle.cmd_text.specs.declared.command.Command.TheVariants.{Nothing, Getas, Drop, Struct, Add, Insert, Set, Remove, Size, Show, Quit}
+use Rattle.cmd_text.specs.declared.command.Command.TheVariants.{Nothing, Getas, Drop, Struct, Add, Insert, Set, Remove, Size, Show, Commit, Log, Rollback, Reopen, Revert, Space, Quit}
 
 -- a number without a sign, of 63 bits
 abbrev pub IsCount : ℕ → Type 0
@@ -31,6 +32,12 @@ IsCommand (Set path row prop value) = IsPath path × (IsCount row × (IsName pro
 IsCommand (Remove path place rows) = IsPath path × (IsCount place × IsCount rows)
 IsCommand (Size path) = IsPath path
 IsCommand (Show path) = IsPath path
+IsCommand (Commit note) = IsNote note
+IsCommand Log = Unit {0}
+IsCommand Rollback = Unit {0}
+IsCommand Reopen = Unit {0}
+IsCommand Revert = Unit {0}
+IsCommand Space = Unit {0}
 IsCommand Quit = Unit {0}
 
 -- a word of the commands' own
@@ -44,7 +51,7 @@ count n = number (pos n)
 abbrev pub literals_tokens : List Datum → List Token
 literals_tokens literals = flat_map tokens_of literals
 
--- the one list of tokens that spells the command
+-- the list of tokens that spells the command
 abbrev pub command_tokens : Command → List Token
 command_tokens Nothing = []
 command_tokens (Getas name schema) = []
@@ -58,11 +65,26 @@ command_tokens (Set path row prop value) =
 command_tokens (Remove path place rows) = keyword (codes "remove") ∷ (path_tokens path ++ (count place ∷ count rows ∷ []))
 command_tokens (Size path) = keyword (codes "size") ∷ path_tokens path
 command_tokens (Show path) = keyword (codes "show") ∷ path_tokens path
+command_tokens (Commit note) = keyword (codes "commit") ∷ text note ∷ []
+command_tokens Log = keyword (codes "log") ∷ []
+command_tokens Rollback = keyword (codes "rollback") ∷ []
+command_tokens Reopen = keyword (codes "reopen") ∷ []
+command_tokens Revert = keyword (codes "revert") ∷ []
+command_tokens Space = keyword (codes "space") ∷ []
 command_tokens Quit = keyword (codes "quit") ∷ []
+
+-- A commit leaves out its note, which is empty.
+abbrev pub LeavesOutNote : List ℕ → Language
+LeavesOutNote note tokens = (note ≡ []) × (tokens ≡ keyword (codes "commit") ∷ [])
+
+-- The tokens are those that spell the command. A commit with the empty note has two spellings, every other command has one.
+abbrev pub AreTokensOf : Command → Language
+AreTokensOf (Commit note) = λ tokens. (tokens ≡ command_tokens (Commit note)) ⊎ LeavesOutNote note tokens
+AreTokensOf command = λ tokens. tokens ≡ command_tokens command
 
 pub record SpellsCommand (tokens : List Token) (command : Command) : Type 0 where
   pub whole : IsCommand command
-  pub is : tokens ≡ command_tokens command
+  pub is : AreTokensOf command tokens
 
 -- the tokens of commands
 abbrev pub CommandTokens : Language

@@ -2,6 +2,7 @@ pub mod Forms
 pub mod Grammar
 pub mod Laws
 pub mod Lines
+pub mod Notes
 pub mod OneWord
 pub mod Readers
 pub mod Replies

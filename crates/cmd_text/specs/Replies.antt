@@ -3,7 +3,7 @@ use Rattle.std.specs.Prelude.{ℕ, List, [], ◌∷◌, ◌++◌, length, map, c
 use Rattle.std.specs.List.{flat_map}
 use Rattle.mk_value.specs.Buffer.{Buffer}
 use Rattle.cmd_text.specs.declared.reply.Reply.{Reply}
-use Rattle.cmd_text.specs.declared.reply.Reply.TheVariants.{Silent, Plain, Count, Pair, NotFound, Lines, One, Commit, Rollback, Reopen, Space, Quit, Refused}
+use Rattle.cmd_text.specs.declared.reply.Reply.TheVariants.{Silent, Plain, Count, Pair, NotFound, Lines, One, Commit, Rollback, Reopen, Revert, Space, Quit, Refused}
 use Rattle.cmd_text.specs.declared.refusal.Refusal.{Refusal}
 use Rattle.cmd_text.specs.declared.refusal.Refusal.TheVariants as refusals
 
@@ -51,6 +51,7 @@ reply_bytes (One text) = reply_line (codes "ok " ++ text.bytes)
 reply_bytes (Commit n) = reply_line (codes "ok commit " ++ decimal n)
 reply_bytes (Rollback n) = reply_line (codes "ok rollback " ++ decimal n)
 reply_bytes (Reopen n) = reply_line (codes "ok reopen " ++ decimal n)
+reply_bytes (Revert n) = reply_line (codes "ok revert " ++ decimal n)
 reply_bytes (Space space) =
     reply_line (codes "ok space " ++ (decimal space.number ++ (codes " " ++ (decimal space.end ++ (codes " " ++ decimal space.used)))))
 reply_bytes Quit = reply_line (codes "ok quit")

@@ -3,30 +3,48 @@ ghost use Rattle.std.specs.Prelude.{◌≡◌, ◌∷◌, [], IfOk, IfErr, IsOk}
 ghost use Rattle.tokens.specs.Fronts.{tokens_in};
 ghost use Rattle.cmd_text.specs.Forms.{Refuses, nothing, form_of, word_of};
 ghost use Rattle.cmd_text.specs.Grammar.{SpellsCommand, keyword};
+ghost use Rattle.cmd_text.specs.OneWord.{EmptyNoteTokens, IsBehindOneWord};
 ghost use Rattle.cmd_text.specs.Readers.{rest_of};
 ghost use Rattle.cmd_text.specs.declared.verb.Verb.TheVariants as verbs;
 
 use crate::reader::Reader;
 use crate::verb::Verb;
-use crate::{CmdError, Command};
+use crate::{CmdError, Command, Note};
 
 /// Reads what stands behind the first word of a command, to the line's end.
 pub(crate) fn read_arguments(verb: Verb, reader: &mut Reader<'_>) -> Result<Command, CmdError>
     ensures reads { IfOk result (λ command. SpellsCommand (keyword (word_of verb) ∷ tokens_in (rest_of reader.old).pieces) command) }
     ensures refused { IfErr result (λ error. Refuses (form_of verb) (rest_of reader.old) error) }
-    ensures in_place { form_of verb ≡ nothing → tokens_in (rest_of reader.old).pieces ≡ [] → IsOk result }
+    ensures in_place { IsBehindOneWord (form_of verb) (tokens_in (rest_of reader.old).pieces) → IsOk result }
 {
     match verb {
         Verb::Drop => read_drop(reader),
-        Verb::Struct => read_struct(reader),
+        Verb::Struct => read_alone(reader, Command::Struct),
         Verb::Add => read_add(reader),
         Verb::Insert => read_insert(reader),
         Verb::Set => read_set(reader),
         Verb::Remove => read_remove(reader),
         Verb::Size => read_size(reader),
         Verb::Show => read_show(reader),
-        Verb::Quit => read_quit(reader),
+        Verb::Commit => read_commit(reader),
+        Verb::Log => read_alone(reader, Command::Log),
+        Verb::Rollback => read_alone(reader, Command::Rollback),
+        Verb::Reopen => read_alone(reader, Command::Reopen),
+        Verb::Revert => read_alone(reader, Command::Revert),
+        Verb::Space => read_alone(reader, Command::Space),
+        Verb::Quit => read_alone(reader, Command::Quit),
     }
+}
+
+/// Reads a command behind whose word nothing stands.
+fn read_alone(reader: &Reader<'_>, command: Command) -> Result<Command, CmdError>
+    ensures same { IfOk result (λ read. read ≡ command) }
+    ensures alone { IfOk result (λ _. tokens_in (rest_of reader.now).pieces ≡ []) }
+    ensures refused { IfErr result (λ error. Refuses nothing (rest_of reader.now) error) }
+    ensures in_place { tokens_in (rest_of reader.now).pieces ≡ [] → IsOk result }
+{
+    reader.over()?;
+    Ok(command)
 }
 
 fn read_drop(reader: &mut Reader<'_>) -> Result<Command, CmdError>
@@ -36,15 +54,6 @@ fn read_drop(reader: &mut Reader<'_>) -> Result<Command, CmdError>
     let name = reader.name()?;
     reader.over()?;
     Ok(Command::Drop(name))
-}
-
-fn read_struct(reader: &mut Reader<'_>) -> Result<Command, CmdError>
-    ensures reads { IfOk result (λ command. SpellsCommand (keyword (word_of verbs.Struct) ∷ tokens_in (rest_of reader.old).pieces) command) }
-    ensures refused { IfErr result (λ error. Refuses (form_of verbs.Struct) (rest_of reader.old) error) }
-    ensures in_place { tokens_in (rest_of reader.old).pieces ≡ [] → IsOk result }
-{
-    reader.over()?;
-    Ok(Command::Struct)
 }
 
 fn read_add(reader: &mut Reader<'_>) -> Result<Command, CmdError>
@@ -108,11 +117,15 @@ fn read_show(reader: &mut Reader<'_>) -> Result<Command, CmdError>
     Ok(Command::Show(path))
 }
 
-fn read_quit(reader: &mut Reader<'_>) -> Result<Command, CmdError>
-    ensures reads { IfOk result (λ command. SpellsCommand (keyword (word_of verbs.Quit) ∷ tokens_in (rest_of reader.old).pieces) command) }
-    ensures refused { IfErr result (λ error. Refuses (form_of verbs.Quit) (rest_of reader.old) error) }
-    ensures in_place { tokens_in (rest_of reader.old).pieces ≡ [] → IsOk result }
+fn read_commit(reader: &mut Reader<'_>) -> Result<Command, CmdError>
+    ensures reads { IfOk result (λ command. SpellsCommand (keyword (word_of verbs.Commit) ∷ tokens_in (rest_of reader.old).pieces) command) }
+    ensures refused { IfErr result (λ error. Refuses (form_of verbs.Commit) (rest_of reader.old) error) }
+    ensures in_place { EmptyNoteTokens (tokens_in (rest_of reader.old).pieces) → IsOk result }
 {
+    if reader.rest.is_empty() {
+        return Ok(Command::Commit(Note::none(reader.alloc)));
+    }
+    let note = reader.note()?;
     reader.over()?;
-    Ok(Command::Quit)
+    Ok(Command::Commit(note))
 }

@@ -1,3 +1,4 @@
+use crate::Note;
 use mk_value::{Literal, Literals, Name, Path, Schema};
 
 /// What a line asks for.
@@ -23,6 +24,18 @@ pub enum Command {
     Size(Path),
     /// To list the rows of a view.
     Show(Path),
+    /// To keep what the views hold as the next commit, under a note or none.
+    Commit(Note),
+    /// To list the notes of the commits.
+    Log,
+    /// To give the views what the last commit holds.
+    Rollback,
+    /// To open the file anew.
+    Reopen,
+    /// To give the views what the commit before the last holds.
+    Revert,
+    /// To tell what the store takes.
+    Space,
     /// To end the session.
     Quit,
 }

@@ -21,7 +21,7 @@ pub fn structure_is_short()
     ensures { (line name : List ℕ) (schema : List Attribute) → Reads line (Getas name schema) → length (spelling name schema) ≤ length line }
 {}
 
-/// A law of the values in a line: each becomes a value of a kind that it fits.
+/// A law of the values in a line: each becomes a value of a kind that it fits, and a note is one that a commit may have.
 pub fn literals_are_proper()
     ensures { (line : List ℕ) (command : TheCommand) → Reads line command → HasProperLiterals command }
 {}

@@ -3,14 +3,16 @@ ghost use Rattle.std.specs.Prelude.{◌≡◌, ◌↔◌, ◌∷◌, [], IfOk, I
 ghost use Rattle.mk_value.specs.LiteralValues.{literal_of};
 ghost use Rattle.mk_value.specs.Literals.{tokens_of};
 ghost use Rattle.mk_value.specs.Names.{IsName};
-ghost use Rattle.mk_value.specs.Tokens.{word};
+ghost use Rattle.mk_value.specs.Tokens.{text, word};
 ghost use Rattle.tokens.specs.Fronts.{tokens_in};
 ghost use Rattle.tokens.specs.Literals.{IsLiteral, max_braces};
 ghost use Rattle.tokens.specs.Paths.{IsPath, path_tokens};
-ghost use Rattle.cmd_text.specs.Forms.{Form, Takes, Refuses, nothing, values, next, name as a_name, number as a_number, path as a_path, literal as a_literal};
+ghost use Rattle.cmd_text.specs.Forms.{Form, Takes, Refuses, nothing, values, next, name as a_name, number as a_number, path as a_path, literal as a_literal, note as a_note};
 ghost use Rattle.cmd_text.specs.Grammar.{IsCount, AreLiterals, count as count_token, literals_tokens};
+ghost use Rattle.cmd_text.specs.Notes.{IsNote};
 
-use crate::CmdError;
+use crate::note::note_of;
+use crate::{CmdError, Note};
 use mk_value::{Literal, Literals, Name, Path};
 use std::alloc::Global;
 use tokens::{PartError, Piece, count_of, literal_at, name_of, path_at};
@@ -88,6 +90,23 @@ impl<'a> Reader<'a> {
             Err(PartError::Stuck(count)) => Err(CmdError::Syntax(self.place_behind(count))),
             Err(PartError::Memory) => Err(CmdError::Memory),
         }
+    }
+
+    /// Reads a note. An empty one takes no memory.
+    pub(crate) fn note(&mut self) -> Result<Note, CmdError>
+        ensures noted { IfOk result IsNote }
+        ensures takes { IfOk result (λ note. Takes a_note (text note ∷ []) (rest_of self.old) (rest_of self.new)) }
+        ensures refused { IfErr result (λ error. (form : Form) → Refuses (next a_note form) (rest_of self.old) error) }
+        ensures in_place { tokens_in (rest_of self.old).pieces ≡ text [] ∷ [] → IsOk result }
+    {
+        let Some(first) = self.rest.first() else {
+            return Err(CmdError::Syntax(self.end));
+        };
+        let Some(note) = note_of(self.alloc, &first.token)? else {
+            return Err(CmdError::Syntax(first.place));
+        };
+        self.rest = &self.rest[1..];
+        Ok(note)
     }
 
     /// Reads literals, as many as are left.

@@ -38,6 +38,8 @@ pub enum Reply {
     Rollback(u64),
     /// `ok reopen` and the number of the commit.
     Reopen(u64),
+    /// `ok revert` and the number of the commit.
+    Revert(u64),
     /// `ok space` and its three numbers.
     Space(Space),
     /// `ok quit`.
@@ -80,6 +82,7 @@ fn append_reply(reply: &Reply, out: &mut Text) -> Result<(), Memory>
         Reply::Commit(number) => append_numbered_line("ok commit ", *number, out),
         Reply::Rollback(number) => append_numbered_line("ok rollback ", *number, out),
         Reply::Reopen(number) => append_numbered_line("ok reopen ", *number, out),
+        Reply::Revert(number) => append_numbered_line("ok revert ", *number, out),
         Reply::Space(space) => append_space(*space, out),
         Reply::Quit => append_line("ok quit", out),
         Reply::Refused(refusal) => append_refusal(*refusal, out),

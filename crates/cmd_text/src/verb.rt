@@ -13,6 +13,12 @@ pub(crate) enum Verb {
     Remove,
     Size,
     Show,
+    Commit,
+    Log,
+    Rollback,
+    Reopen,
+    Revert,
+    Space,
     Quit,
 }
 
@@ -31,6 +37,12 @@ impl Verb {
             "remove" => Verb::Remove,
             "size" => Verb::Size,
             "show" => Verb::Show,
+            "commit" => Verb::Commit,
+            "log" => Verb::Log,
+            "rollback" => Verb::Rollback,
+            "reopen" => Verb::Reopen,
+            "revert" => Verb::Revert,
+            "space" => Verb::Space,
             "quit" => Verb::Quit,
             _ => return None,
         })

@@ -1,7 +1,13 @@
 pub mod Dues
 pub mod Fitted
+pub mod Known
+pub mod OnDisk
+pub mod Outcomes
 pub mod Readings
 pub mod Ready
+pub mod Started
 pub mod Stepped
 pub mod Structured
+pub mod Undamaged
+pub mod Unfaulted
 pub mod Walked

@@ -18,7 +18,8 @@ use Rattle.mk_value.specs.Tokens.{Token, word, spelling as spelled}
 use Rattle.tokens.specs.Cutting.{Piece, Cuts, begins_with, space}
 use Rattle.tokens.specs.Fronts.{tokens_in}
 use Rattle.tokens.specs.Literals.{IsLiteral, AreLiteralRows, IsLiteralRow, AreLiterals, max_braces}
-use Rattle.cmd_text.specs.Grammar.{IsCommand}
+use Rattle.cmd_text.specs.Grammar.{IsCommand, SpellsCommand}
+use Rattle.tokens.proofs.Chains.{cut_once}
 use Rattle.cmd_text.specs.Lines.{Reads, ReadsStructure, behind_run, first_run, gives_structure, is_space, structure_text, without_leading, without_trailing}
 use Rattle.cmd_text.specs.declared.command.Command.{Command}
 use Rattle.cmd_text.specs.declared.command.Command.TheVariants as commands
@@ -134,6 +135,35 @@ reads_blank line h = elim h.reads [
   | inr t ↦ no_pieces line t.pieces t.cuts t.spells.is
 ]
 
+no_first : (t : Token) (rest : List Token) → [] ≡ t ∷ rest → ⊥
+no_first t rest e = cc
+
+spelled_nothing : (command : Command) → SpellsCommand [] command → command ≡ commands.Nothing
+spelled_nothing commands.Nothing h = refl
+spelled_nothing (commands.Getas name schema) h = absurd h.whole
+spelled_nothing (commands.Drop name) h = absurd (no_first _ _ h.is)
+spelled_nothing commands.Struct h = absurd (no_first _ _ h.is)
+spelled_nothing (commands.Add route literals) h = absurd (no_first _ _ h.is)
+spelled_nothing (commands.Insert route place copies literals) h = absurd (no_first _ _ h.is)
+spelled_nothing (commands.Set route row prop literal) h = absurd (no_first _ _ h.is)
+spelled_nothing (commands.Remove route place rows) h = absurd (no_first _ _ h.is)
+spelled_nothing (commands.Size route) h = absurd (no_first _ _ h.is)
+spelled_nothing (commands.Show route) h = absurd (no_first _ _ h.is)
+spelled_nothing (commands.Commit note) h = absurd (elim h.is [ inl e ↦ no_first _ _ e | inr e ↦ no_first _ _ e.1 ])
+spelled_nothing commands.Log h = absurd (no_first _ _ h.is)
+spelled_nothing commands.Rollback h = absurd (no_first _ _ h.is)
+spelled_nothing commands.Reopen h = absurd (no_first _ _ h.is)
+spelled_nothing commands.Revert h = absurd (no_first _ _ h.is)
+spelled_nothing commands.Space h = absurd (no_first _ _ h.is)
+spelled_nothing commands.Quit h = absurd (no_first _ _ h.is)
+
+-- a line of spaces asks for nothing else
+pub blank_only : (line : List ℕ) (command : Command) → is_blank line ≡ true → Reads line command → command ≡ commands.Nothing
+blank_only line command h reads = elim reads.reads [
+  | inl s ↦ absurd (false≢true (sym (ap (λ w. bytes_eq (take_while is_name_byte w) (codes "getas")) (nothing_left line h)) ∙ s.gives))
+  | inr t ↦ spelled_nothing command (subst (λ (ps : List Piece). SpellsCommand (tokens_in ps) command) (cut_once 0 line t.pieces [] t.cuts (blank_all line h)) t.spells)
+]
+
 -- a line whose one word is `quit` ends the session
 quit_parts : (line : List ℕ) → is_quit line ≡ true → (is_utf8 line ≡ true) × (without_trailing (without_leading line) ≡ quit)
 quit_parts line h =
@@ -224,6 +254,12 @@ of_tokens (commands.Set route row prop literal) h = literal_proper max_braces (l
 of_tokens (commands.Remove route place rows) h = tt
 of_tokens (commands.Size route) h = tt
 of_tokens (commands.Show route) h = tt
+of_tokens (commands.Commit note) h = tt
+of_tokens commands.Log h = tt
+of_tokens commands.Rollback h = tt
+of_tokens commands.Reopen h = tt
+of_tokens commands.Revert h = tt
+of_tokens commands.Space h = tt
 of_tokens commands.Quit h = tt
 
 -- a structure text is shorter than its line by the word before it

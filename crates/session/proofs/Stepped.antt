@@ -1,44 +1,94 @@
 -- How a line steps.
-use Rattle.std.proofs.Common.{◌≡◌, ℕ, true, false, List, [], ap, ◌∙◌, inl, inr, refl}
+use Rattle.std.proofs.Common.{◌≡◌, ℕ, true, List, [], refl, ap, subst, sym, ◌∙◌, inl, inr, ⊎_elim}
 use Rattle.std.specs.Prelude.{◌⊎◌}
 use Rattle.cmd_text.specs.Lines.{IsRefusedAs, Reads}
+use Rattle.cmd_text.specs.OneWord.{IsOneWord}
 use Rattle.cmd_text.specs.Replies.{reply_bytes}
 use Rattle.cmd_text.specs.declared.command.Command.{Command}
 use Rattle.cmd_text.specs.declared.command.Command.TheVariants as commands
 use Rattle.cmd_text.specs.declared.error.CmdError.{CmdError}
 use Rattle.cmd_text.specs.declared.error.CmdError.TheVariants as errors
-use Rattle.cmd_text.specs.declared.refusal.Refusal.TheVariants.{Memory}
 use Rattle.cmd_text.specs.declared.reply.Reply.TheVariants.{Quit, Refused}
-use Rattle.session.specs.Commands.{outcome_of}
+use Rattle.host_io.specs.Outside.{Outside}
+use Rattle.host_io.proofs.Moments.{weaker}
+use Rattle.lines.specs.Machine.{State}
+use Rattle.storage.specs.Stored.{is_shut}
+use Rattle.session.specs.Carried.{Carried, Comes}
+use Rattle.session.specs.Commands.{Outcome, commits, gives, outcome_of, takes_memory}
+use Rattle.session.specs.Disk.{IsAllowed}
+use Rattle.session.specs.Moments.{IsUnderWay}
+use Rattle.session.specs.Going.{GoesOn, GoesOnLine}
 use Rattle.session.specs.Lines.{is_blank, is_quit}
 use Rattle.session.specs.Refusals.{refusal_of_reading}
-use Rattle.session.specs.Step.{Answers, Refuses, Step}
+use Rattle.session.specs.Step.{Step}
 use Rattle.session.specs.World.{World}
-use Rattle.session.proofs.Readings.{blank_reads, quit_reads, reads_blank, reads_quit, not_so}
+use Rattle.session.proofs.Outcomes.{goes_always, outcome_open}
+use Rattle.session.proofs.Readings.{blank_only, blank_reads, quit_reads}
 
-lacks_memory : (old : World) (line reply : List ℕ) (new : World) → is_blank line ≡ false → is_quit line ≡ false → Refuses Memory old reply new → Step old line reply new
-lacks_memory old line reply new asks goes_on refuses = inr (inr (record {
-  asks = λ reads. not_so (is_blank line) asks (reads_blank line reads);
-  goes_on = λ reads. not_so (is_quit line) goes_on (reads_quit line reads);
-  refuses = refuses;
-}))
+-- a line that reads as one word is read without memory
+takes_of : (line : List ℕ) → ((command : Command) → IsOneWord command → Reads line command → ⊥) → (command : Command) → Reads line command → takes_memory command ≡ true
+takes_of line in_place commands.Nothing reads = absurd (in_place commands.Nothing tt reads)
+takes_of line in_place commands.Rollback reads = absurd (in_place commands.Rollback tt reads)
+takes_of line in_place commands.Space reads = absurd (in_place commands.Space tt reads)
+takes_of line in_place commands.Quit reads = absurd (in_place commands.Quit tt reads)
+takes_of line in_place (commands.Getas name schema) reads = refl
+takes_of line in_place (commands.Drop name) reads = refl
+takes_of line in_place commands.Struct reads = refl
+takes_of line in_place (commands.Add route literals) reads = refl
+takes_of line in_place (commands.Insert route place copies literals) reads = refl
+takes_of line in_place (commands.Set route row prop literal) reads = refl
+takes_of line in_place (commands.Remove route place rows) reads = refl
+takes_of line in_place (commands.Size route) reads = refl
+takes_of line in_place (commands.Show route) reads = refl
+takes_of line in_place (commands.Commit note) reads = refl
+takes_of line in_place commands.Log reads = refl
+takes_of line in_place commands.Reopen reads = refl
+takes_of line in_place commands.Revert reads = refl
 
-pub step_of_command : (old : World) (line reply : List ℕ) (new : World) (command : Command) → Reads line command → is_blank line ≡ false → is_quit line ≡ false
-    → Answers (outcome_of old.root command) old reply new ⊎ Refuses Memory old reply new → Step old line reply new
-step_of_command old line reply new command reads asks goes_on (inl answers) = inl (record { command = command; reads = reads; answers = answers })
-step_of_command old line reply new command reads asks goes_on (inr refuses) = lacks_memory old line reply new asks goes_on refuses
+nothing_commits : (w : World) (note : List ℕ) → outcome_of w commands.Nothing ≡ commits note → ⊥
+nothing_commits w note e =
+    let given : gives [] w ≡ commits note = sym (outcome_open w commands.Nothing (goes_always (is_shut w.store) true refl)) ∙ e in cc
 
-pub step_of_error : (old : World) (line reply : List ℕ) (error : CmdError) → is_blank line ≡ false → is_quit line ≡ false → (error ≡ errors.Memory) ⊎ IsRefusedAs line error
-    → reply ≡ reply_bytes (Refused (refusal_of_reading error)) → Step old line reply old
-step_of_error old line reply error asks goes_on (inl memory) answer =
-    lacks_memory old line reply old asks goes_on (record { answer = answer ∙ ap (λ e. reply_bytes (Refused (refusal_of_reading e))) memory; same = refl })
-step_of_error old line reply error asks goes_on (inr offends) answer =
-    inr (inl (record { error = error; offends = offends; refuses = record { answer = answer; same = refl } }))
+-- while a line of spaces is answered nothing is under way
+pub quiet_of_blank : (state : State World) (line image : List ℕ) → is_blank line ≡ true → IsAllowed state image ⊎ IsUnderWay state line image → IsAllowed state image
+quiet_of_blank state line image blank (inl allowed) = allowed
+quiet_of_blank state line image blank (inr under_way) =
+    absurd (nothing_commits state.world under_way.commits.note
+    (subst (λ (c : Command). outcome_of state.world c ≡ commits under_way.commits.note) (blank_only line under_way.command blank under_way.reads) under_way.commits.due))
 
-pub step_of_blank : (old : World) (line reply : List ℕ) → is_blank line ≡ true → reply ≡ [] → Step old line reply old
-step_of_blank old line reply blank answer =
-    inl (record { command = commands.Nothing; reads = blank_reads line blank; answers = record { answer = answer; root = refl } })
+-- what goes on in a command goes on in its line
+pub line_goes : (old new : State World) (from to : Outside) (line : List ℕ) (command : Command) → Reads line command → GoesOn command old new from to → GoesOnLine line old new from to
+line_goes old new from to line command reads goes = record {
+  moments = weaker (λ at h. record {
+    silent = h.silent;
+    images = λ image is. ⊎_elim (λ allowed. inl allowed) (λ commits. inr (record { command = command; reads = reads; commits = commits })) (h.images image is);
+  }) goes.moments;
+  said = goes.said;
+  input = goes.input;
+  ready = goes.ready;
+}
 
-pub step_of_quit : (old : World) (line reply : List ℕ) → is_quit line ≡ true → reply ≡ reply_bytes Quit → Step old line reply old
-step_of_quit old line reply quit answer =
-    inl (record { command = commands.Quit; reads = quit_reads line quit; answers = record { answer = answer; root = refl } })
+module _ (known : Type 0) where
+  pub step_of_command : (old new : State World) (line reply : List ℕ) (command : Command) → Reads line command → Carried known command old reply new → Step known old line reply new
+  step_of_command old new line reply command reads carried = inl (record { command = command; reads = reads; carried = carried })
+
+  pub step_of_error : (state : State World) (line reply : List ℕ) (error : CmdError) → ((command : Command) → IsOneWord command → Reads line command → ⊥)
+      → (error ≡ errors.Memory) ⊎ IsRefusedAs line error → reply ≡ reply_bytes (Refused (refusal_of_reading error)) → Step known state line reply state
+  step_of_error state line reply error in_place (inl memory) answer = inr (inr (record {
+    takes = takes_of line in_place;
+    refuses = record { answer = answer ∙ ap (λ e. reply_bytes (Refused (refusal_of_reading e))) memory; world = refl; disk = record { bytes = λ _. refl; faults = refl } };
+  }))
+  step_of_error state line reply error in_place (inr offends) answer =
+      inr (inl (record { error = error; offends = offends; refuses = record { answer = answer; world = refl; disk = record { bytes = λ _. refl; faults = refl } } }))
+
+  pub step_of_blank : (state : State World) (line reply : List ℕ) → is_blank line ≡ true → reply ≡ [] → Step known state line reply state
+  step_of_blank state line reply blank answer =
+      step_of_command state state line reply commands.Nothing (blank_reads line blank)
+      (inl (subst (λ (o : Outcome). Comes known o state reply state) (sym (outcome_open state.world commands.Nothing (goes_always (is_shut state.world.store) true refl)))
+      (record { answer = answer; world = refl; disk = record { bytes = λ _. refl; faults = refl } })))
+
+  pub step_of_quit : (state : State World) (line reply : List ℕ) → is_quit line ≡ true → reply ≡ reply_bytes Quit → Step known state line reply state
+  step_of_quit state line reply quit answer =
+      step_of_command state state line reply commands.Quit (quit_reads line quit)
+      (inl (subst (λ (o : Outcome). Comes known o state reply state) (sym (outcome_open state.world commands.Quit (goes_always (is_shut state.world.store) true refl)))
+      (record { answer = answer; world = refl; disk = record { bytes = λ _. refl; faults = refl } })))

@@ -1,34 +1,51 @@
--- What comes of each command: the reply, and the views that it leaves. Want of memory is left aside here.
-use Rattle.std.specs.Prelude.{ℕ, ◌+◌, ◌-◌, List, [], ◌++◌, map, codes, Option, Some, None}
+-- What comes of each command. Want of memory and a disk that fails are left aside here.
+use Rattle.std.specs.Prelude.{ℕ, ◌+◌, ◌-◌, Bool, true, false, ◌&&◌, not, if◌then◌else◌, ◌==◌, List, [], ◌∷◌, ◌++◌, map, reverse, codes, decimal, Option, Some, None}
+use Rattle.std.specs.Option.{is_some}
+use Rattle.commit_plan.specs.Plans.{last_number}
+use Rattle.dir_codec.specs.Dir.{NoteEntry}
 use Rattle.mk_value.specs.Conversions.{becomes}
-use Rattle.mk_value.specs.Data.{Datum}
+use Rattle.mk_value.specs.Data.{Datum, text}
 use Rattle.mk_value.specs.LiteralValues.{literal_of}
-use Rattle.mk_value.specs.Literals.{row_text}
+use Rattle.mk_value.specs.Literals.{row_text, value_text}
 use Rattle.mk_value.specs.Paths.{Route}
 use Rattle.cmd_text.specs.Replies.{lines_text, reply_bytes, reply_line}
 use Rattle.cmd_text.specs.declared.command.Command.{Command}
 use Rattle.cmd_text.specs.declared.command.Command.TheVariants as commands
 use Rattle.cmd_text.specs.declared.refusal.Refusal.{Refusal}
-use Rattle.cmd_text.specs.declared.reply.Reply.TheVariants.{Plain, Count, Quit, Refused}
+use Rattle.cmd_text.specs.declared.refusal.Refusal.TheVariants.{LastNumber, NoName, ReadOnly, Shut}
+use Rattle.cmd_text.specs.declared.reply.Reply.TheVariants.{Plain, Count, Quit, Refused, Rollback, Space}
+use Rattle.cmd_text.specs.declared.reply.Space.{Space as Taken}
+use Rattle.storage.specs.Spaces.{space_of}
+use Rattle.storage.specs.Stored.{Stored, is_shut, rolled_back}
+use Rattle.storage.specs.declared.mode.Mode.{Mode}
+use Rattle.storage.specs.declared.mode.Mode.TheVariants.{Write, Extend, Read}
 use Rattle.struct_text.specs.Spelling.{spelling}
 use Rattle.view_store.specs.Edits.{Edit}
 use Rattle.view_store.specs.Views.{NamedTable, edited_views, without_view}
-use Rattle.session.specs.Refusals.{add_due, by_rows, drop_due, getas_due, insert_due, remove_due, set_due}
+use Rattle.session.specs.Refusals.{add_due, by_rows, drop_due, first_of, getas_due, insert_due, remove_due, set_due, unless}
 use Rattle.session.specs.Structures.{structured, structures}
 use Rattle.session.specs.Values.{domain_named, rows_named, schema_named, size_named, values_for}
+use Rattle.session.specs.World.{World, with_store, with_tables}
 
--- the bytes of a reply, and the views after it
-pub record Outcome : Type 0 where
-  pub reply : List ℕ
-  pub root : List NamedTable
+-- What a command asks for: a reply and a world, or something of the disk.
+pub data Outcome : Type 0 where
+  -- these bytes are said, and the world is this one
+  gives : List ℕ → World → Outcome
+  -- the views are stored as the next commit, with this note where it is not empty
+  commits : List ℕ → Outcome
+  -- the file is opened anew
+  reopens : Outcome
+  -- the views of the commit before are brought back
+  reverts : Outcome
 
-abbrev pub outcome : List ℕ → List NamedTable → Outcome
-outcome reply root = record { reply = reply; root = root }
+-- a refusal is told, and changes nothing
+abbrev pub refused : Refusal → World → Outcome
+refused refusal w = gives (reply_bytes (Refused refusal)) w
 
--- a refusal is told, and changes nothing; where none is due, this comes of it
-abbrev pub unless_due : Option Refusal → List NamedTable → Outcome → Outcome
-unless_due (Some refusal) root done = outcome (reply_bytes (Refused refusal)) root
-unless_due None root done = done
+-- where no refusal is due, this comes of it
+abbrev pub unless_due : Option Refusal → World → Outcome → Outcome
+unless_due (Some refusal) w done = refused refusal w
+unless_due None w done = done
 
 -- the views after copies of a row of these literals were put before a place; values that are missing at its end are defaults
 abbrev pub inserted : List NamedTable → Route → ℕ → ℕ → List Datum → List NamedTable
@@ -41,24 +58,84 @@ changed root route row prop literal = edited_views root route (Edit.set row prop
 abbrev pub removed : List NamedTable → Route → ℕ → ℕ → List NamedTable
 removed root route place rows = edited_views root route (Edit.remove place rows)
 
-abbrev pub outcome_of : List NamedTable → Command → Outcome
-outcome_of root commands.Nothing = outcome [] root
-outcome_of root (commands.Getas name schema) =
-    unless_due (getas_due root name) root (outcome (reply_line (codes "ok " ++ spelling name schema)) (structured root name schema))
-outcome_of root (commands.Drop name) = unless_due (drop_due root name) root (outcome (reply_bytes Plain) (without_view root name))
-outcome_of root commands.Struct = outcome (lines_text (structures root)) root
+-- whether commits are made at all
+abbrev pub may_write : Mode → Bool
+may_write Write = true
+may_write Extend = true
+may_write Read = false
+
+-- `commit`: the refusals that are known before a commit is planned
+abbrev pub commit_due : Stored → Option Refusal
+commit_due s = first_of (unless (may_write s.mode) ReadOnly ∷ unless (not (s.kept.number == last_number)) LastNumber ∷ [])
+
+-- `revert`: there is no commit before
+abbrev pub revert_due : Stored → Option Refusal
+revert_due s = first_of (unless (is_some s.before) NoName ∷ [])
+
+-- the line of a note: the number of its commit, and the note as a value
+abbrev pub note_text : NoteEntry → List ℕ
+note_text note = decimal note.number ++ (codes " " ++ value_text (text note.text))
+
+-- the lines of notes, the newest first
+abbrev pub note_texts : List NoteEntry → List (List ℕ)
+note_texts notes = map note_text (reverse notes)
+
+-- the numbers of `space`
+abbrev pub taken : Stored → Taken
+taken s = record { number = s.kept.number; end = s.kept.end; used = (space_of s.kept).used }
+
+-- what comes of a command of a session that is not shut
+abbrev pub outcome_in : World → Command → Outcome
+outcome_in w commands.Nothing = gives [] w
+outcome_in w (commands.Getas name schema) =
+    unless_due (getas_due w.store.views name) w
+    (gives (reply_line (codes "ok " ++ spelling name schema)) (with_tables w (structured w.store.views name schema)))
+outcome_in w (commands.Drop name) = unless_due (drop_due w.store.views name) w (gives (reply_bytes Plain) (with_tables w (without_view w.store.views name)))
+outcome_in w commands.Struct = gives (lines_text (structures w.store.views)) w
 -- the reply to `add` is the place of the row; the replies to `insert` and `remove` are the sizes after them
-outcome_of root (commands.Add route literals) =
-    unless_due (add_due root route literals) root
-    (outcome (reply_bytes (Count (size_named root route))) (inserted root route (size_named root route) 1 literals))
-outcome_of root (commands.Insert route place copies literals) =
-    unless_due (insert_due root route place copies literals) root
-    (outcome (reply_bytes (Count (size_named root route + copies))) (inserted root route place copies literals))
-outcome_of root (commands.Set route row prop literal) =
-    unless_due (set_due root route row prop (literal_of literal)) root (outcome (reply_bytes Plain) (changed root route row prop (literal_of literal)))
-outcome_of root (commands.Remove route place rows) =
-    unless_due (remove_due root route place rows) root
-    (outcome (reply_bytes (Count (size_named root route - rows))) (removed root route place rows))
-outcome_of root (commands.Size route) = unless_due (by_rows root route) root (outcome (reply_bytes (Count (size_named root route))) root)
-outcome_of root (commands.Show route) = unless_due (by_rows root route) root (outcome (lines_text (map row_text (rows_named root route))) root)
-outcome_of root commands.Quit = outcome (reply_bytes Quit) root
+outcome_in w (commands.Add route literals) =
+    unless_due (add_due w.store.views route literals) w
+    (gives (reply_bytes (Count (size_named w.store.views route))) (with_tables w (inserted w.store.views route (size_named w.store.views route) 1 literals)))
+outcome_in w (commands.Insert route place copies literals) =
+    unless_due (insert_due w.store.views route place copies literals) w
+    (gives (reply_bytes (Count (size_named w.store.views route + copies))) (with_tables w (inserted w.store.views route place copies literals)))
+outcome_in w (commands.Set route row prop literal) =
+    unless_due (set_due w.store.views route row prop (literal_of literal)) w
+    (gives (reply_bytes Plain) (with_tables w (changed w.store.views route row prop (literal_of literal))))
+outcome_in w (commands.Remove route place rows) =
+    unless_due (remove_due w.store.views route place rows) w
+    (gives (reply_bytes (Count (size_named w.store.views route - rows))) (with_tables w (removed w.store.views route place rows)))
+outcome_in w (commands.Size route) = unless_due (by_rows w.store.views route) w (gives (reply_bytes (Count (size_named w.store.views route))) w)
+outcome_in w (commands.Show route) = unless_due (by_rows w.store.views route) w (gives (lines_text (map row_text (rows_named w.store.views route))) w)
+outcome_in w (commands.Commit note) = unless_due (commit_due w.store) w (commits note)
+outcome_in w commands.Log = gives (lines_text (note_texts w.store.kept.notes)) w
+outcome_in w commands.Rollback = gives (reply_bytes (Rollback w.store.kept.number)) (with_store w (rolled_back w.store))
+outcome_in w commands.Reopen = reopens
+outcome_in w commands.Revert = unless_due (revert_due w.store) w reverts
+outcome_in w commands.Space = gives (reply_bytes (Space (taken w.store))) w
+outcome_in w commands.Quit = gives (reply_bytes Quit) w
+
+-- what a session that is shut answers as any other does
+abbrev pub goes_when_shut : Command → Bool
+goes_when_shut commands.Nothing = true
+goes_when_shut commands.Reopen = true
+goes_when_shut commands.Quit = true
+goes_when_shut _ = false
+
+abbrev pub outcome_of : World → Command → Outcome
+outcome_of w command = if is_shut w.store && not (goes_when_shut command) then refused Shut w else outcome_in w command
+
+-- a command that is never answered for want of memory, once its line was read
+abbrev pub takes_memory : Command → Bool
+takes_memory commands.Nothing = false
+takes_memory commands.Rollback = false
+takes_memory commands.Space = false
+takes_memory commands.Quit = false
+takes_memory _ = true
+
+-- a command that reads or writes the disk
+abbrev pub reaches_disk : Command → Bool
+reaches_disk (commands.Commit note) = true
+reaches_disk commands.Reopen = true
+reaches_disk commands.Revert = true
+reaches_disk _ = false

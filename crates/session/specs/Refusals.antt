@@ -10,7 +10,13 @@ use Rattle.mk_value.specs.Tables.{domain_at}
 use Rattle.cmd_text.specs.declared.error.CmdError.{CmdError}
 use Rattle.cmd_text.specs.declared.error.CmdError.TheVariants as reading
 use Rattle.cmd_text.specs.declared.refusal.Refusal.{Refusal}
-use Rattle.cmd_text.specs.declared.refusal.Refusal.TheVariants.{Memory, Syntax, NoName, Exists, Range, NoProp, Kind, Limit, Floating}
+use Rattle.cmd_text.specs.declared.refusal.Refusal.TheVariants.{Memory, Syntax, NoName, Exists, Range, NoProp, Kind, Limit, Floating, Disk, Full, LastNumber, ReadOnly, Damaged}
+use Rattle.recovery.specs.declared.error.OpenError.{OpenError}
+use Rattle.recovery.specs.declared.error.OpenError.TheVariants as opening
+use Rattle.storage.specs.declared.error.PlanError.{PlanError}
+use Rattle.storage.specs.declared.error.PlanError.TheVariants as planning
+use Rattle.storage.specs.declared.error.RevertError.{RevertError}
+use Rattle.storage.specs.declared.error.RevertError.TheVariants as reverting
 use Rattle.view_store.specs.declared.error.EditError.{EditError}
 use Rattle.view_store.specs.declared.error.EditError.TheVariants as edits
 use Rattle.view_store.specs.Refusals.{look_due, schema_of}
@@ -38,6 +44,27 @@ refusal_of_edit edits.WrongKind = Kind
 refusal_of_edit (edits.OutOfRange size) = Range size
 refusal_of_edit (edits.TooMany size) = Limit
 refusal_of_edit edits.Memory = Memory
+
+-- how it is told that a commit is not planned
+abbrev pub refusal_of_plan : PlanError → Refusal
+refusal_of_plan planning.ReadOnly = ReadOnly
+refusal_of_plan planning.LastNumber = LastNumber
+refusal_of_plan (planning.Full end cap) = Full end cap
+refusal_of_plan planning.Memory = Memory
+
+-- how it is told that a file is not opened anew
+abbrev pub refusal_of_opening : OpenError → Refusal
+refusal_of_opening opening.NotAStore = Damaged 0
+refusal_of_opening (opening.Damaged place) = Damaged place
+refusal_of_opening opening.Failed = Disk
+refusal_of_opening opening.Memory = Memory
+
+-- how it is told that the commit before is not brought back, where the store has one
+abbrev pub refusal_of_revert : RevertError → Refusal
+refusal_of_revert reverting.NoBefore = Damaged 0
+refusal_of_revert (reverting.Damaged place) = Damaged place
+refusal_of_revert reverting.Failed = Disk
+refusal_of_revert reverting.Memory = Memory
 
 -- the first refusal of these that is due
 abbrev pub first_of : List (Option Refusal) → Option Refusal

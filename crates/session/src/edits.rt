@@ -15,6 +15,7 @@ ghost use Rattle.session.specs.Commands.{changed, inserted, removed};
 ghost use Rattle.session.specs.Fitting.{all_short, is_short};
 ghost use Rattle.session.specs.Refusals.{AnswersDue, add_due, by_rows, by_schema, copies_refusal, first_of, insert_due, literal_refusal, literals_refusal, max_copies, place_refusal, remove_due, row_refusal, rows_refusal, set_due, unless};
 ghost use Rattle.session.specs.Values.{domain_named, schema_named, size_named, values_for};
+ghost use Rattle.session.specs.World.{with_tables};
 
 use crate::Session;
 use crate::refusals::of_edit;
@@ -29,9 +30,9 @@ impl Session {
     /// Puts a row of literals behind the last of a view, and gives its place.
     pub(crate) fn add(&mut self, path: &Path, literals: &Literals) -> Result<u64, Refusal>
         requires { All IsProper literals.now }
-        ensures due { AnswersDue (add_due self.old.root path.now literals.now) result }
-        ensures place { IfOk result (λ place. place ≡ size_named self.old.root path.now) }
-        ensures ok { OnOk result (self.new.root ≡ inserted self.old.root path.now (size_named self.old.root path.now) 1 literals.now) }
+        ensures due { AnswersDue (add_due self.old.store.views path.now literals.now) result }
+        ensures place { IfOk result (λ place. place ≡ size_named self.old.store.views path.now) }
+        ensures ok { OnOk result (self.new ≡ with_tables self.old (inserted self.old.store.views path.now (size_named self.old.store.views path.now) 1 literals.now)) }
         ensures err { OnErr result (self.new ≡ self.old) }
     {
         self.check_row_of(path, literals)?;
@@ -49,9 +50,9 @@ impl Session {
         literals: &Literals,
     ) -> Result<u64, Refusal>
         requires { All IsProper literals.now }
-        ensures due { AnswersDue (insert_due self.old.root path.now place copies literals.now) result }
-        ensures size { IfOk result (λ size. size ≡ size_named self.old.root path.now + copies) }
-        ensures ok { OnOk result (self.new.root ≡ inserted self.old.root path.now place copies literals.now) }
+        ensures due { AnswersDue (insert_due self.old.store.views path.now place copies literals.now) result }
+        ensures size { IfOk result (λ size. size ≡ size_named self.old.store.views path.now + copies) }
+        ensures ok { OnOk result (self.new ≡ with_tables self.old (inserted self.old.store.views path.now place copies literals.now)) }
         ensures err { OnErr result (self.new ≡ self.old) }
     {
         self.check_row_of(path, literals)?;
@@ -69,8 +70,8 @@ impl Session {
         literal: &Literal,
     ) -> Result<(), Refusal>
         requires { IsProper (literal_of literal.now) }
-        ensures due { AnswersDue (set_due self.old.root path.now row prop.now (literal_of literal.now)) result }
-        ensures ok { OnOk result (self.new.root ≡ changed self.old.root path.now row prop.now (literal_of literal.now)) }
+        ensures due { AnswersDue (set_due self.old.store.views path.now row prop.now (literal_of literal.now)) result }
+        ensures ok { OnOk result (self.new ≡ with_tables self.old (changed self.old.store.views path.now row prop.now (literal_of literal.now))) }
         ensures err { OnErr result (self.new ≡ self.old) }
     {
         self.check_value_of(path, prop, literal)?;
@@ -82,9 +83,9 @@ impl Session {
 
     /// Removes so many rows of a view from a place on, and gives the new size.
     pub(crate) fn remove(&mut self, path: &Path, place: u64, rows: u64) -> Result<u64, Refusal>
-        ensures due { AnswersDue (remove_due self.old.root path.now place rows) result }
-        ensures size { IfOk result (λ size. size ≡ size_named self.old.root path.now - rows) }
-        ensures ok { OnOk result (self.new.root ≡ removed self.old.root path.now place rows) }
+        ensures due { AnswersDue (remove_due self.old.store.views path.now place rows) result }
+        ensures size { IfOk result (λ size. size ≡ size_named self.old.store.views path.now - rows) }
+        ensures ok { OnOk result (self.new ≡ with_tables self.old (removed self.old.store.views path.now place rows)) }
         ensures err { OnErr result (self.new ≡ self.old) }
     {
         let size = self.size_of(path)?;
@@ -103,13 +104,13 @@ impl Session {
         literals: &Literals,
     ) -> Result<u64, Refusal>
         requires proper { All IsProper literals.now }
-        requires fit { by_schema (schema_of self.old.root path.now) (λ schema. literals_refusal literals.now schema) ≡ None }
-        requires there { by_rows self.old.root path.now ≡ None }
-        requires size { size ≡ size_named self.old.root path.now }
+        requires fit { by_schema (schema_of self.old.store.views path.now) (λ schema. literals_refusal literals.now schema) ≡ None }
+        requires there { by_rows self.old.store.views path.now ≡ None }
+        requires size { size ≡ size_named self.old.store.views path.now }
         requires place { place ≤ size }
         ensures due { AnswersDue (first_of (copies_refusal size copies ∷ unless (all_short literals.now) Refusal.Limit ∷ [])) result }
         ensures size { IfOk result (λ after. after ≡ size + copies) }
-        ensures ok { OnOk result (self.new.root ≡ inserted self.old.root path.now place copies literals.now) }
+        ensures ok { OnOk result (self.new ≡ with_tables self.old (inserted self.old.store.views path.now place copies literals.now)) }
         ensures err { OnErr result (self.new ≡ self.old) }
     {
         let after = check_copies(size, copies)?;
@@ -127,12 +128,12 @@ impl Session {
         copies: usize,
     ) -> Result<(), Refusal>
         requires few { copies ≤ max_rows }
-        requires due { due self.old.root path.now (Edit.insert place row.now copies) ≡ None }
+        requires due { due self.old.store.views path.now (Edit.insert place row.now copies) ≡ None }
         ensures memory { IfErr result (λ e. e ≡ Refusal.Memory) }
-        ensures ok { OnOk result (self.new.root ≡ edited_views self.old.root path.now (Edit.insert place row.now copies)) }
+        ensures ok { OnOk result (self.new ≡ with_tables self.old (edited_views self.old.store.views path.now (Edit.insert place row.now copies))) }
         ensures err { OnErr result (self.new ≡ self.old) }
     {
-        self.root
+        self.store
             .insert_rows(path, place, row, copies)
             .map_err(of_edit)
     }
@@ -145,29 +146,29 @@ impl Session {
         prop: &Name,
         value: &Value,
     ) -> Result<(), Refusal>
-        requires { due self.old.root path.now (Edit.set row prop.now (datum_of value.now)) ≡ None }
+        requires { due self.old.store.views path.now (Edit.set row prop.now (datum_of value.now)) ≡ None }
         ensures memory { IfErr result (λ e. e ≡ Refusal.Memory) }
-        ensures ok { OnOk result (self.new.root ≡ edited_views self.old.root path.now (Edit.set row prop.now (datum_of value.now))) }
+        ensures ok { OnOk result (self.new ≡ with_tables self.old (edited_views self.old.store.views path.now (Edit.set row prop.now (datum_of value.now)))) }
         ensures err { OnErr result (self.new ≡ self.old) }
     {
-        self.root.set(path, row, prop, value).map_err(of_edit)
+        self.store.set(path, row, prop, value).map_err(of_edit)
     }
 
     /// Removes rows, where no refusal is due.
     fn remove_rows(&mut self, path: &Path, place: usize, rows: usize) -> Result<(), Refusal>
-        requires { due self.old.root path.now (Edit.remove place rows) ≡ None }
+        requires { due self.old.store.views path.now (Edit.remove place rows) ≡ None }
         ensures memory { IfErr result (λ e. e ≡ Refusal.Memory) }
-        ensures ok { OnOk result (self.new.root ≡ edited_views self.old.root path.now (Edit.remove place rows)) }
+        ensures ok { OnOk result (self.new ≡ with_tables self.old (edited_views self.old.store.views path.now (Edit.remove place rows))) }
         ensures err { OnErr result (self.new ≡ self.old) }
     {
-        self.root.remove_rows(path, place, rows).map_err(of_edit)
+        self.store.remove_rows(path, place, rows).map_err(of_edit)
     }
 
     /// Answers the refusal of a row of literals that the names of the path and the schema of its view give alone.
     fn check_row_of(&self, path: &Path, literals: &Literals) -> Result<(), Refusal>
-        ensures { result_err result ≡ by_schema (schema_of self.now.root path.now) (λ schema. literals_refusal literals.now schema) }
+        ensures { result_err result ≡ by_schema (schema_of self.now.store.views path.now) (λ schema. literals_refusal literals.now schema) }
     {
-        match self.root.schema(path) {
+        match self.store.views().schema(path) {
             Ok(schema) => check_literals(literals, schema),
             Err(error) => Err(of_edit(error)),
         }
@@ -175,9 +176,9 @@ impl Session {
 
     /// Answers the refusal of a literal for a property that the names of the path and the schema of its view give alone.
     fn check_value_of(&self, path: &Path, prop: &Name, literal: &Literal) -> Result<(), Refusal>
-        ensures { result_err result ≡ by_schema (schema_of self.now.root path.now) (λ schema. literal_refusal (literal_of literal.now) schema (find schema prop.now)) }
+        ensures { result_err result ≡ by_schema (schema_of self.now.store.views path.now) (λ schema. literal_refusal (literal_of literal.now) schema (find schema prop.now)) }
     {
-        match self.root.schema(path) {
+        match self.store.views().schema(path) {
             Ok(schema) => check_literal(literal, schema, prop),
             Err(error) => Err(of_edit(error)),
         }
@@ -186,12 +187,12 @@ impl Session {
     /// The row of literals that fit the view of a path.
     fn row_of(&self, path: &Path, literals: &Literals) -> Result<Row, Refusal>
         requires proper { All IsProper literals.now }
-        requires fit { by_schema (schema_of self.now.root path.now) (λ schema. literals_refusal literals.now schema) ≡ None }
+        requires fit { by_schema (schema_of self.now.store.views path.now) (λ schema. literals_refusal literals.now schema) ≡ None }
         ensures due { AnswersDue (unless (all_short literals.now) Refusal.Limit) result }
-        ensures value { IfOk result (λ row. row ≡ values_for (schema_named self.now.root path.now) literals.now) }
-        ensures whole { IfOk result (λ row. are_of row (schema_named self.now.root path.now) ≡ true) }
+        ensures value { IfOk result (λ row. row ≡ values_for (schema_named self.now.store.views path.now) literals.now) }
+        ensures whole { IfOk result (λ row. are_of row (schema_named self.now.store.views path.now) ≡ true) }
     {
-        match self.root.schema(path) {
+        match self.store.views().schema(path) {
             Ok(schema) => make_row(self.alloc, literals, schema),
             Err(_) => unreachable!(),
         }
@@ -200,12 +201,12 @@ impl Session {
     /// The value of a literal that fits a property of the view of a path.
     fn value_of(&self, path: &Path, prop: &Name, literal: &Literal) -> Result<Value, Refusal>
         requires proper { IsProper (literal_of literal.now) }
-        requires fit { by_schema (schema_of self.now.root path.now) (λ schema. literal_refusal (literal_of literal.now) schema (find schema prop.now)) ≡ None }
+        requires fit { by_schema (schema_of self.now.store.views path.now) (λ schema. literal_refusal (literal_of literal.now) schema (find schema prop.now)) ≡ None }
         ensures due { AnswersDue (unless (is_short (literal_of literal.now)) Refusal.Limit) result }
-        ensures value { IfOk result (λ value. datum_of value ≡ becomes (literal_of literal.now) (domain_named (schema_named self.now.root path.now) prop.now)) }
-        ensures whole { IfOk result (λ value. IsOf (datum_of value) (domain_named (schema_named self.now.root path.now) prop.now)) }
+        ensures value { IfOk result (λ value. datum_of value ≡ becomes (literal_of literal.now) (domain_named (schema_named self.now.store.views path.now) prop.now)) }
+        ensures whole { IfOk result (λ value. IsOf (datum_of value) (domain_named (schema_named self.now.store.views path.now) prop.now)) }
     {
-        match self.root.schema(path) {
+        match self.store.views().schema(path) {
             Ok(schema) => make_value_of(self.alloc, literal, schema, prop),
             Err(_) => unreachable!(),
         }

@@ -4,19 +4,24 @@
 //! line changes nothing. What comes of each command is one case of `outcome_of` in the definitions, and one function here; a
 //! further command is a case of both.
 //!
-//! It stands on the commands and replies of `cmd_text`, the views of `view_store` and the new structures of `restructure`. The loop
-//! of the crate `lines` cuts the input, calls `answer` and says what it gave. Nothing is stored yet.
+//! It stands on the commands and replies of `cmd_text`, the store of `storage`, the views of `view_store` and the new structures of
+//! `restructure`. The loop of the crate `lines` cuts the input, calls `answer` and says what it gave.
 #![tactic(auto)]
 
 mod edits;
+mod laws;
 mod looks;
 mod refusals;
 mod replies;
 mod saying;
 mod session;
+mod starting;
+mod storing;
 mod structures;
 mod values;
 mod words;
 
 pub use edits::MAX_COPIES;
+pub use laws::lines_are_answered;
 pub use session::Session;
+pub use starting::{StartError, start};

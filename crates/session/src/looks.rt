@@ -4,6 +4,8 @@ ghost use Rattle.std.specs.Result.{result_err};
 ghost use Rattle.mk_value.specs.Literals.{row_text};
 ghost use Rattle.cmd_text.specs.Replies.{contents};
 ghost use Rattle.struct_text.specs.Spelling.{spelling};
+ghost use Rattle.dir_codec.specs.Values.{note_of};
+ghost use Rattle.session.specs.Commands.{note_text, note_texts, note_texts as texts_of_notes};
 ghost use Rattle.session.specs.Refusals.{AnswersDue, by_rows};
 ghost use Rattle.session.specs.Structures.{structure_texts as texts_of, structures};
 ghost use Rattle.session.specs.Values.{rows_named, size_named};
@@ -11,17 +13,20 @@ ghost use Rattle.session.specs.Values.{rows_named, size_named};
 use crate::Session;
 use crate::refusals::{of_edit, of_memory};
 use cmd_text::Refusal;
-use mk_value::{Memory, Name, Path, Row, Schema, TableRead, Text, Texts, print_row};
+use dir_codec::Note;
+use mk_value::{
+    Memory, Name, Path, Row, Schema, TableRead, Text, Texts, Value, print_row, print_value,
+};
 use std::alloc::Global;
 use tables::{Shared, Table};
 
 impl Session {
     /// The number of rows of a view.
     pub(crate) fn size_of(&self, path: &Path) -> Result<u64, Refusal>
-        ensures due { result_err result ≡ by_rows self.now.root path.now }
-        ensures size { IfOk result (λ size. size ≡ size_named self.now.root path.now) }
+        ensures due { result_err result ≡ by_rows self.now.store.views path.now }
+        ensures size { IfOk result (λ size. size ≡ size_named self.now.store.views path.now) }
     {
-        match self.root.size(path) {
+        match self.store.views().size(path) {
             Ok(size) => Ok(size as u64),
             Err(error) => Err(of_edit(error)),
         }
@@ -29,10 +34,10 @@ impl Session {
 
     /// The texts of the rows of a view, in order.
     pub(crate) fn rows_of(&self, path: &Path) -> Result<Texts, Refusal>
-        ensures due { AnswersDue (by_rows self.now.root path.now) result }
-        ensures texts { IfOk result (λ texts. contents texts ≡ map row_text (rows_named self.now.root path.now)) }
+        ensures due { AnswersDue (by_rows self.now.store.views path.now) result }
+        ensures texts { IfOk result (λ texts. contents texts ≡ map row_text (rows_named self.now.store.views path.now)) }
     {
-        match self.root.table_at(path) {
+        match self.store.views().table_at(path) {
             Ok(table) => row_texts(self.alloc, table.table()).map_err(of_memory),
             Err(error) => Err(of_edit(error)),
         }
@@ -41,14 +46,45 @@ impl Session {
     /// The structure texts of the views, in the order in which they were made.
     pub(crate) fn structures(&self) -> Result<Texts, Refusal>
         ensures due { AnswersDue None result }
-        ensures texts { IfOk result (λ texts. contents texts ≡ structures self.now.root) }
+        ensures texts { IfOk result (λ texts. contents texts ≡ structures self.now.store.views) }
     {
-        let names = self.root.names().as_slice();
-        match structure_texts(self.alloc, names, self.root.tables()) {
+        let views = self.store.views();
+        match structure_texts(self.alloc, views.names().as_slice(), views.tables()) {
             Ok(texts) => Ok(texts),
             Err(error) => Err(of_memory(error)),
         }
     }
+
+    /// The texts of the notes of the commits, the newest first.
+    pub(crate) fn notes(&self) -> Result<Texts, Refusal>
+        ensures due { AnswersDue None result }
+        ensures texts { IfOk result (λ texts. contents texts ≡ note_texts self.now.store.kept.notes) }
+    {
+        note_texts(self.alloc, self.store.notes().as_slice()).map_err(of_memory)
+    }
+}
+
+/// The texts of notes, the last first.
+fn note_texts(alloc: Global, notes: &[Note]) -> Result<Texts, Memory>
+    ensures { IfOk result (λ texts. contents texts ≡ texts_of_notes (map note_of notes.now)) }
+{
+    let mut texts = Texts::new(alloc);
+    for at in 0..notes.len() {
+        let note = &notes[notes.len() - 1 - at];
+        texts.push(text_of_note(alloc, note)?)?;
+    }
+    Ok(texts)
+}
+
+/// The number of a note's commit, and the note as it is written in a row.
+fn text_of_note(alloc: Global, note: &Note) -> Result<Text, Memory>
+    ensures { IfOk result (λ text. text.bytes ≡ note_text (note_of note.now)) }
+{
+    let mut text = Text::new(alloc);
+    text.push_integer(note.number)?;
+    text.push_str(" ")?;
+    print_value(&Value::S(note.text.copy()?), &mut text)?;
+    Ok(text)
 }
 
 /// The texts of the rows of a table, in order. Beside the texts one row at a time takes memory.

@@ -1,9 +1,11 @@
 //! How what the layers below refuse is told.
 ghost use Rattle.std.specs.Prelude.{◌≡◌};
-ghost use Rattle.session.specs.Refusals.{refusal_of_edit, refusal_of_reading};
+ghost use Rattle.session.specs.Refusals.{refusal_of_edit, refusal_of_opening, refusal_of_plan, refusal_of_reading, refusal_of_revert};
 
 use cmd_text::{CmdError, Refusal};
 use mk_value::Memory;
+use recovery::OpenError;
+use storage::{PlanError, RevertError};
 use view_store::EditError;
 
 /// How a line that was not read is refused.
@@ -38,4 +40,41 @@ pub fn of_memory(_memory: Memory) -> Refusal
     ensures { result ≡ Refusal.Memory }
 {
     Refusal::Memory
+}
+
+/// How it is told that a commit is not planned.
+pub fn of_plan(error: PlanError) -> Refusal
+    ensures { result ≡ refusal_of_plan error }
+{
+    match error {
+        PlanError::ReadOnly => Refusal::ReadOnly,
+        PlanError::LastNumber => Refusal::LastNumber,
+        PlanError::Full(end, cap) => Refusal::Full(end, cap),
+        PlanError::Memory => Refusal::Memory,
+    }
+}
+
+/// How it is told that a file is not opened anew. One that is no store any more is damaged from its first byte on.
+pub fn of_opening(error: OpenError) -> Refusal
+    ensures { result ≡ refusal_of_opening error }
+{
+    match error {
+        OpenError::NotAStore => Refusal::Damaged(0),
+        OpenError::Damaged(place) => Refusal::Damaged(place),
+        OpenError::Failed => Refusal::Disk,
+        OpenError::Memory => Refusal::Memory,
+    }
+}
+
+/// How it is told that the views of the commit before are not brought back. Where the store has a commit before and the file has none,
+/// the file is damaged from its first byte on.
+pub fn of_revert(error: RevertError) -> Refusal
+    ensures { result ≡ refusal_of_revert error }
+{
+    match error {
+        RevertError::NoBefore => Refusal::Damaged(0),
+        RevertError::Damaged(place) => Refusal::Damaged(place),
+        RevertError::Failed => Refusal::Disk,
+        RevertError::Memory => Refusal::Memory,
+    }
 }

@@ -2,11 +2,11 @@
 ghost use Rattle.std.specs.Prelude.{◌≡◌, ◌⊎◌, ◌+◌, ◌≤◌, length, IfOk};
 ghost use Rattle.cmd_text.specs.Replies.{reply_bytes};
 ghost use Rattle.lines.specs.Lines.{max_line};
-ghost use Rattle.session.specs.Comes.{reply_of};
-ghost use Rattle.session.specs.Saying.{HasLines};
+ghost use Rattle.session.specs.Answered.{reply_of};
+ghost use Rattle.session.specs.Saying.{HasLines, IsOneLine};
 
 use crate::saying::{is_short_number, is_short_refusal};
-use cmd_text::{Refusal, Reply};
+use cmd_text::{Refusal, Reply, Space};
 use mk_value::{Text, Texts};
 
 /// Nothing but that it was done, or the refusal.
@@ -62,8 +62,62 @@ fn counted(number: u64) -> Reply
     Reply::Count(number)
 }
 
-fn refused(refusal: Refusal) -> Reply
+/// The number of the commit that was made.
+pub fn committed(number: u64) -> Reply
+    ensures value { result ≡ Reply.Commit number }
+    ensures one_line { IsOneLine result }
+    ensures short { length (reply_bytes result) ≤ max_line }
+{
+    is_short_number(number);
+    Reply::Commit(number)
+}
+
+/// The number of the commit to which the edits were given up.
+pub fn rolled_back(number: u64) -> Reply
+    ensures value { result ≡ Reply.Rollback number }
+    ensures one_line { IsOneLine result }
+    ensures short { length (reply_bytes result) ≤ max_line }
+{
+    is_short_number(number);
+    Reply::Rollback(number)
+}
+
+/// The number of the commit that was found.
+pub fn reopened(number: u64) -> Reply
+    ensures value { result ≡ Reply.Reopen number }
+    ensures one_line { IsOneLine result }
+    ensures short { length (reply_bytes result) ≤ max_line }
+{
+    is_short_number(number);
+    Reply::Reopen(number)
+}
+
+/// The number of the commit whose views were brought back.
+pub fn reverted(number: u64) -> Reply
+    ensures value { result ≡ Reply.Revert number }
+    ensures one_line { IsOneLine result }
+    ensures short { length (reply_bytes result) ≤ max_line }
+{
+    is_short_number(number);
+    Reply::Revert(number)
+}
+
+/// What a commit takes up of its file.
+pub fn taken(space: Space) -> Reply
+    ensures value { result ≡ Reply.Space space }
+    ensures one_line { IsOneLine result }
+    ensures short { length (reply_bytes result) ≤ max_line }
+{
+    is_short_number(space.number);
+    is_short_number(space.end);
+    is_short_number(space.used);
+    Reply::Space(space)
+}
+
+/// A refusal.
+pub fn refused(refusal: Refusal) -> Reply
     ensures value { result ≡ Reply.Refused refusal }
+    ensures one_line { IsOneLine result }
     ensures short { length (reply_bytes result) ≤ max_line }
 {
     is_short_refusal(refusal);

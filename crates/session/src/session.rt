@@ -1,28 +1,39 @@
-ghost use Rattle.std.specs.Prelude.{◌≡◌, ◌⊎◌, ◌+◌, ◌≤◌, ◌↔◌, [], true, false, length};
+ghost use Rattle.std.specs.Prelude.{◌≡◌, ◌⊎◌, ◌+◌, ◌≤◌, ◌↔◌, ◌&&◌, [], not, true, false, length};
+ghost use Rattle.cmd_text.specs.declared.command.Command.{Command as TheCommand};
+ghost use Rattle.cmd_text.specs.declared.command.Command.TheVariants as commands;
+ghost use Rattle.cmd_text.specs.Lines.{Reads};
+ghost use Rattle.cmd_text.specs.Replies.{reply_bytes};
+ghost use Rattle.host_io.specs.Calls.{CountsFaults};
+ghost use Rattle.host_io.specs.Outside.{Goes, Outside};
+ghost use Rattle.lines.specs.Crash.{IsReady};
 ghost use Rattle.lines.specs.Lines.{max_line};
-ghost use Rattle.session.specs.Commands.{outcome_of};
-ghost use Rattle.session.specs.Comes.{Comes};
+ghost use Rattle.lines.specs.Served.{state_of};
+ghost use Rattle.recovery.specs.Commits.{IsCommit};
+ghost use Rattle.storage.specs.Stored.{is_shut};
+ghost use Rattle.session.specs.Answered.{Answered};
+ghost use Rattle.session.specs.Carried.{Carried, ChangesNothing};
+ghost use Rattle.session.specs.Commands.{goes_when_shut, reaches_disk, taken, takes_memory};
 ghost use Rattle.session.specs.Lines.{IsOfLine, is_blank, is_quit};
-ghost use Rattle.session.specs.Saying.{KeepsRoom};
-ghost use Rattle.session.specs.Step.{Answers, Refuses, Step};
-ghost use Rattle.session.specs.World.{new_world};
+ghost use Rattle.session.specs.Going.{GoesOn, GoesOnLine};
+ghost use Rattle.session.specs.Saying.{FitsIn, HasLines, KeepsRoom};
+ghost use Rattle.session.specs.Step.{Step, machine};
 
 use crate::refusals::of_reading;
 use crate::replies;
 use crate::saying::{refuse, say, say_quit};
 use crate::words::{is_blank, is_quit};
-use cmd_text::{Command, Refusal, Reply, read_command};
+use cmd_text::{Command, Refusal, Reply, Space, read_command};
 use host_io::Host;
 use lines::Flow;
 use mk_value::{Memory, Text};
 use std::alloc::Global;
 use std::marker::Model;
-use view_store::Root;
+use storage::Store;
 
-/// A session: the named views that its lines have made and edited.
+/// A session: a store, whose views its lines edit and whose commits they make.
 #[derive(Drop)]
 pub struct Session {
-    pub(crate) root: Root,
+    pub(crate) store: Store,
     pub(crate) alloc: Global,
 }
 
@@ -33,76 +44,66 @@ impl Model for Session {
 
     ghost coded = { world_code };
 
-    ghost view = { λ s. record { root = s.root } };
+    ghost view = { λ s. record { store = s.store } };
 }
 
 impl Session {
-    /// A session with no view.
-    pub fn new(alloc: Global) -> Session
-        ensures { result ≡ new_world }
+    /// A session over a store.
+    pub fn over(alloc: Global, store: Store) -> Session
+        ensures { result.store ≡ store }
     {
-        Session {
-            root: Root::new(alloc),
-            alloc,
-        }
+        Session { store, alloc }
     }
 
-    /// Answers one line: appends its reply to `out`, and tells whether the session is over.
-    pub fn step(&mut self, line: &[u8], out: &mut Text) -> Flow
-        requires short { length line.now ≤ max_line }
-        requires empty { out.old.bytes ≡ [] }
-        requires room { max_line + 1 ≤ out.old.spare }
-        ensures step { Step self.old line.now out.new.bytes self.new }
-        ensures ends { (result ≡ Flow.Ends) ↔ (is_quit line.now ≡ true) }
-        ensures room { max_line + 1 ≤ out.new.spare + length out.new.bytes }
+    /// The number of the commit that the file stands for.
+    pub fn number(&self) -> u64
+        ensures value { result ≡ self.now.store.kept.number }
+        ensures whole { IsCommit self.now.store.kept }
     {
-        if is_quit(line) {
-            say_quit(out);
-            return Flow::Ends;
-        }
-        if is_blank(line) {
-            return Flow::Goes;
-        }
-        self.answer_line(line, out);
-        Flow::Goes
+        self.store.number()
     }
 
-    /// Answers a line that asks for something and goes on.
-    fn answer_line(&mut self, line: &[u8], out: &mut Text)
-        requires short { length line.now ≤ max_line }
-        requires asks { is_blank line.now ≡ false }
-        requires goes_on { is_quit line.now ≡ false }
-        requires empty { out.old.bytes ≡ [] }
-        requires room { max_line + 1 ≤ out.old.spare }
-        ensures step { Step self.old line.now out.new.bytes self.new }
-        ensures room { KeepsRoom out.old out.new }
-    {
-        match read_command(self.alloc, line) {
-            Ok(command) => self.answer_command(&command, out),
-            Err(error) => refuse(of_reading(error), out),
-        }
-    }
-
-    /// Carries a command out, and writes the reply to it.
-    fn answer_command(&mut self, command: &Command, out: &mut Text)
+    /// Carries a command out, and gives the reply to it: the one that it is due, or a refusal for want of memory or because the disk
+    /// failed. It makes no other call of the host than those on its disk.
+    ///
+    /// The disk is written by `Commit` alone, and a crash at any moment leaves the commit that is kept, or the one that is being made
+    /// with that as the one before it.
+    pub fn step<H: Host>(&mut self, host: &mut H, command: &Command) -> Reply
         requires line { IsOfLine command.now }
-        requires empty { out.old.bytes ≡ [] }
-        requires room { max_line + 1 ≤ out.old.spare }
-        ensures answers { Answers (outcome_of self.old.root command.now) self.old out.new.bytes self.new
-            ⊎ Refuses Refusal.Memory self.old out.new.bytes self.new }
-        ensures room { KeepsRoom out.old out.new }
+        requires ready { H.tells → IsReady machine (state_of self.old (H.outside host.old)) }
+        ensures carried { Carried H.tells command.now (state_of self.old (H.outside host.old)) (reply_bytes result) (state_of self.new (H.outside host.new)) }
+
+        // The reply fits the room of a reply, or it is one of lines, and nothing changed before it is said.
+        ensures fits { FitsIn (max_line + 1) result }
+        ensures unsaid { HasLines result → ChangesNothing H.tells command.now (state_of self.old (H.outside host.old)) (state_of self.new (H.outside host.new)) }
+        ensures silent { result ≡ Reply.Silent → command.now ≡ commands.Nothing }
+
+        ensures counts { CountsFaults ⊥ (H.outside host.old) (H.outside host.new) }
+        ensures goes { H.tells → GoesOn command.now (state_of self.old (H.outside host.old)) (state_of self.new (H.outside host.new)) (H.outside host.old) (H.outside host.new) }
     {
-        let reply = self.carry_out(command);
-        match say(&reply, out) {
-            Ok(()) => {}
-            Err(Memory) => refuse(Refusal::Memory, out),
+        if self.refuses(command) {
+            return replies::refused(Refusal::Shut);
+        }
+        match command {
+            Command::Commit(note) => self.commit(host, note),
+            Command::Reopen => self.reopen(host),
+            Command::Revert => self.revert(host),
+            _ => self.carry_out(command),
         }
     }
 
-    /// Carries a command out, and gives the reply to it.
+    /// Whether the session is shut for the command.
+    fn refuses(&self, command: &Command) -> bool
+        ensures { result ≡ is_shut self.now.store && not (goes_when_shut command.now) }
+    {
+        self.store.is_shut() && !goes_when_shut(command)
+    }
+
+    /// Carries a command out that reaches no disk, and gives the reply to it.
     fn carry_out(&mut self, command: &Command) -> Reply
-        requires { IsOfLine command.now }
-        ensures { Comes (outcome_of self.old.root command.now) self.old result self.new }
+        requires line { IsOfLine command.now }
+        requires no_disk { reaches_disk command.now ≡ false }
+        ensures { Answered command.now self.old result self.new }
     {
         match command {
             Command::Nothing => Reply::Silent,
@@ -119,9 +120,80 @@ impl Session {
             Command::Remove(path, place, rows) => replies::count(self.remove(path, *place, *rows)),
             Command::Size(path) => replies::count(self.size_of(path)),
             Command::Show(path) => replies::lines(self.rows_of(path)),
+            Command::Log => replies::lines(self.notes()),
+            Command::Rollback => self.rollback(),
+            Command::Space => replies::taken(self.taken()),
             Command::Quit => Reply::Quit,
+            Command::Commit(_) | Command::Reopen | Command::Revert => unreachable!(),
         }
     }
+
+    /// Gives up all edits since the last commit. It takes no memory.
+    fn rollback(&mut self) -> Reply
+        ensures { Answered commands.Rollback self.old result self.new }
+    {
+        self.store.rollback();
+        replies::rolled_back(self.store.number())
+    }
+
+    /// What the last commit takes up of the file. It takes no memory.
+    fn taken(&self) -> Space
+        ensures { result ≡ taken self.now.store }
+    {
+        let space = self.store.space();
+        Space {
+            number: space.number,
+            end: space.end,
+            used: space.used,
+        }
+    }
+
+    /// Answers a line that asks for something and goes on.
+    fn answer_line<H: Host>(&mut self, host: &mut H, line: &[u8], out: &mut Text)
+        requires short { length line.now ≤ max_line }
+        requires asks { is_blank line.now ≡ false }
+        requires goes_on { is_quit line.now ≡ false }
+        requires empty { out.old.bytes ≡ [] }
+        requires room { max_line + 1 ≤ out.old.spare }
+        requires ready { H.tells → IsReady machine (state_of self.old (H.outside host.old)) }
+        ensures step { Step H.tells (state_of self.old (H.outside host.old)) line.now out.new.bytes (state_of self.new (H.outside host.new)) }
+        ensures room { KeepsRoom out.old out.new }
+        ensures said { out.new.bytes ≡ [] → ⊥ }
+        ensures counts { CountsFaults ⊥ (H.outside host.old) (H.outside host.new) }
+        ensures goes { H.tells → GoesOnLine line.now (state_of self.old (H.outside host.old)) (state_of self.new (H.outside host.new)) (H.outside host.old) (H.outside host.new) }
+    {
+        match read_command(self.alloc, line) {
+            Ok(command) => self.answer_command(host, &command, out),
+            Err(error) => refuse(of_reading(error), out),
+        }
+    }
+
+    /// Carries a command out, and writes the reply to it.
+    fn answer_command<H: Host>(&mut self, host: &mut H, command: &Command, out: &mut Text)
+        requires line { IsOfLine command.now }
+        requires asks { command.now ≡ commands.Nothing → ⊥ }
+        requires empty { out.old.bytes ≡ [] }
+        requires room { max_line + 1 ≤ out.old.spare }
+        requires ready { H.tells → IsReady machine (state_of self.old (H.outside host.old)) }
+        ensures carried { Carried H.tells command.now (state_of self.old (H.outside host.old)) out.new.bytes (state_of self.new (H.outside host.new)) }
+        ensures room { KeepsRoom out.old out.new }
+        ensures said { out.new.bytes ≡ [] → ⊥ }
+        ensures counts { CountsFaults ⊥ (H.outside host.old) (H.outside host.new) }
+        ensures goes { H.tells → GoesOn command.now (state_of self.old (H.outside host.old)) (state_of self.new (H.outside host.new)) (H.outside host.old) (H.outside host.new) }
+    {
+        let reply = self.step(host, command);
+        match say(&reply, out) {
+            Ok(()) => {}
+            Err(Memory) => refuse(Refusal::Memory, out),
+        }
+    }
+}
+
+/// Whether a session that is shut answers the command as any other does.
+fn goes_when_shut(command: &Command) -> bool
+    ensures { result ≡ goes_when_shut command.now }
+{
+    matches!(command, Command::Nothing | Command::Reopen | Command::Quit)
 }
 
 impl<H: Host> lines::Session<H> for Session {
@@ -129,7 +201,15 @@ impl<H: Host> lines::Session<H> for Session {
 
     ghost machine = { machine };
 
-    fn answer(&mut self, _host: &mut H, line: &[u8], out: &mut Text) -> Flow {
-        self.step(line, out)
+    fn answer(&mut self, host: &mut H, line: &[u8], out: &mut Text) -> Flow {
+        if is_quit(line) {
+            say_quit(out);
+            return Flow::Ends;
+        }
+        if is_blank(line) {
+            return Flow::Goes;
+        }
+        self.answer_line(host, line, out);
+        Flow::Goes
     }
 }

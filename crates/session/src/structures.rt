@@ -4,10 +4,13 @@ ghost use Rattle.restructure.specs.Restructuring.{restructured};
 ghost use Rattle.struct_text.specs.Spelling.{spelling};
 ghost use Rattle.mk_value.specs.Limits.{max_structure, max_views};
 ghost use Rattle.struct_text.specs.Lengths.{structure_length};
+ghost use Rattle.view_store.specs.Rests.{MayReplace};
 ghost use Rattle.view_store.specs.Views.{table_of, without_view, with_view};
+ghost use Rattle.tables.specs.Rests.{RestsOn};
 ghost use Rattle.tables.specs.Tables.{table_without_homes};
 ghost use Rattle.session.specs.Refusals.{AnswersDue, drop_due, getas_due};
 ghost use Rattle.session.specs.Structures.{structured};
+ghost use Rattle.session.specs.World.{with_tables};
 
 use crate::Session;
 use crate::looks::structure_text;
@@ -26,9 +29,9 @@ impl Session {
     /// As of `declare`.
     pub(crate) fn getas(&mut self, name: &Name, schema: &Schema) -> Result<Text, Refusal>
         requires { length (spelling name.now schema.now) ≤ max_structure }
-        ensures due { AnswersDue (getas_due self.old.root name.now) result }
+        ensures due { AnswersDue (getas_due self.old.store.views name.now) result }
         ensures text { IfOk result (λ text. text.bytes ≡ spelling name.now schema.now) }
-        ensures ok { OnOk result (self.new.root ≡ structured self.old.root name.now schema.now) }
+        ensures ok { OnOk result (self.new ≡ with_tables self.old (structured self.old.store.views name.now schema.now)) }
         ensures err { OnErr result (self.new ≡ self.old) }
     {
         let _properties = schema.len();
@@ -45,13 +48,13 @@ impl Session {
     /// `Limit` where there are as many views as there may be, and none of the name. `Memory`.
     fn declare(&mut self, name: &Name, schema: &Schema) -> Result<(), Refusal>
         requires { structure_length name.now schema.now ≤ max_structure }
-        ensures due { AnswersDue (getas_due self.old.root name.now) result }
-        ensures ok { OnOk result (self.new.root ≡ structured self.old.root name.now schema.now) }
+        ensures due { AnswersDue (getas_due self.old.store.views name.now) result }
+        ensures ok { OnOk result (self.new ≡ with_tables self.old (structured self.old.store.views name.now schema.now)) }
         ensures err { OnErr result (self.new ≡ self.old) }
     {
         let _name = name.as_bytes();
         let _properties = schema.len();
-        let Some(known) = self.root.table(name) else {
+        let Some(known) = self.store.views().table(name) else {
             return self.add_view(name, schema);
         };
         if known.schema().is_same(schema) {
@@ -63,28 +66,29 @@ impl Session {
 
     /// Adds a view without rows last.
     fn add_view(&mut self, name: &Name, schema: &Schema) -> Result<(), Refusal>
-        requires absent { table_of self.old.root name.now ≡ None }
+        requires absent { table_of self.old.store.views name.now ≡ None }
         requires short { structure_length name.now schema.now ≤ max_structure }
-        ensures due { AnswersDue (getas_due self.old.root name.now) result }
-        ensures ok { OnOk result (self.new.root ≡ with_view self.old.root name.now (table_without_homes schema.now [])) }
+        ensures due { AnswersDue (getas_due self.old.store.views name.now) result }
+        ensures ok { OnOk result (self.new ≡ with_tables self.old (with_view self.old.store.views name.now (table_without_homes schema.now []))) }
         ensures err { OnErr result (self.new ≡ self.old) }
     {
-        if self.root.names().len() >= MAX_VIEWS {
+        if self.store.views().names().len() >= MAX_VIEWS {
             return Err(Refusal::Limit);
         }
-        let table = empty_table(self.alloc, schema).map_err(of_memory)?;
+        let table = new_table(self.alloc, schema)?;
         self.put_view(name, table)
     }
 
     /// Replaces the view of a name in place, or adds it last.
     fn put_view(&mut self, name: &Name, table: Table) -> Result<(), Refusal>
-        requires room { IsSome (table_of self.old.root name.now) ⊎ (length self.old.root < max_views) }
+        requires room { IsSome (table_of self.old.store.views name.now) ⊎ (length self.old.store.views < max_views) }
         requires short { structure_length name.now table.schema ≤ max_structure }
+        requires rests { MayReplace table (table_of self.old.store.views name.now) }
         ensures memory { IfErr result (λ e. e ≡ Refusal.Memory) }
-        ensures ok { OnOk result (self.new.root ≡ with_view self.old.root name.now table) }
+        ensures ok { OnOk result (self.new ≡ with_tables self.old (with_view self.old.store.views name.now table)) }
         ensures err { OnErr result (self.new ≡ self.old) }
     {
-        self.root.put_view(name, table).map_err(of_memory)
+        self.store.put_view(name, table).map_err(of_memory)
     }
 
     /// Removes the view of a name.
@@ -93,18 +97,27 @@ impl Session {
     ///
     /// `NoName` where there is none.
     pub(crate) fn drop_view(&mut self, name: &Name) -> Result<(), Refusal>
-        ensures due { AnswersDue (drop_due self.old.root name.now) result }
-        ensures ok { OnOk result (self.new.root ≡ without_view self.old.root name.now) }
+        ensures due { AnswersDue (drop_due self.old.store.views name.now) result }
+        ensures ok { OnOk result (self.new ≡ with_tables self.old (without_view self.old.store.views name.now)) }
         ensures err { OnErr result (self.new ≡ self.old) }
     {
-        self.root.drop_view(name).map_err(of_edit)
+        self.store.drop_view(name).map_err(of_edit)
     }
+}
+
+/// A table without rows.
+fn new_table(alloc: Global, schema: &Schema) -> Result<Table, Refusal>
+    ensures memory { IfErr result (λ e. e ≡ Refusal.Memory) }
+    ensures ok { IfOk result (λ made. made ≡ table_without_homes schema.now []) }
+{
+    empty_table(alloc, schema).map_err(of_memory)
 }
 
 /// The table under another schema.
 fn restructure_table(alloc: Global, table: &Table, schema: &Schema) -> Result<Table, Refusal>
     ensures memory { IfErr result (λ e. e ≡ Refusal.Memory) }
     ensures ok { IfOk result (λ made. made ≡ restructured table.now schema.now) }
+    ensures rests { IfOk result (λ made. RestsOn made table.now) }
 {
     restructure(alloc, table, schema).map_err(of_memory)
 }

@@ -1,1 +1,3 @@
+pub mod After
+pub mod Completing
 pub mod Saying

@@ -1,25 +1,28 @@
 -- Lines that the program says by itself, and what their saying means for a run.
-use Rattle.std.proofs.Common.{◌≡◌, ℕ, ◌<◌, ◌≤◌, ◌⊎◌, Bool, true, false, List, [], ◌∷◌, ◌++◌, length, take, drop, codes, Result, Ok, Err, is_err, refl, sym, ap, subst, inl, inr, lit<, arith}
-use Rattle.std.proofs.lemmas.Fmt.{decimal_digit}
+use Rattle.std.proofs.Common.{◌≡◌, ℕ, true, false, List, take, drop, Result, Ok, Err, is_err, refl, sym, ap, subst, inl, inr, arith}
 use Rattle.std.proofs.lemmas.List.{take-append-drop, take_all, length-take-le}
-use Rattle.host_io.specs.Outside.{Outside}
-use Rattle.host_io.specs.Calls.{CountsSay, CountsDisk, Looks, Rose}
+use Rattle.host_io.specs.Outside.{Moment, Outside}
+use Rattle.host_io.specs.Calls.{CountsSay, Looks, Rose}
 use Rattle.lines.specs.Spoken.{SaysAll}
-use Rattle.lines.specs.Lines.{max_budget, newline}
+use Rattle.lines.specs.Lines.{max_budget}
 use Rattle.lines.specs.Served.{Serves}
 use Rattle.lines.specs.declared.serving.End.{End}
 use Rattle.lines.specs.declared.serving.End.TheVariants.{Done, TakeFault, SayFault, TooMuch}
 use Rattle.session.specs.Step.{machine}
-use Rattle.session.specs.World.{World, new_world}
-use Rattle.shell.specs.Said.{SaysPart, SaysOnly, greeting_line}
+use Rattle.session.specs.Starting.{IsStartRefusal}
+use Rattle.session.specs.World.{World}
+use Rattle.session.specs.declared.starting.StartError.{StartError}
+use Rattle.session.specs.declared.starting.StartError.TheVariants as error
+use Rattle.storage.specs.declared.mode.Mode.{Mode}
+use Rattle.storage.specs.declared.space.Report.{Report}
+use Rattle.shell.specs.Faults.{IsFault, fault_of}
+use Rattle.shell.specs.Said.{IsSilent, SaysPart, SaysOnly, check_line, fault_line, greeting_line}
+use Rattle.shell.specs.declared.fault.FileFault.{FileFault}
+use Rattle.shell.specs.declared.fault.FileFault.TheVariants.{Empty, NotAStore, Damaged}
 use Rattle.shell.specs.Statuses.{status_of}
 use Rattle.shell.specs.declared.status.Status.{Status}
 use Rattle.shell.specs.declared.status.Status.TheVariants as status
-use Rattle.shell.specs.Ran.{Answers, GreetsInPart, Ran, IsServed, ServesAs}
-
--- the greeting of a new file
-pub greeting_line-zero : greeting_line 0 ≡ codes "ok mkshell 0" ++ newline ∷ []
-greeting_line-zero = ap (λ (digits : List ℕ). codes "ok mkshell " ++ digits ++ newline ∷ []) (decimal_digit 0 (lit< tt))
+use Rattle.shell.specs.Ran.{GreetsInPart, IsServed, Opens, RanChecking, RanFrom, RanServing, RefusesFile, SaysReport, ServesAs, ServesFrom, Starts}
 
 -- what was said of a line is a front of it
 pub says_part : {T E : Type 0} (line : List ℕ) (old new : Outside) (result : Result T E)
@@ -62,24 +65,22 @@ says_only line old new (Err error) says counts = record {
 }
 
 -- a greeting that the output did not take whole
-pub greets_in_part : {T E : Type 0} (old new : Outside) (result : Result T E)
-    → old.now.disk.seen ≡ [] → is_err result ≡ true → SaysAll (greeting_line 0) old new result → GreetsInPart old new
-greets_in_part old new (Ok value) empty failed says = absurd (cc)
-greets_in_part old new (Err error) empty failed says = record {
-  empty = empty;
-  said = take says.part (greeting_line 0);
-  part = says_part (greeting_line 0) old new (Err error) says;
-  short = omega (arith, length-take-le says.part (greeting_line 0) says.within, says.err);
+pub greets_in_part : {T E : Type 0} (world : World) (old new : Outside) (result : Result T E)
+    → is_err result ≡ true → SaysAll (greeting_line world.store.kept.number) old new result → GreetsInPart world old new
+greets_in_part world old new (Ok value) failed says = absurd (cc)
+greets_in_part world old new (Err error) failed says = record {
+  said = take says.part (greeting_line world.store.kept.number);
+  part = says_part (greeting_line world.store.kept.number) old new (Err error) says;
+  short = omega (arith, length-take-le says.part (greeting_line world.store.kept.number) says.within, says.err);
 }
 
 -- a run that was greeted and served
-pub answers_of : {T E : Type 0} (end : End) (old greeted new : Outside) (last : World) (result : Result T E)
-    → old.now.disk.seen ≡ [] → is_err result ≡ false → SaysAll (greeting_line 0) old greeted result
-    → Serves machine max_budget end new_world last greeted new → Answers end old new
-answers_of end old greeted new last result empty fine says serves = record {
-  empty = empty;
+serves_from : {T E : Type 0} (end : End) (world : World) (old greeted new : Outside) (last : World) (result : Result T E)
+    → is_err result ≡ false → SaysAll (greeting_line world.store.kept.number) old greeted result
+    → Serves machine max_budget end world last greeted new → ServesFrom world end old new
+serves_from end world old greeted new last result fine says serves = record {
   greeted = greeted;
-  greeting = says_whole (greeting_line 0) old greeted result fine says;
+  greeting = says_whole (greeting_line world.store.kept.number) old greeted result fine says;
   last = last;
   serves = serves;
 }
@@ -91,52 +92,85 @@ serves_as TakeFault budget world after old new serves = serves
 serves_as SayFault budget world after old new serves = serves
 serves_as TooMuch budget world after old new serves = serves
 
-pub ran_served : {T E : Type 0} (end : Status) (old greeted new : Outside) (last : World) (result : Result T E)
-    → old.now.disk.seen ≡ [] → is_err result ≡ false → SaysAll (greeting_line 0) old greeted result
-    → ServesAs end max_budget new_world last greeted new → Ran end old new
-ran_served status.Done old greeted new last result empty fine says serves = answers_of Done old greeted new last result empty fine says serves
-ran_served status.TakeFault old greeted new last result empty fine says serves = answers_of TakeFault old greeted new last result empty fine says serves
-ran_served status.TooMuch old greeted new last result empty fine says serves = answers_of TooMuch old greeted new last result empty fine says serves
-ran_served status.SayFault old greeted new last result empty fine says serves = inr (answers_of SayFault old greeted new last result empty fine says serves)
-ran_served status.Usage old greeted new last result empty fine says serves = absurd serves
-ran_served status.Refused old greeted new last result empty fine says serves = absurd serves
-ran_served status.Memory old greeted new last result empty fine says serves = absurd serves
-ran_served status.DiskFault old greeted new last result empty fine says serves = absurd serves
+pub ran_from : {T E : Type 0} (status : Status) (world : World) (old greeted new : Outside) (last : World) (result : Result T E)
+    → is_err result ≡ false → SaysAll (greeting_line world.store.kept.number) old greeted result
+    → ServesAs status max_budget world last greeted new → RanFrom world status old new
+ran_from status.Done world old greeted new last result fine says serves = serves_from Done world old greeted new last result fine says serves
+ran_from status.TakeFault world old greeted new last result fine says serves = serves_from TakeFault world old greeted new last result fine says serves
+ran_from status.TooMuch world old greeted new last result fine says serves = serves_from TooMuch world old greeted new last result fine says serves
+ran_from status.SayFault world old greeted new last result fine says serves = inr (serves_from SayFault world old greeted new last result fine says serves)
+ran_from status.Usage world old greeted new last result fine says serves = absurd serves
+ran_from status.Refused world old greeted new last result fine says serves = absurd serves
+ran_from status.Memory world old greeted new last result fine says serves = absurd serves
+ran_from status.DiskFault world old greeted new last result fine says serves = absurd serves
 
 -- a line that was said after a look at the disk
-pub says_only-after : {T E : Type 0} (line : List ℕ) (old looked new : Outside) (result : Result T E)
-    → Looks old looked → CountsDisk old looked result → SaysOnly line looked new → SaysOnly line old new
-says_only-after line old looked new result looks counts says = record {
+pub says_only-after : (line : List ℕ) (old looked new : Outside) → Looks old looked → looked.say_faults ≡ old.say_faults → SaysOnly line looked new → SaysOnly line old new
+says_only-after line old looked new looks counts says = record {
   said = says.said;
   part = part_after line says.said old looked new looks says.part;
-  whole = elim says.whole [ inl whole ↦ inl whole | inr rose ↦ inr (subst (λ (n : ℕ). Rose n new.say_faults) counts.says rose) ];
+  whole = elim says.whole [ inl whole ↦ inl whole | inr rose ↦ inr (subst (λ (n : ℕ). Rose n new.say_faults) counts rose) ];
 }
 
--- a run that was served after a look at the disk
-pub answers-after : (end : End) (old looked new : Outside) → Looks old looked → Answers end looked new → Answers end old new
-answers-after end old looked new looks answers = record {
-  empty = rw (← looks.still.now) answers.empty;
-  greeted = answers.greeted;
-  greeting = part_after (greeting_line 0) (greeting_line 0) old looked answers.greeted looks answers.greeting;
-  last = answers.last;
-  serves = answers.serves;
-}
+pub silent_of : (old new : Outside) → Looks old new → IsSilent old new
+silent_of old new looks = record { now = looks.still.now; past = looks.still.past; input = looks.input }
 
-pub greets_in_part-after : (old looked new : Outside) → Looks old looked → GreetsInPart looked new → GreetsInPart old new
-greets_in_part-after old looked new looks greets = record {
-  empty = rw (← looks.still.now) greets.empty;
-  said = greets.said;
-  part = part_after (greeting_line 0) greets.said old looked new looks greets.part;
-  short = greets.short;
-}
+pub opens_of : (old new : Outside) → Looks old new → Opens old new
+opens_of old new looks = record { said = ap (λ (m : Moment). m.said) looks.still.now; input = looks.input; untouched = λ some. looks.still }
 
-pub ran-after : (end : Status) (old looked new : Outside) → Looks old looked → IsServed end → Ran end looked new → Ran end old new
-ran-after status.Done old looked new looks served ran = answers-after Done old looked new looks ran
-ran-after status.TakeFault old looked new looks served ran = answers-after TakeFault old looked new looks ran
-ran-after status.TooMuch old looked new looks served ran = answers-after TooMuch old looked new looks ran
-ran-after status.SayFault old looked new looks served ran =
-    elim ran [ inl greets ↦ inl (greets_in_part-after old looked new looks greets) | inr answers ↦ inr (answers-after SayFault old looked new looks answers) ]
-ran-after status.Usage old looked new looks served ran = absurd served
-ran-after status.Refused old looked new looks served ran = absurd served
-ran-after status.Memory old looked new looks served ran = absurd served
-ran-after status.DiskFault old looked new looks served ran = absurd served
+-- a run that was served began with what the file stands for
+pub ran_serving : (mode : Mode) (cap : ℕ) (status : Status) (old opened new : Outside) (world : World) → Starts mode cap old opened world → IsServed status → RanFrom world status opened new
+    → RanServing mode cap status old new
+ran_serving mode cap status.Done old opened new world starts served ran = record { opened = opened; world = world; starts = starts; ran = ran }
+ran_serving mode cap status.TakeFault old opened new world starts served ran = record { opened = opened; world = world; starts = starts; ran = ran }
+ran_serving mode cap status.TooMuch old opened new world starts served ran = record { opened = opened; world = world; starts = starts; ran = ran }
+ran_serving mode cap status.SayFault old opened new world starts served ran = record { opened = opened; world = world; starts = starts; ran = ran }
+ran_serving mode cap status.Usage old opened new world starts served ran = absurd served
+ran_serving mode cap status.Refused old opened new world starts served ran = absurd served
+ran_serving mode cap status.Memory old opened new world starts served ran = absurd served
+ran_serving mode cap status.DiskFault old opened new world starts served ran = absurd served
+
+-- a file that is refused, by why no session was started
+pub refuses_file : (mode : Mode) (error : StartError) (fault : FileFault) (old looked new : Outside) → fault_of error ≡ Ok fault → IsStartRefusal mode old looked error → looked.say_faults ≡ old.say_faults
+    → SaysOnly (fault_line fault) looked new → RefusesFile mode old new
+refuses_file mode error.Empty fault old looked new is cause counts says =
+    let same : Empty ≡ fault = let f : ◌≡◌ {A = Result FileFault Status} (Ok Empty) (Ok fault) = is in cc in
+    (fault, subst (IsFault mode old.now.disk.seen) same (cause.0, cause.1), says_only-after (fault_line fault) old looked new cause.2 counts says)
+refuses_file mode error.NotAStore fault old looked new is cause counts says =
+    let same : NotAStore ≡ fault = let f : ◌≡◌ {A = Result FileFault Status} (Ok NotAStore) (Ok fault) = is in cc in
+    (fault, subst (IsFault mode old.now.disk.seen) same (cause.0, cause.1), says_only-after (fault_line fault) old looked new cause.2 counts says)
+refuses_file mode (error.Damaged place) fault old looked new is cause counts says =
+    let same : Damaged place ≡ fault = let f : ◌≡◌ {A = Result FileFault Status} (Ok (Damaged place)) (Ok fault) = is in cc in
+    (fault, subst (IsFault mode old.now.disk.seen) same (cause.0, cause.1), says_only-after (fault_line fault) old looked new cause.2 counts says)
+refuses_file mode error.Failed fault old looked new is cause counts says = absurd (let f : ◌≡◌ {A = Result FileFault Status} (Err status.DiskFault) (Ok fault) = is in cc)
+refuses_file mode error.Memory fault old looked new is cause counts says = absurd (let f : ◌≡◌ {A = Result FileFault Status} (Err status.Memory) (Ok fault) = is in cc)
+
+-- the status of a run in which the store was not opened
+pub unopened : (mode : Mode) (cap : ℕ) (error : StartError) (s : Status) (old new : Outside) → fault_of error ≡ Err s → IsStartRefusal mode old new error → Opens old new → RanServing mode cap s old new
+unopened mode cap error.Failed s old new is cause opens =
+    let same : status.DiskFault ≡ s = let f : ◌≡◌ {A = Result FileFault Status} (Err status.DiskFault) (Err s) = is in cc in subst (λ (x : Status). RanServing mode cap x old new) same opens
+unopened mode cap error.Memory s old new is cause opens =
+    let same : status.Memory ≡ s = let f : ◌≡◌ {A = Result FileFault Status} (Err status.Memory) (Err s) = is in cc in
+    subst (λ (x : Status). RanServing mode cap x old new) same (silent_of old new cause)
+unopened mode cap error.Empty s old new is cause opens = absurd (let f : ◌≡◌ {A = Result FileFault Status} (Ok Empty) (Err s) = is in cc)
+unopened mode cap error.NotAStore s old new is cause opens = absurd (let f : ◌≡◌ {A = Result FileFault Status} (Ok NotAStore) (Err s) = is in cc)
+unopened mode cap (error.Damaged place) s old new is cause opens = absurd (let f : ◌≡◌ {A = Result FileFault Status} (Ok (Damaged place)) (Err s) = is in cc)
+
+pub unchecked : (error : StartError) (s : Status) (old new : Outside) → fault_of error ≡ Err s → Looks old new → RanChecking s old new
+unchecked error.Failed s old new is looks =
+    let same : status.DiskFault ≡ s = let f : ◌≡◌ {A = Result FileFault Status} (Err status.DiskFault) (Err s) = is in cc in
+    subst (λ (x : Status). RanChecking x old new) same (silent_of old new looks)
+unchecked error.Memory s old new is looks =
+    let same : status.Memory ≡ s = let f : ◌≡◌ {A = Result FileFault Status} (Err status.Memory) (Err s) = is in cc in
+    subst (λ (x : Status). RanChecking x old new) same (silent_of old new looks)
+unchecked error.Empty s old new is looks = absurd (let f : ◌≡◌ {A = Result FileFault Status} (Ok Empty) (Err s) = is in cc)
+unchecked error.NotAStore s old new is looks = absurd (let f : ◌≡◌ {A = Result FileFault Status} (Ok NotAStore) (Err s) = is in cc)
+unchecked (error.Damaged place) s old new is looks = absurd (let f : ◌≡◌ {A = Result FileFault Status} (Ok (Damaged place)) (Err s) = is in cc)
+
+-- a report that the output did not take whole
+pub unsaid_report : {E : Type 0} (report : Report) (old new : Outside) (error : E) → SaysAll {T = Unit {0}} (check_line report) old new (Err error) → SaysReport report status.SayFault old new
+unsaid_report report old new error says = (
+  take says.part (check_line report),
+  says_part (check_line report) old new (Err error) says,
+  omega (arith, length-take-le says.part (check_line report) says.within, says.err),
+)

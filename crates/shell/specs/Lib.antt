@@ -1,4 +1,4 @@
-pub mod Words
+pub mod Faults
+pub mod Ran
 pub mod Said
 pub mod Statuses
-pub mod Ran

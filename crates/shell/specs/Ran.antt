@@ -1,27 +1,85 @@
 -- What each status of a run says of the bytes taken and said, and of what a crash would have left.
-use Rattle.std.specs.Prelude.{◌≡◌, ◌≢◌, ℕ, ◌<◌, ◌≤◌, Bool, true, false, List, [], length, ◌⊎◌}
+use Rattle.std.specs.Prelude.{◌≡◌, ◌≢◌, ℕ, ◌<◌, ◌≤◌, List, [], length, ◌⊎◌}
+use Rattle.command_line.specs.Words.{AsksFor, AsksForSome}
+use Rattle.command_line.specs.declared.job.Job.{Job}
+use Rattle.command_line.specs.declared.job.Task.{Task}
+use Rattle.command_line.specs.declared.job.Task.TheVariants.{Serve, Check}
+use Rattle.host_io.specs.Calls.{Rose, StandsStill}
 use Rattle.host_io.specs.Outside.{Outside}
-use Rattle.host_io.specs.Calls.{Rose}
 use Rattle.lines.specs.declared.serving.End.{End}
 use Rattle.lines.specs.declared.serving.End.TheVariants.{Done as all_done, TakeFault as take_fault, SayFault as say_fault, TooMuch as too_much}
 use Rattle.lines.specs.Lines.{max_budget}
-use Rattle.lines.specs.Served.{Serves}
-use Rattle.session.specs.World.{World, new_world}
+use Rattle.lines.specs.Served.{Serves, state_of}
+use Rattle.recovery.specs.Commits.{Commit}
+use Rattle.recovery.specs.Standing.{StandsFor}
+use Rattle.session.specs.Starting.{StartsAs}
 use Rattle.session.specs.Step.{machine}
+use Rattle.session.specs.World.{World}
+use Rattle.storage.specs.Spaces.{Reports}
+use Rattle.storage.specs.declared.mode.Mode.{Mode}
+use Rattle.storage.specs.declared.mode.Mode.TheVariants.{Read}
+use Rattle.storage.specs.declared.space.Report.{Report}
+use Rattle.shell.specs.Faults.{IsFault}
+use Rattle.shell.specs.Said.{IsSilent, SaysOnly, SaysPart, check_line, fault_line, greeting_line, usage_line}
+use Rattle.shell.specs.declared.fault.FileFault.{FileFault}
 use Rattle.shell.specs.declared.status.Status.{Status}
 use Rattle.shell.specs.declared.status.Status.TheVariants.{Done, Usage, Refused, TakeFault, SayFault, Memory, TooMuch, DiskFault}
-use Rattle.shell.specs.Words.{AreWords, usage_line}
-use Rattle.shell.specs.Said.{greeting_line, not_empty_line, SaysOnly, SaysPart, IsSilent}
 
--- The file was empty and the greeting was said whole. From then on lines were served, up to this end, from the world of
--- an empty file: what was taken, answered and said, and what a crash at any moment since the greeting would have left, are
--- those of a run of the session over the lines of the bytes taken.
-pub record Answers (end : End) (old new : Outside) : Type 0 where
-  pub empty : old.now.disk.seen ≡ []
+-- The file is attached and opened: nothing is said or taken, and a file that is not empty is read alone.
+pub record Opens (old opened : Outside) : Type 0 where
+  pub said : opened.now.said ≡ old.now.said
+  pub input : opened.input ≡ old.input
+  pub untouched : old.now.disk.seen ≢ [] → StandsStill old opened
+
+-- A session was started from what the file stands for, or from a store that was made in an empty file.
+pub record Starts (mode : Mode) (cap : ℕ) (old opened : Outside) (world : World) : Type 0 where
+  pub opens : Opens old opened
+  pub starts : StartsAs mode cap old.now.disk.seen (state_of world opened)
+
+-- The greeting was said whole, and names the commit that is kept. From then on lines were served, up to this end: what was taken, answered
+-- and said, and what a crash at any moment since the greeting would have left, are those of a run of the session over the lines of the
+-- bytes taken.
+pub record ServesFrom (world : World) (end : End) (old new : Outside) : Type 0 where
   pub greeted : Outside
-  pub greeting : SaysPart (greeting_line 0) (greeting_line 0) old greeted
+  pub greeting : SaysPart (greeting_line world.store.kept.number) (greeting_line world.store.kept.number) old greeted
   pub last : World
-  pub serves : Serves machine max_budget end new_world last greeted new
+  pub serves : Serves machine max_budget end world last greeted new
+
+-- the output failed within the greeting
+pub record GreetsInPart (world : World) (old new : Outside) : Type 0 where
+  pub said : List ℕ
+  pub part : SaysPart (greeting_line world.store.kept.number) said old new
+  pub short : length said < length (greeting_line world.store.kept.number)
+
+-- what each status says of a run that began with this world
+abbrev pub RanFrom : World → Status → Outside → Outside → Type 0
+RanFrom world Done old new = ServesFrom world all_done old new
+RanFrom world TakeFault old new = ServesFrom world take_fault old new
+RanFrom world TooMuch old new = ServesFrom world too_much old new
+RanFrom world SayFault old new = GreetsInPart world old new ⊎ ServesFrom world say_fault old new
+RanFrom world Usage old new = ⊥
+RanFrom world Refused old new = ⊥
+RanFrom world Memory old new = ⊥
+RanFrom world DiskFault old new = ⊥
+
+-- The file was opened, and a run began with what it stands for.
+pub record Answers (mode : Mode) (cap : ℕ) (status : Status) (old new : Outside) : Type 0 where
+  pub opened : Outside
+  pub world : World
+  pub starts : Starts mode cap old opened world
+  pub ran : RanFrom world status opened new
+
+-- a report was said, or a front of it where the output failed
+abbrev pub SaysReport : Report → Status → Outside → Outside → Type 0
+SaysReport report Done old new = SaysPart (check_line report) (check_line report) old new
+SaysReport report SayFault old new = (said : List ℕ) × SaysPart (check_line report) said old new × (length said < length (check_line report))
+SaysReport report _ old new = ⊥
+
+-- the file was looked at as a whole, and a report on it was said
+pub record Checks (status : Status) (old new : Outside) : Type 0 where
+  pub report : Report
+  pub reports : Reports old.now.disk.seen report
+  pub says : SaysReport report status old new
 
 -- Lines were served from this world up to the end that the status tells.
 abbrev pub ServesAs : Status → ℕ → World → World → Outside → Outside → Type 0
@@ -34,33 +92,64 @@ ServesAs Refused budget world after old new = ⊥
 ServesAs Memory budget world after old new = ⊥
 ServesAs DiskFault budget world after old new = ⊥
 
--- the file was empty, and the output failed within the greeting
-pub record GreetsInPart (old new : Outside) : Type 0 where
-  pub empty : old.now.disk.seen ≡ []
-  pub said : List ℕ
-  pub part : SaysPart (greeting_line 0) said old new
-  pub short : length said < length (greeting_line 0)
+-- the file is refused, and the line that is said names why
+abbrev pub RefusesFile : Mode → Outside → Outside → Type 0
+RefusesFile mode old new = (fault : FileFault) × IsFault mode old.now.disk.seen fault × SaysOnly (fault_line fault) old new
 
--- what is told of a file that was attached: whether it has no bytes
-abbrev pub AttachesEmpty : Bool → List ℕ → Type 0
-AttachesEmpty true bytes = bytes ≡ []
-AttachesEmpty false bytes = bytes ≢ []
+-- a run that serves lines
+abbrev pub RanServing : Mode → ℕ → Status → Outside → Outside → Type 0
+RanServing mode cap Usage old new = ⊥
+RanServing mode cap Refused old new = RefusesFile mode old new
+RanServing mode cap Memory old new = IsSilent old new
+RanServing mode cap DiskFault old new = Opens old new
+RanServing mode cap Done old new = Answers mode cap Done old new
+RanServing mode cap TakeFault old new = Answers mode cap TakeFault old new
+RanServing mode cap TooMuch old new = Answers mode cap TooMuch old new
+RanServing mode cap SayFault old new = Answers mode cap SayFault old new
 
-abbrev pub Ran : Status → Outside → Outside → Type 0
-Ran Usage old new = SaysOnly usage_line old new
-Ran Refused old new = (old.now.disk.seen ≢ []) × SaysOnly not_empty_line old new
-Ran Memory old new = IsSilent old new
-Ran DiskFault old new = IsSilent old new
-Ran Done old new = Answers all_done old new
-Ran TakeFault old new = Answers take_fault old new
-Ran TooMuch old new = Answers too_much old new
-Ran SayFault old new = GreetsInPart old new ⊎ Answers say_fault old new
+-- a run that looks at the file as a whole, and leaves it as it is
+abbrev pub RanChecking : Status → Outside → Outside → Type 0
+RanChecking Usage old new = ⊥
+RanChecking Refused old new = RefusesFile Read old new
+RanChecking Memory old new = IsSilent old new
+RanChecking DiskFault old new = IsSilent old new
+RanChecking Done old new = Checks Done old new
+RanChecking TakeFault old new = ⊥
+RanChecking TooMuch old new = ⊥
+RanChecking SayFault old new = Checks SayFault old new
 
--- A run in which nothing can go wrong but memory: the words are right, the file is empty, no call fails, and no more
--- bytes come than may be taken.
+abbrev pub RanAs : Task → Mode → ℕ → Status → Outside → Outside → Type 0
+RanAs Serve mode cap status old new = RanServing mode cap status old new
+RanAs Check mode cap status old new = RanChecking status old new
+
+-- the words ask for a job, and this is what came of it
+pub record RanFor (words : List (List ℕ)) (status : Status) (old new : Outside) : Type 0 where
+  pub job : Job
+  pub asks : AsksFor words job
+  pub ran : RanAs job.task job.mode job.cap status old new
+
+-- Where memory is wanting nothing is said, whatever the words.
+abbrev pub Ran : List (List ℕ) → Status → Outside → Outside → Type 0
+Ran words Usage old new = (¬ AsksForSome words) × SaysOnly usage_line old new
+Ran words Memory old new = IsSilent old new
+Ran words Refused old new = RanFor words Refused old new
+Ran words DiskFault old new = RanFor words DiskFault old new
+Ran words Done old new = RanFor words Done old new
+Ran words TakeFault old new = RanFor words TakeFault old new
+Ran words TooMuch old new = RanFor words TooMuch old new
+Ran words SayFault old new = RanFor words SayFault old new
+
+-- a file with which nothing is wrong: one that stands for a commit, or to serve lines from an empty one that may be written
+abbrev pub MayOpen : Task → Mode → List ℕ → Type 0
+MayOpen Serve mode file = ((file ≡ []) × (mode ≢ Read)) ⊎ ((c : Commit) × StandsFor file c)
+MayOpen Check mode file = (c : Commit) × StandsFor file c
+
+-- A run in which nothing can go wrong but memory: the words are right, the file may be opened, no call fails, and no more bytes come
+-- than may be taken.
 pub record GoesWell (words : List (List ℕ)) (old new : Outside) : Type 0 where
-  pub right : AreWords words
-  pub empty : old.now.disk.seen ≡ []
+  pub job : Job
+  pub right : AsksFor words job
+  pub opens : MayOpen job.task job.mode old.now.disk.seen
   pub disk : ¬ Rose old.disk_faults new.disk_faults
   pub takes : ¬ Rose old.take_faults new.take_faults
   pub says : ¬ Rose old.say_faults new.say_faults

@@ -3,14 +3,31 @@ use Rattle.std.specs.Prelude.{◌≡◌, ℕ, List, [], ◌∷◌, ◌++◌, cod
 use Rattle.host_io.specs.Outside.{Outside}
 use Rattle.host_io.specs.Calls.{Rose}
 use Rattle.lines.specs.Lines.{newline}
+use Rattle.storage.specs.declared.space.Report.{Report}
+use Rattle.shell.specs.declared.fault.FileFault.{FileFault}
+use Rattle.shell.specs.declared.fault.FileFault.TheVariants.{Empty, NotAStore, Damaged}
 
--- a file that is not empty is refused
-abbrev pub not_empty_line : List ℕ
-not_empty_line = codes "refused notempty" ++ newline ∷ []
+abbrev pub usage_line : List ℕ
+usage_line = codes "usage mkshell [--cap N] [--extend] [--read] [--check] [--sample X --count N] FILE" ++ newline ∷ []
+
+-- why a file is not served
+abbrev pub fault_line : FileFault → List ℕ
+fault_line Empty = codes "refused empty" ++ newline ∷ []
+fault_line NotAStore = codes "refused notastore" ++ newline ∷ []
+fault_line (Damaged place) = codes "refused damaged " ++ (decimal place ++ newline ∷ [])
 
 -- the greeting names the number of the commit that was opened
 abbrev pub greeting_line : ℕ → List ℕ
-greeting_line number = codes "ok mkshell " ++ decimal number ++ newline ∷ []
+greeting_line number = codes "ok mkshell " ++ (decimal number ++ newline ∷ [])
+
+-- numbers, each behind a space
+abbrev pub spaced : List ℕ → List ℕ
+spaced [] = []
+spaced (number ∷ numbers) = codes " " ++ (decimal number ++ spaced numbers)
+
+-- what a file was found to have: the number of its commit, its end, the bytes in use, its views and its blocks
+abbrev pub check_line : Report → List ℕ
+check_line r = codes "ok check" ++ (spaced (r.space.number ∷ r.space.end ∷ r.space.used ∷ r.views ∷ r.blocks ∷ []) ++ newline ∷ [])
 
 -- this front of a line was said and nothing else; nothing was taken, and the disk is as it was
 pub record SaysPart (line front : List ℕ) (old new : Outside) : Type 0 where

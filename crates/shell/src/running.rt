@@ -1,40 +1,48 @@
-ghost use Rattle.std.specs.Prelude.{◌≡◌, ◌⊎◌, ◌≢◌, ◌+◌, ◌≤◌, ◌↔◌, [], map, IfOk, IfErr, OnErr, OnOk, IsErr};
+ghost use Rattle.std.specs.Prelude.{◌≡◌, ◌⊎◌, ◌≢◌, ◌<◌, ◌^◌, IfOk, OnOk};
+ghost use Rattle.command_line.specs.Words.{AsksForSome, texts_of};
+ghost use Rattle.host_io.specs.Calls.{CountsDisk, CountsSay, Looks, Rose};
 ghost use Rattle.host_io.specs.Disk.{IsSettled};
 ghost use Rattle.host_io.specs.Outside.{Outside};
-ghost use Rattle.host_io.specs.Calls.{CountsDisk, Looks, Rose};
+ghost use Rattle.lines.specs.Crash.{IsReady};
 ghost use Rattle.lines.specs.Rooms.{IsClear};
-ghost use Rattle.shell.specs.Words.{AreWords, texts_of};
-ghost use Rattle.shell.specs.Ran.{Ran, GoesWell, AttachesEmpty, IsServed};
+ghost use Rattle.lines.specs.Served.{state_of};
+ghost use Rattle.lines.specs.Spoken.{SaysAll};
+ghost use Rattle.session.specs.Step.{machine};
+ghost use Rattle.shell.specs.Ran.{GoesWell, IsServed, Ran, RanAs, RanFrom, RanServing};
+ghost use Rattle.shell.specs.Said.{greeting_line};
 
+use crate::checking::check_file;
+use crate::fault::fault_of;
+use crate::own_lines::write_greeting;
+use crate::refusing::refuse;
 use crate::rooms::Rooms;
 use crate::serving::serve;
 use crate::status::Status;
-use crate::words::file_name;
+use command_line::{Job, Task, WordsError, read_words};
 use host_io::{Failed, Host};
 use lines::{MAX_BUDGET, say_all};
-use session::Session;
+use mk_value::Text;
+use session::{Session, start};
 use std::alloc::Global;
+use storage::Mode;
 
 /// What is said where the words are no command line.
 const USAGE: &str =
     "usage mkshell [--cap N] [--extend] [--read] [--check] [--sample X --count N] FILE\n";
 
-/// What is said where the file is not empty.
-const NOT_EMPTY: &str = "refused notempty\n";
-
-/// What is said before the first line is answered.
-const GREETING: &str = "ok mkshell 0\n";
-
-/// Runs the program. `words` are its own name and the name of a file, which is made where it is absent; the lines of the
-/// input are then answered one by one. A file that is not empty is refused, and left as it is.
+/// Runs the program. `words` are its own name, options and the name of a file, which is made where it is absent and may be written. The
+/// store of the file is opened, or made where the file is empty; its number is said, and the lines of the input are answered one by
+/// one. With `--check` the file is looked at as a whole, and a report is said. A file that is neither empty nor a store is refused, and
+/// left as it is.
 ///
 /// All memory that serving takes for itself is taken before the file is attached.
 pub fn run<H: Host>(alloc: Global, words: &[&str], host: &mut H) -> Status
     // Nothing waits for a sync when the program starts.
     requires settled { H.tells → IsSettled (H.outside host.old).now.disk }
 
-    ensures ran { H.tells → Ran result (H.outside host.old) (H.outside host.new) }
-    ensures usage { (result ≡ Status.Usage) ↔ (¬ AreWords (texts_of words.now)) }
+    ensures ran { H.tells → Ran (texts_of words.now) result (H.outside host.old) (H.outside host.new) }
+    ensures usage { result ≡ Status.Usage → ¬ AsksForSome (texts_of words.now) }
+    ensures asks_for_none { (¬ AsksForSome (texts_of words.now)) → (result ≡ Status.Usage) ⊎ (result ≡ Status.Memory) }
 
     // A fault is told only where one came.
     ensures take_fault { result ≡ Status.TakeFault → Rose (H.outside host.old).take_faults (H.outside host.new).take_faults }
@@ -45,54 +53,99 @@ pub fn run<H: Host>(alloc: Global, words: &[&str], host: &mut H) -> Status
     ensures complete { H.tells → GoesWell (texts_of words.now) (H.outside host.old) (H.outside host.new)
         → (result ≡ Status.Done) ⊎ (result ≡ Status.Memory) }
 {
-    let Some(file) = file_name(words) else {
-        let _ = say_all(host, USAGE.as_bytes());
-        return Status::Usage;
-    };
+    command_line::words_ask_for_one_job();
+    match read_words(alloc, words) {
+        Ok(job) => run_job(alloc, &job, host),
+        Err(WordsError::Usage) => {
+            let _ = say_all(host, USAGE.as_bytes());
+            Status::Usage
+        }
+        Err(WordsError::Memory) => Status::Memory,
+    }
+}
+
+/// Does what the words ask for.
+fn run_job<H: Host>(alloc: Global, job: &Job, host: &mut H) -> Status
+    requires settled { H.tells → IsSettled (H.outside host.old).now.disk }
+    requires capped { job.now.cap < 2 ^ 63 }
+    ensures ran { H.tells → RanAs job.now.task job.now.mode job.now.cap result (H.outside host.old) (H.outside host.new) }
+    ensures right { result ≢ Status.Usage }
+    ensures take_fault { result ≡ Status.TakeFault → Rose (H.outside host.old).take_faults (H.outside host.new).take_faults }
+    ensures say_fault { result ≡ Status.SayFault → Rose (H.outside host.old).say_faults (H.outside host.new).say_faults }
+    ensures disk_fault { result ≡ Status.DiskFault → Rose (H.outside host.old).disk_faults (H.outside host.new).disk_faults }
+{
     let Ok(mut rooms) = Rooms::new(alloc) else {
         return Status::Memory;
     };
-    match attach_empty(host, file) {
-        Ok(true) => greet_and_serve(alloc, &mut rooms, host),
-        Ok(false) => {
-            let _ = say_all(host, NOT_EMPTY.as_bytes());
-            Status::Refused
-        }
-        Err(Failed) => Status::DiskFault,
+    if attach(job, host).is_err() {
+        return Status::DiskFault;
+    }
+    match job.task {
+        Task::Serve => serve_file(alloc, job.mode, job.cap, &mut rooms, host),
+        Task::Check => check_file(alloc, &mut rooms.reply, host),
     }
 }
 
-/// Attaches the file, and tells whether it is empty.
-fn attach_empty<H: Host>(host: &mut H, file: &str) -> Result<bool, Failed>
+/// Attaches the file of a job, which is made where it is absent and may be written.
+fn attach<H: Host>(job: &Job, host: &mut H) -> Result<(), Failed>
     ensures counts { CountsDisk (H.outside host.old) (H.outside host.new) result }
     ensures same { H.tells → Looks (H.outside host.old) (H.outside host.new) }
-    ensures empty { H.tells → IfOk result (λ empty. AttachesEmpty empty (H.outside host.old).now.disk.seen) }
 {
-    host.attach(file, true)?;
-    Ok(host.len()? == 0)
+    host.attach(job.file.as_str(), job.mode != Mode::Read)
 }
 
-/// Greets, and answers the lines of the input.
-fn greet_and_serve<H: Host>(alloc: Global, rooms: &mut Rooms, host: &mut H) -> Status
+/// Opens the store of the file or makes one, greets, and answers the lines of the input.
+fn serve_file<H: Host>(
+    alloc: Global,
+    mode: Mode,
+    cap: u64,
+    rooms: &mut Rooms,
+    host: &mut H,
+) -> Status
     requires line { IsClear rooms.old.line }
     requires reply { IsClear rooms.old.reply }
     requires settled { H.tells → IsSettled (H.outside host.old).now.disk }
-    requires empty { H.tells → (H.outside host.old).now.disk.seen ≡ [] }
-
-    ensures ran { H.tells → Ran result (H.outside host.old) (H.outside host.new) }
+    requires capped { cap < 2 ^ 63 }
+    ensures ran { H.tells → RanServing mode cap result (H.outside host.old) (H.outside host.new) }
+    ensures right { result ≢ Status.Usage }
     ensures take_fault { result ≡ Status.TakeFault → Rose (H.outside host.old).take_faults (H.outside host.new).take_faults }
     ensures say_fault { result ≡ Status.SayFault → Rose (H.outside host.old).say_faults (H.outside host.new).say_faults }
-    ensures status { IsServed result }
+    ensures disk_fault { result ≡ Status.DiskFault → Rose (H.outside host.old).disk_faults (H.outside host.new).disk_faults }
 {
-    if say_all(host, GREETING.as_bytes()).is_err() {
+    match start(alloc, host, mode, cap) {
+        Ok(mut session) => greet_and_serve(&mut session, rooms, host),
+        Err(error) => match fault_of(error) {
+            Ok(fault) => refuse(fault, &mut rooms.reply, host),
+            Err(status) => status,
+        },
+    }
+}
+
+/// Greets, and answers the lines of the input.
+fn greet_and_serve<H: Host>(session: &mut Session, rooms: &mut Rooms, host: &mut H) -> Status
+    requires line { IsClear rooms.old.line }
+    requires reply { IsClear rooms.old.reply }
+    requires ready { H.tells → IsReady machine (state_of session.old (H.outside host.old)) }
+    ensures ran { H.tells → RanFrom session.old result (H.outside host.old) (H.outside host.new) }
+    ensures status { IsServed result }
+    ensures take_fault { result ≡ Status.TakeFault → Rose (H.outside host.old).take_faults (H.outside host.new).take_faults }
+    ensures say_fault { result ≡ Status.SayFault → Rose (H.outside host.old).say_faults (H.outside host.new).say_faults }
+{
+    if greet(session.number(), &mut rooms.reply, host).is_err() {
         return Status::SayFault;
     }
-    let mut session = Session::new(alloc);
-    serve(
-        &mut session,
-        host,
-        &mut rooms.line,
-        &mut rooms.reply,
-        MAX_BUDGET,
-    )
+    serve(session, host, &mut rooms.line, &mut rooms.reply, MAX_BUDGET)
+}
+
+/// Says the greeting, which names the number of a commit.
+fn greet<H: Host>(number: u64, out: &mut Text, host: &mut H) -> Result<(), Failed>
+    requires { IsClear out.old }
+    ensures clear { IsClear out.new }
+    ensures counts { CountsSay (H.outside host.old) (H.outside host.new) result }
+    ensures says { H.tells → SaysAll (greeting_line number) (H.outside host.old) (H.outside host.new) result }
+{
+    write_greeting(number, out);
+    let said = say_all(host, out.as_str().as_bytes());
+    out.clear();
+    said
 }

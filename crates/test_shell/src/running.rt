@@ -7,13 +7,16 @@ ghost use Rattle.lines.specs.Served.{state_of};
 use host_io::{Effect, Fault, Host, MemHost};
 use lines::{Flow, MAX_LINE, Session as LineSession};
 use mk_value::{Bytes, Memory, Text};
-use session::Session;
+use session::start;
 use shell::{Status, run, serve};
 use std::alloc::Global;
 use std::process::Abort;
 use std::test::Fail;
+use storage::Mode;
 
-const ROOM: usize = 4096;
+const ROOM: usize = 16_384;
+
+const CAP: u64 = 4096;
 
 /// The words, the file, the input, the call that fails, the most bytes of a piece; the status, and what was said.
 type Case = (
@@ -40,7 +43,23 @@ const CUT: &[u8] = b"getas a[x:I]\n\n  getas  b[s[t:S]] \nadd a 1\n\xff\nquit";
 
 const SAID: &[u8] = b"ok mkshell 0\nok a[x:I]\nok b[s[t:S]]\nok 0\nerr 2 syntax 0\nok quit\n";
 
-const CASES: [Case; 15] = [
+const SPACES: &[u8] =
+    b"getas c[v:I]\ninsert c 0 64\ncommit\nspace\nset c 0 v 1\ncommit\nspace\nset c 0 v 15\ncommit\nspace\n\
+set c 0 v 32768\ncommit\nspace\nset c 0 v 0\ncommit\nspace\n";
+
+const SPACES_SAID: &[u8] =
+    b"ok mkshell 0\nok c[v:I]\nok 64\nok commit 1\nok space 1 256 48\nok\nok commit 2\nok space 2 304 64\nok\n\
+ok commit 3\nok space 3 352 80\nok\nok commit 4\nok space 4 608 304\nok\nok commit 5\nok space 5 608 48\n";
+
+const CAPPED: &[u8] =
+    b"getas c[v:I]\ninsert c 0 64\ncommit\nset c 0 v 1\ncommit\nset c 0 v 15\ncommit\nset c 0 v 32768\ncommit\n\
+set c 0 v 0\ncommit\ninsert c 64 4000 1\ncommit\nremove c 0 4064\ncommit\n";
+
+const CAPPED_SAID: &[u8] =
+    b"ok mkshell 0\nok c[v:I]\nok 64\nok commit 1\nok\nok commit 2\nok\nok commit 3\nok\nok commit 4\nok\nok commit 5\n\
+ok 4064\nerr 10 full 800 608\nok 0\nok commit 6\n";
+
+const CASES: [Case; 21] = [
     (
         RIGHT,
         b"",
@@ -58,7 +77,36 @@ const CASES: [Case; 15] = [
         NEVER,
         0,
         Status::Refused,
-        b"refused notempty\n",
+        b"refused notastore\n",
+    ),
+    (
+        &["mkshell", "--read", "f"],
+        b"",
+        QUIT,
+        NEVER,
+        0,
+        Status::Refused,
+        b"refused empty\n",
+    ),
+    (
+        &["mkshell", "--check", "f"],
+        b"",
+        QUIT,
+        NEVER,
+        0,
+        Status::Refused,
+        b"refused empty\n",
+    ),
+    // Commits that change one column, of 64 values that take more bits and fewer again.
+    (RIGHT, b"", SPACES, NEVER, 0, Status::Done, SPACES_SAID),
+    (
+        &["mkshell", "--cap", "608", "f"],
+        b"",
+        CAPPED,
+        NEVER,
+        0,
+        Status::Done,
+        CAPPED_SAID,
     ),
     (&[], b"", QUIT, NEVER, 0, Status::Usage, USAGE),
     (&["mkshell"], b"", QUIT, NEVER, 0, Status::Usage, USAGE),
@@ -72,12 +120,14 @@ const CASES: [Case; 15] = [
         Status::Usage,
         USAGE,
     ),
-    // The file is attached by call 0 and measured by call 1.
+    // The file is attached by call 0, measured by call 1, written by call 2 and synced by call 3.
     (RIGHT, b"", QUIT, 0, 0, Status::DiskFault, b""),
     (RIGHT, b"", QUIT, 1, 0, Status::DiskFault, b""),
-    // The greeting is said by call 2, and the input is taken by call 3.
-    (RIGHT, b"", QUIT, 2, 0, Status::SayFault, b""),
-    (RIGHT, b"", QUIT, 3, 0, Status::TakeFault, b"ok mkshell 0\n"),
+    (RIGHT, b"", QUIT, 2, 0, Status::DiskFault, b""),
+    (RIGHT, b"", QUIT, 3, 0, Status::DiskFault, b""),
+    // The greeting is said by call 4, and the input is taken by call 5.
+    (RIGHT, b"", QUIT, 4, 0, Status::SayFault, b""),
+    (RIGHT, b"", QUIT, 5, 0, Status::TakeFault, b"ok mkshell 0\n"),
     // The same lines, however they are cut.
     (RIGHT, b"", CUT, NEVER, 1, Status::Done, SAID),
     (RIGHT, b"", CUT, NEVER, 2, Status::Done, SAID),
@@ -132,9 +182,9 @@ fn answer<H: Host, S: LineSession<H>>(
 /// A line by itself.
 #[test]
 fn a_line_is_answered(rt: HostRuntime) -> Result<(), Fail> {
-    let mut session = Session::new(rt.alloc());
     let mut reply = Text::with_room(rt.alloc(), MAX_LINE + 1)?;
-    let mut host = MemHost::new(rt.alloc(), b"", b"", &[], 0, 0)?;
+    let mut host = MemHost::new(rt.alloc(), b"", b"", &[], 0, ROOM)?;
+    let mut session = start(rt.alloc(), &mut host, Mode::Write, CAP)?;
     let flow = answer(&mut session, &mut host, b"getas x[a:I]", &mut reply);
     assert!(rt; flow == Flow::Goes);
     assert_eq!(rt; reply.as_str(), "ok x[a:I]\n");
@@ -147,7 +197,7 @@ fn a_budget_is_kept(rt: HostRuntime) -> Result<(), Fail> {
     let mut host = MemHost::new(rt.alloc(), b"", b"size\nquit\n", &[], 0, ROOM)?;
     let mut room = Bytes::with_room(rt.alloc(), MAX_LINE + 1)?;
     let mut reply = Text::with_room(rt.alloc(), MAX_LINE + 1)?;
-    let mut session = Session::new(rt.alloc());
+    let mut session = start(rt.alloc(), &mut host, Mode::Write, CAP)?;
     let status = serve(&mut session, &mut host, &mut room, &mut reply, 5);
     assert_eq!(rt; status, Status::TooMuch);
     assert_eq!(rt; host.said(), b"err 2 syntax 4\n".as_slice());

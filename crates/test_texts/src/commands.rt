@@ -1,6 +1,6 @@
 //! Command lines, read or refused, and replies.
 use crate::shown;
-use cmd_text::{CmdError, Command, Refusal, Reply, Space, read_command, reply_text};
+use cmd_text::{CmdError, Command, Note, Refusal, Reply, Space, read_command, reply_text};
 use mk_value::{Literals, Path, Text, Texts};
 use std::alloc::Global;
 use std::process::Abort;
@@ -39,6 +39,22 @@ fn described(alloc: Global, command: &Command) -> Result<String, Fail> {
             Ok(format!(in alloc; "show {path}")?)
         }
         Command::Quit => Ok(String::from_str(alloc, "quit")?),
+        _ => shown_of_store(alloc, command),
+    }
+}
+
+/// What is asked of the store, and any other command.
+fn shown_of_store(alloc: Global, command: &Command) -> Result<String, Fail> {
+    match command {
+        Command::Commit(note) => {
+            let note = note.as_text().as_str();
+            Ok(format!(in alloc; "commit '{note}'")?)
+        }
+        Command::Log => Ok(String::from_str(alloc, "log")?),
+        Command::Rollback => Ok(String::from_str(alloc, "rollback")?),
+        Command::Reopen => Ok(String::from_str(alloc, "reopen")?),
+        Command::Revert => Ok(String::from_str(alloc, "revert")?),
+        Command::Space => Ok(String::from_str(alloc, "space")?),
         _ => shown_edit(alloc, command),
     }
 }
@@ -112,6 +128,129 @@ fn each_command_reads(rt: HostRuntime) -> Result<(), Fail> {
     all_read(&rt, rt.alloc(), &COMMANDS)
 }
 
+const STORE_COMMANDS: [(&str, &str); 10] = [
+    ("commit", "commit ''"),
+    ("commit \"\"", "commit ''"),
+    (" commit\"\"  ", "commit ''"),
+    ("commit \"first try\"", "commit 'first try'"),
+    ("  commit   \"\\\"\\\\\\n\u{fc}\" ", "commit '\"\\\n\u{fc}'"),
+    ("log", "log"),
+    ("rollback", "rollback"),
+    (" reopen", "reopen"),
+    ("revert  ", "revert"),
+    ("space", "space"),
+];
+
+#[test]
+fn each_command_of_the_store_reads(rt: HostRuntime) -> Result<(), Fail> {
+    all_read(&rt, rt.alloc(), &STORE_COMMANDS)
+}
+
+const BEHIND_COMMIT: [(&str, &str); 12] = [
+    ("commit 5", "syntax 7"),
+    ("commit first", "syntax 7"),
+    ("commit commit", "syntax 7"),
+    ("commit x\"61\"", "syntax 7"),
+    ("commit {}", "syntax 7"),
+    ("commit \"a\" \"b\"", "syntax 11"),
+    ("commit \"\" \"\"", "syntax 10"),
+    ("commit \"\" 1", "syntax 10"),
+    ("commit \"a\" %", "syntax 11"),
+    ("commit 5 %", "syntax 9"),
+    ("commit \"a", "syntax 7"),
+    ("commit \"\\t\"", "syntax 7"),
+];
+
+#[test]
+fn behind_commit_stands_one_note_at_most(rt: HostRuntime) -> Result<(), Fail> {
+    all_read(&rt, rt.alloc(), &BEHIND_COMMIT)
+}
+
+const BEHIND_OTHERS: [(&str, &str); 9] = [
+    ("log x", "syntax 4"),
+    ("log \"\"", "syntax 4"),
+    ("log 1 %", "syntax 6"),
+    ("rollback 1", "syntax 9"),
+    ("reopen  now", "syntax 8"),
+    ("revert 2", "syntax 7"),
+    ("space t", "syntax 6"),
+    ("commits", "syntax 0"),
+    ("Log", "syntax 0"),
+];
+
+#[test]
+fn behind_the_others_stands_nothing(rt: HostRuntime) -> Result<(), Fail> {
+    all_read(&rt, rt.alloc(), &BEHIND_OTHERS)
+}
+
+/// A piece so many times.
+fn repeated(alloc: Global, piece: &str, times: usize) -> Result<String, Fail> {
+    let mut out = String::new(alloc);
+    for _ in 0..times {
+        out.push_str(piece)?;
+    }
+    Ok(out)
+}
+
+/// What the line reads as that gives a note in which a piece is written so many times.
+fn committing(alloc: Global, piece: &str, times: usize) -> Result<String, Fail> {
+    let written = repeated(alloc, piece, times)?;
+    reading(alloc, format!(in alloc; "commit \"{written}\"")?.as_bytes())
+}
+
+#[test]
+fn a_note_has_255_bytes_at_most(rt: HostRuntime) -> Result<(), Fail> {
+    let alloc = rt.alloc();
+    let table = [
+        ("a", 255, "a"),
+        ("\\\"", 255, "\""),
+        ("\\\\", 255, "\\"),
+        ("\\n", 255, "\n"),
+        ("\u{fc}", 127, "\u{fc}"),
+    ];
+    for (piece, times, character) in table {
+        let note = repeated(alloc, character, times)?;
+        assert_eq!(rt;
+            committing(alloc, piece, times)?.as_str(),
+            format!(in alloc; "commit '{note}'")?.as_str()
+        );
+    }
+    Ok(())
+}
+
+#[test]
+fn a_longer_note_is_refused_at_its_start(rt: HostRuntime) -> Result<(), Fail> {
+    let alloc = rt.alloc();
+    let table = [
+        ("a", 256),
+        ("\\\"", 256),
+        ("\\\\", 256),
+        ("\\n", 256),
+        ("\u{fc}", 128),
+        ("a", 4096),
+    ];
+    for (piece, times) in table {
+        assert_eq!(rt; committing(alloc, piece, times)?.as_str(), "syntax 7");
+    }
+    let note = repeated(alloc, "a", 256)?;
+    let line = format!(in alloc; "commit \"{note}\" 1 %")?;
+    assert_eq!(rt; reading(alloc, line.as_bytes())?.as_str(), "syntax 268");
+    Ok(())
+}
+
+#[test]
+fn notes_are_made_of_texts(rt: HostRuntime) -> Result<(), Fail> {
+    let alloc = rt.alloc();
+    let text = Text::from_str(alloc, "first")?;
+    assert!(rt; Note::is_note(text.as_str()));
+    assert!(rt; !Note::is_note("a\0b"));
+    if Note::is_note(text.as_str()) {
+        assert_eq!(rt; Note::of(text).as_text().as_str(), "first");
+    }
+    assert_eq!(rt; Note::none(alloc).as_text().as_str(), "");
+    Ok(())
+}
+
 const VALUES: [(&str, &str); 7] = [
     ("add t", "add t"),
     ("add t 1\"x\"", "add t 1 'x'"),
@@ -130,8 +269,10 @@ fn values_are_literals_side_by_side(rt: HostRuntime) -> Result<(), Fail> {
     all_read(&rt, rt.alloc(), &VALUES)
 }
 
-const NAMES: [(&str, &str); 4] = [
+const NAMES: [(&str, &str); 6] = [
     ("size quit", "size quit"),
+    ("drop commit", "drop commit"),
+    ("add log/0/revert \"space\"", "add log/0/revert 'space'"),
     ("show struct/0/getas", "show struct/0/getas"),
     ("drop drop", "drop drop"),
     ("set set 0 set 1", "set set 0 set 1"),
@@ -262,6 +403,7 @@ fn replies_have_their_texts(rt: HostRuntime) -> Result<(), Fail> {
         (Reply::Commit(1), "ok commit 1\n"),
         (Reply::Rollback(1), "ok rollback 1\n"),
         (Reply::Reopen(2), "ok reopen 2\n"),
+        (Reply::Revert(3), "ok revert 3\n"),
         (Reply::Space(space), "ok space 4 608 304\n"),
         (Reply::Quit, "ok quit\n"),
     ];

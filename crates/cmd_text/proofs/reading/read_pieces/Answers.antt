@@ -4,7 +4,7 @@ use Rattle.tokens.specs.Meanings.{piece_of, pieces_of}
 use Rattle.cmd_text.specs.Forms.{RefusesCommand}
 use Rattle.cmd_text.specs.declared.error.CmdError.TheVariants.{Syntax}
 use Rattle.cmd_text.proofs.Commands.{refuses_command, refuses_first}
-use Rattle.cmd_text.proofs.Words.{is_a_verb, is_alone, is_bare}
+use Rattle.cmd_text.proofs.Words.{is_a_verb, is_bare}
 use Rattle.cmd_text.proofs.reading.read_pieces.Goals as goal
 
 pub returns-in_err-verb-clause-refused : goal.returns-in_err-verb-clause-refused
@@ -27,6 +27,4 @@ returns-in_err-verb-clause-in_place c =
 
 pub returns-clause-in_place : goal.returns-clause-in_place
 returns-clause-in_place c =
-    λ command one spells. c.read_arguments.ensures.in_place
-    (is_bare _ _ _ command _ c.in-Some.ensures.cases.0 c.in_ok-verb.ensures.known one spells)
-    (is_alone _ _ _ command c.in-Some.ensures.cases.0 one spells)
+    λ command one spells. c.read_arguments.ensures.in_place (is_bare _ _ _ command _ c.in-Some.ensures.cases.0 c.in_ok-verb.ensures.known one spells)

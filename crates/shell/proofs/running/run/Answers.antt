@@ -1,17 +1,22 @@
--- The lines that are said in place of serving.
-use Rattle.std.proofs.Common.{◌≡◌}
-use Rattle.shell.specs.Words.{usage_line}
-use Rattle.shell.specs.Said.{not_empty_line}
-use Rattle.shell.proofs.Saying.{says_only, says_only-after}
+-- The lines that are said in place of serving, and a run in which nothing goes wrong.
+use Rattle.std.proofs.Common.{ap, Err}
+use Rattle.command_line.specs.Words.{texts_of}
+use Rattle.shell.specs.Said.{usage_line}
+use Rattle.shell.proofs.Completing.{completes, ran_job}
+use Rattle.shell.proofs.Saying.{says_only}
 use Rattle.shell.proofs.running.run.Goals as goal
 
-pub returns-in_default-clause-ran : goal.returns-in_default-clause-ran
-returns-in_default-clause-ran g c = λ tells.
-    says_only usage_line _ _ c.say_all.result (rw c.as_bytes.ensures.value at (c.say_all.ensures.says tells)) c.say_all.ensures.counts
+pub returns-in-Ok-clause-complete : goal.returns-in-Ok-clause-complete
+returns-in-Ok-clause-complete g c = λ tells.
+    let words = texts_of c.args.words.now in
+    let old = g.H.Disk.outside c.args.host.now in
+    let new = g.H.Disk.outside c.run_job.new.host in
+    let e = c.run_job.ensures in
+    completes words c.run_job.result old new (λ one other. c.words_ask_for_one_job.ensures words one other)
+    (ran_job words c.in-Ok.job c.run_job.result old new c.in-Ok.ensures.ok e.right (e.ran tells)) e.take_fault e.say_fault e.disk_fault
 
-pub returns-in-Ok-false-clause-ran : goal.returns-in-Ok-false-clause-ran
-returns-in-Ok-false-clause-ran g c = λ tells. (
-  rw c.in-Ok-false.field-0-test at (c.in-Ok-false.ensures.empty tells),
-  says_only-after not_empty_line _ _ _ c.attach_empty.result (c.in-Ok-false.ensures.same tells) c.attach_empty.ensures.counts
-      (says_only not_empty_line _ _ c.say_all-in-Ok-false.result (rw c.as_bytes-in-Ok-false.ensures.value at (c.say_all-in-Ok-false.ensures.says tells)) c.say_all-in-Ok-false.ensures.counts),
+pub returns-in-Err-Usage-clause-ran : goal.returns-in-Err-Usage-clause-ran
+returns-in-Err-Usage-clause-ran g c = λ tells. (
+  c.in-Err-Usage.ensures.usage (ap Err c.in-Err-Usage.field-0-is),
+  says_only usage_line (g.H.Disk.outside c.args.host.now) (g.H.Disk.outside c.say_all.new.host) c.say_all.result (rw c.as_bytes.ensures.value at (c.say_all.ensures.says tells)) c.say_all.ensures.counts,
 )

@@ -2,14 +2,14 @@ use Rattle.std.proofs.Common.{ap, sym, ◌∙◌}
 use Rattle.std.proofs.lemmas.Bool.{false≢true}
 use Rattle.view_store.specs.Views.{table_of, with_view}
 use Rattle.view_store.proofs.Editing.{IfOk-then}
-use Rattle.session.specs.World.{World}
+use Rattle.session.specs.World.{World, with_tables}
 use Rattle.session.proofs.Structured.{structured-other}
 use Rattle.session.proofs.session.Session.declare.Goals as goal
 
 pub returns-clause-ok : goal.returns-clause-ok
 returns-clause-ok c =
-    let root = c.args.self.now.root in
+    let root = c.args.self.now.store.views in
     let name = c.args.name.now in
     IfOk-then c.put_view.result c.put_view.ensures.ok
-    (λ _ e. e ∙ ap (λ t. with_view root name t) c.in_ok-table.ensures.ok
-    ∙ sym (structured-other root name c.args.schema.now c.in-Some.known.now (ap (λ (w : World). table_of w.root name) (sym c.self.view_is) ∙ c.in-Some.ensures) c.as_bytes-name.ensures.name c.schema.ensures.whole c.len-properties.ensures.whole (λ same. false≢true (sym c.if-is_same.false ∙ c.is_same.ensures.1 (c.schema.ensures.value ∙ same)))))
+    (λ _ e. e ∙ ap (λ views. with_tables c.args.self.now views) (ap (λ t. with_view root name t) c.in_ok-table.ensures.ok
+    ∙ sym (structured-other root name c.args.schema.now c.in-Some.known.now (ap (λ (w : World). table_of w.store.views name) (sym c.self.view_is) ∙ ap (λ v. table_of v name) (sym c.views.ensures) ∙ c.in-Some.ensures) c.as_bytes-name.ensures.name c.schema.ensures.whole c.len-properties.ensures.whole (λ same. false≢true (sym c.if-is_same.false ∙ c.is_same.ensures.1 (c.schema.ensures.value ∙ same))))))

@@ -4,5 +4,5 @@ use Rattle.session.proofs.session.Session.remove.Goals as goal
 
 pub remove_rows-requires : goal.remove_rows-requires
 remove_rows-requires c =
-    remove-none c.args.self.now.root c.args.path.now c.args.place c.args.rows c.in_ok-size.size (sym c.in_ok-size.ensures.due) c.in_ok-size.ensures.size
+    remove-none c.args.self.now.store.views c.args.path.now c.args.place c.args.rows c.in_ok-size.size (sym c.in_ok-size.ensures.due) c.in_ok-size.ensures.size
     (rows_within c.in_ok-size.size c.args.place c.args.rows (sym c.in_ok-left.ensures.due))

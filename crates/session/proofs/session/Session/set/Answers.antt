@@ -6,5 +6,5 @@ use Rattle.session.proofs.session.Session.set.Goals as goal
 
 pub set_value-requires : goal.set_value-requires
 set_value-requires c =
-    set-none c.args.self.now.root c.args.path.now c.args.row c.in_ok-size.size c.args.prop.now (datum_of c.in_ok-value.value) (literal_of c.args.literal.now) (sym c.in_ok-size.ensures.due) c.in_ok-size.ensures.size
+    set-none c.args.self.now.store.views c.args.path.now c.args.row c.in_ok-size.size c.args.prop.now (datum_of c.in_ok-value.value) (literal_of c.args.literal.now) (sym c.in_ok-size.ensures.due) c.in_ok-size.ensures.size
     (row_within c.in_ok-size.size c.args.row (sym c.in_ok-check_row.ensures)) (sym c.in_ok-check_value_of.ensures) c.in_ok-value.ensures.whole

@@ -1,13 +1,28 @@
-use Rattle.std.proofs.Common.{ap, sym, ◌∙◌, ◌++◌}
-use Rattle.cmd_text.specs.Replies.{reply_bytes}
-use Rattle.cmd_text.specs.declared.reply.Reply.TheVariants.{Quit}
-use Rattle.session.proofs.Stepped.{step_of_blank, step_of_quit}
+use Rattle.std.proofs.Common.{refl, sym, ◌∙◌, arith}
+use Rattle.host_io.proofs.Moments.{begins}
+use Rattle.lines.specs.Served.{state_of}
+use Rattle.session.proofs.Outcomes.{answered_carried, answered_same, outcome_open, still, unreached}
+use Rattle.session.proofs.Ready.{ready_same}
 use Rattle.session.proofs.session.Session.step.Goals as goal
 
-pub returns-then-is_blank-clause-step : goal.returns-then-is_blank-clause-step
-returns-then-is_blank-clause-step c = step_of_blank c.args.self.now c.args.line.now c.args.out.now.bytes (sym c.is_blank.ensures ∙ c.if-is_blank.true) c.requires.empty
-
-pub returns-then-is_quit-clause-step : goal.returns-then-is_quit-clause-step
-returns-then-is_quit-clause-step c =
-    step_of_quit c.args.self.now c.args.line.now c.say_quit.new.out.bytes (sym c.is_quit.ensures ∙ c.if-is_quit.true)
-    (c.say_quit.ensures.bytes ∙ ap (λ front. front ++ reply_bytes Quit) c.requires.empty)
+pub returns-in_default : goal.returns-in_default
+returns-in_default g c =
+    let outside = g.H.Disk.outside c.args.host.now in
+    let w = c.args.self.now in
+    let new = c.carry_out.new.self in
+    let command = c.args.command.now in
+    let is = outcome_open w command (sym c.refuses.ensures ∙ c.if-refuses.false) in
+    let without = unreached command c.in_default.not-Commit c.in_default.not-Reopen c.in_default.not-Revert in
+    record {
+      carried = answered_carried g.H.Disk.tells outside command w c.carry_out.result new is without c.carry_out.ensures;
+      fits = c.carry_out.ensures.fits;
+      unsaid = λ lines. let kept = c.carry_out.ensures.kept lines in record { takes = kept.0; world = kept.1; disk = still w new outside };
+      silent = c.carry_out.ensures.silent;
+      counts = record { later = omega arith; cause = λ never. absurd never; takes = refl; says = refl };
+      goes = λ tells. record {
+        moments = begins outside;
+        said = refl;
+        input = refl;
+        ready = ready_same (state_of w outside) (state_of new outside) (answered_same command w c.carry_out.result new c.carry_out.ensures) refl (c.requires.ready tells);
+      };
+    }

@@ -8,7 +8,8 @@ use Rattle.session.proofs.session.Session.structures.Goals as goal
 pub returns-in-Ok-clause-texts : goal.returns-in-Ok-clause-texts
 returns-in-Ok-clause-texts c =
     c.in-Ok.ensures
-    ∙ ap (λ names. structure_texts names c.tables.result.now) (c.as_slice-names.ensures ∙ c.names.ensures.names)
-    ∙ ap (λ tables. structure_texts (view_names c.self.inside.root) tables) c.tables.ensures.tables
-    ∙ structures_of c.self.inside.root
-    ∙ ap (λ (w : World). structures w.root) c.self.view_is
+    ∙ ap (λ names. structure_texts names c.tables.result.now) (c.as_slice.ensures ∙ c.names.ensures.names)
+    ∙ ap (λ tables. structure_texts (view_names c.views-views.result.now) tables) c.tables.ensures.tables
+    ∙ structures_of c.views-views.result.now
+    ∙ ap structures c.views-views.ensures
+    ∙ ap (λ (w : World). structures w.store.views) c.self.view_is

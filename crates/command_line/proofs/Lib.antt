@@ -1,0 +1,5 @@
+pub mod Spelled
+pub mod Found
+pub mod Readings
+pub mod OneJob
+pub mod Lone

@@ -1,0 +1,83 @@
+-- What the options and the file ask for that were found in words: the tests that the words have to pass, and the job.
+use Rattle.std.specs.Prelude.{◌≡◌, ◌≢◌, ℕ, ◌≤◌, ◌||◌, Bool, true, false, if◌then◌else◌, List, [], Option, Some, None, codes, decimal, find, option_and_then}
+use Rattle.std.specs.Str.{bytes_eq}
+use Rattle.clap.specs.Matches.{found_of}
+use Rattle.clap.specs.Walk.{Row, first_of, rows_of}
+use Rattle.clap.specs.declared.parser.matches.ArgMatches.{ArgMatches}
+use Rattle.clap.specs.declared.parser.matches.ValueSource.{ValueSource}
+use Rattle.clap.specs.declared.parser.matches.ValueSource.TheVariants.{CommandLine, DefaultValue}
+use Rattle.command_line.specs.declared.job.Job.{Job}
+use Rattle.command_line.specs.declared.job.Task.{Task}
+use Rattle.command_line.specs.declared.job.Task.TheVariants.{Serve, Check}
+use Rattle.storage.specs.declared.mode.Mode.{Mode}
+use Rattle.storage.specs.declared.mode.Mode.TheVariants.{Write, Extend, Read}
+
+-- what was found, a row for each option and for the file
+abbrev pub found_rows : ArgMatches → List Row
+found_rows matches = rows_of (found_of matches)
+
+-- a value that comes from the words, and is no default
+abbrev pub is_of_words : Option ValueSource → Bool
+is_of_words (Some CommandLine) = true
+is_of_words (Some DefaultValue) = false
+is_of_words None = false
+
+-- the words give it themselves, be it an option or the file
+abbrev pub is_given : List ℕ → List Row → Bool
+is_given name rows = is_of_words (option_and_then (λ row. row.source) (find (λ row. bytes_eq row.id name) rows))
+
+-- the file is named, and its name is not empty
+pub record IsFile (rows : List Row) (file : List ℕ) : Type 0 where
+  pub given : first_of (codes "file") rows ≡ Some file
+  pub named : file ≢ []
+
+abbrev pub least_cap : ℕ
+least_cap = 208
+
+abbrev pub most_cap : ℕ
+most_cap = 2147483632
+
+-- a cap is spelled by decimal digits, with no sign and no leading zero; where none is given the greatest is meant
+abbrev pub MeansCap : Option (List ℕ) → ℕ → Type 0
+MeansCap (Some text) cap = text ≡ decimal cap
+MeansCap None cap = cap ≡ most_cap
+
+pub record IsCap (rows : List Row) (cap : ℕ) : Type 0 where
+  pub means : MeansCap (first_of (codes "cap") rows) cap
+  pub least : least_cap ≤ cap
+  pub most : cap ≤ most_cap
+
+-- how the store is used, by whether `--extend`, `--read` and `--check` are given
+abbrev pub mode_of : Bool → Bool → Bool → Mode
+mode_of extends reads checks = if extends then Extend else (if reads || checks then Read else Write)
+
+abbrev pub task_of : Bool → Task
+task_of checks = if checks then Check else Serve
+
+-- `--check` is given with no other option, and `--read` and `--extend` are not given together
+pub record IsUse (rows : List Row) (mode : Mode) (task : Task) : Type 0 where
+  pub alone : is_given (codes "check") rows ≡ true
+      → (is_given (codes "cap") rows ≡ false) × (is_given (codes "extend") rows ≡ false) × (is_given (codes "read") rows ≡ false)
+  pub apart : is_given (codes "extend") rows ≡ true → is_given (codes "read") rows ≡ false
+  pub used : mode ≡ mode_of (is_given (codes "extend") rows) (is_given (codes "read") rows) (is_given (codes "check") rows)
+  pub done : task ≡ task_of (is_given (codes "check") rows)
+
+-- what was found asks for this job
+pub record Asks (rows : List Row) (job : Job) : Type 0 where
+  pub file : IsFile rows job.file.bytes
+  pub cap : IsCap rows job.cap
+  pub options : IsUse rows job.mode job.task
+
+-- two jobs ask for one thing; their texts may have other room
+pub record IsSameJob (one other : Job) : Type 0 where
+  pub file : one.file.bytes ≡ other.file.bytes
+  pub mode : one.mode ≡ other.mode
+  pub cap : one.cap ≡ other.cap
+  pub task : one.task ≡ other.task
+
+-- lines are answered over a store in this file, and nothing else is asked for
+pub record IsServed (name : List ℕ) (job : Job) : Type 0 where
+  pub file : job.file.bytes ≡ name
+  pub mode : job.mode ≡ Write
+  pub cap : job.cap ≡ most_cap
+  pub task : job.task ≡ Serve

@@ -1,0 +1,4 @@
+pub mod Causes
+pub mod Command
+pub mod Asking
+pub mod Words

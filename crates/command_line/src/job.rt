@@ -1,0 +1,24 @@
+use mk_value::Text;
+use storage::Mode;
+
+/// What words ask for.
+#[derive(Debug, Drop)]
+pub struct Job {
+    /// The name of the file, which is not empty.
+    pub file: Text,
+    /// How its store is used.
+    pub mode: Mode,
+    /// Where a commit may end at most: 208 to 2147483632.
+    pub cap: u64,
+    /// What is done with it.
+    pub task: Task,
+}
+
+/// What is done with a store.
+#[derive(Clone, Copy, Debug, PartialEq, Eq)]
+pub enum Task {
+    /// Lines are answered.
+    Serve,
+    /// The store is looked at as a whole, and a report on it is said.
+    Check,
+}

@@ -1,0 +1,103 @@
+ghost use Rattle.std.specs.Prelude.{◌≡◌, ℕ, List, Err, IfOk, IsErr, IfSome, IfNone};
+ghost use Rattle.command_line.specs.Asking.{Asks, IsCap, IsFile, IsUse, found_rows, is_given};
+ghost use Rattle.command_line.specs.Words.{AsksFor, AsksForSome, texts_of};
+
+use crate::command::{CAP, CHECK, EXTEND, FILE, READ, command};
+use crate::error::WordsError;
+use crate::job::{Job, Task};
+use crate::number::number_of;
+use clap::ArgMatches;
+use clap::parser::ValueSource;
+use mk_value::Text;
+use std::alloc::Global;
+use storage::Mode;
+
+/// The least cap: the size of a file without views.
+const LEAST_CAP: u64 = 208;
+
+/// The greatest cap, which is also the one that is meant where none is given.
+const MOST_CAP: u64 = 2_147_483_632;
+
+/// The job that the words ask for, of which the first is the program's own name.
+///
+/// # Errors
+///
+/// `Usage` where they ask for none, and only there. `Memory` where an allocation was refused, whatever the words.
+pub fn read_words(alloc: Global, words: &[&str]) -> Result<Job, WordsError>
+    ensures ok { IfOk result (λ job. AsksFor (texts_of words.now) job) }
+    ensures usage { result ≡ Err WordsError.Usage → ¬ AsksForSome (texts_of words.now) }
+    ensures none { ¬ AsksForSome (texts_of words.now) → IsErr result }
+{
+    let matches = command(alloc)?.try_get_matches_from(words)?;
+    job_of(alloc, &matches)
+}
+
+/// The job that matches ask for.
+fn job_of(alloc: Global, matches: &ArgMatches<'_>) -> Result<Job, WordsError>
+    ensures ok { IfOk result (λ job. Asks (found_rows matches.now) job) }
+    ensures usage { result ≡ Err WordsError.Usage → (job : Job) → Asks (found_rows matches.now) job → ⊥ }
+{
+    let Some(file) = file_of(matches) else {
+        return Err(WordsError::Usage);
+    };
+    let Some(cap) = cap_of(matches) else {
+        return Err(WordsError::Usage);
+    };
+    let Some((mode, task)) = use_of(matches) else {
+        return Err(WordsError::Usage);
+    };
+    Ok(Job {
+        file: Text::from_str(alloc, file)?,
+        mode,
+        cap,
+        task,
+    })
+}
+
+/// The name of the file, where it is not empty.
+fn file_of<'a>(matches: &ArgMatches<'a>) -> Option<&'a str>
+    ensures some { IfSome result (λ file. IsFile (found_rows matches.now) file.now) }
+    ensures none { IfNone result ((file : List ℕ) → IsFile (found_rows matches.now) file → ⊥) }
+{
+    let file = matches.get_str(FILE)?;
+    if file.is_empty() { None } else { Some(file) }
+}
+
+/// The cap that is given, or meant.
+fn cap_of(matches: &ArgMatches<'_>) -> Option<u64>
+    ensures some { IfSome result (λ cap. IsCap (found_rows matches.now) cap) }
+    ensures none { IfNone result ((cap : ℕ) → IsCap (found_rows matches.now) cap → ⊥) }
+{
+    let Some(text) = matches.get_str(CAP) else {
+        return Some(MOST_CAP);
+    };
+    let cap = number_of(text)?;
+    if cap < LEAST_CAP || MOST_CAP < cap {
+        return None;
+    }
+    Some(cap)
+}
+
+/// How the store is used and what is done with it, where the options go together.
+fn use_of(matches: &ArgMatches<'_>) -> Option<(Mode, Task)>
+    ensures some { IfSome result (λ found. IsUse (found_rows matches.now) found.0 found.1) }
+    ensures none { IfNone result ((mode : Mode) (task : Task) → IsUse (found_rows matches.now) mode task → ⊥) }
+{
+    let extends = is_given(matches, EXTEND);
+    let reads = is_given(matches, READ);
+    match (is_given(matches, CHECK), extends, reads) {
+        (true, false, false) if !is_given(matches, CAP) => Some((Mode::Read, Task::Check)),
+        (false, true, false) => Some((Mode::Extend, Task::Serve)),
+        (false, false, true) => Some((Mode::Read, Task::Serve)),
+        (false, false, false) => Some((Mode::Write, Task::Serve)),
+        _ => None,
+    }
+}
+
+/// Whether the words give this, be it an option or the file.
+#[tactic(auto, using(crate::proofs::Found::given_by_source))]
+fn is_given(matches: &ArgMatches<'_>, name: &str) -> bool
+    ensures { result ≡ is_given name.now (found_rows matches.now) }
+{
+    matches!(matches.value_source(name), Some(ValueSource::CommandLine))
+}

@@ -1,0 +1,109 @@
+-- What may come of a line over a disk whose bytes are known.
+use Rattle.std.proofs.Common.{ℕ, List, inl, inr}
+use Rattle.cmd_text.specs.declared.command.Command.{Command}
+use Rattle.cmd_text.specs.declared.command.Command.TheVariants as commands
+use Rattle.commit_plan.specs.Plans.{Planned}
+use Rattle.lines.specs.Machine.{State}
+use Rattle.session.specs.Carried.{Acknowledges, BringsBack, Carried, Comes, FailsToReopen, FailsToRevert, FailsUnderWay, FindsDamage, Gives, IsFull, LeavesDiskFor, Reopens}
+use Rattle.session.specs.Commands.{Outcome, gives, commits, reopens, reverts, outcome_of}
+use Rattle.session.specs.Disk.{LeavesDisk, ReadsDisk, SettlesAtMost, WritesCommit}
+use Rattle.session.specs.Step.{Step}
+use Rattle.session.specs.World.{World}
+
+module _ {known : Type 0} (k : known) (old new : State World) where
+  known_leaves : LeavesDisk known old new → LeavesDisk (Unit {0}) old new
+  known_leaves d = record { bytes = λ _. d.bytes k; faults = d.faults }
+
+  known_reads : ReadsDisk known old new → ReadsDisk (Unit {0}) old new
+  known_reads d = record { bytes = λ _. d.bytes k; later = d.later }
+
+  known_settles : SettlesAtMost known old new → SettlesAtMost (Unit {0}) old new
+  known_settles d = record { bytes = λ _. d.bytes k; later = d.later }
+
+  known_writes : (planned : Planned) → WritesCommit known planned old new → WritesCommit (Unit {0}) planned old new
+  known_writes planned d = record { bytes = λ _. d.bytes k; later = d.later }
+
+  known_gives : (said : List ℕ) (left : World) (reply : List ℕ) → Gives known said left old reply new → Gives (Unit {0}) said left old reply new
+  known_gives said left reply g = record { answer = g.answer; world = g.world; disk = known_leaves g.disk }
+
+  known_acknowledges : (note reply : List ℕ) → Acknowledges known note old reply new → Acknowledges (Unit {0}) note old reply new
+  known_acknowledges note reply a = record {
+    planned = a.planned;
+    next = a.next;
+    within = a.within;
+    answer = a.answer;
+    world = a.world;
+    stands = λ _. a.stands k;
+    before = λ _. a.before k;
+    writes = known_writes a.planned a.writes;
+  }
+
+  known_fails : (note reply : List ℕ) → FailsUnderWay known note old reply new → FailsUnderWay (Unit {0}) note old reply new
+  known_fails note reply f = record { planned = f.planned; next = f.next; answer = f.answer; world = f.world; rose = f.rose; writes = known_writes f.planned f.writes }
+
+  known_full : (note reply : List ℕ) → IsFull known note old reply new → IsFull (Unit {0}) note old reply new
+  known_full note reply f = record { end = f.end; ends = f.ends; past = f.past; gives = known_gives _ _ reply f.gives }
+
+  known_reopens : (reply : List ℕ) → Reopens known old reply new → Reopens (Unit {0}) old reply new
+  known_reopens reply r = record {
+    kept = r.kept;
+    slot = r.slot;
+    other = r.other;
+    stands = λ _. r.stands k;
+    rests = λ _. r.rests k;
+    answer = r.answer;
+    world = r.world;
+    disk = known_settles r.disk;
+  }
+
+  known_no_reopening : (reply : List ℕ) → FailsToReopen known old reply new → FailsToReopen (Unit {0}) old reply new
+  known_no_reopening reply f = record { answer = f.answer; world = f.world; rose = f.rose; disk = known_settles f.disk }
+
+  known_brings : (reply : List ℕ) → BringsBack known old reply new → BringsBack (Unit {0}) old reply new
+  known_brings reply b = record { older = b.older; before = λ _. b.before k; answer = b.answer; world = b.world; disk = known_reads b.disk }
+
+  known_damage : (reply : List ℕ) → FindsDamage known old reply new → FindsDamage (Unit {0}) old reply new
+  known_damage reply f = record { place = f.place; damaged = λ _. f.damaged k; answer = f.answer; world = f.world; disk = known_reads f.disk }
+
+  known_no_revert : (reply : List ℕ) → FailsToRevert known old reply new → FailsToRevert (Unit {0}) old reply new
+  known_no_revert reply f = record { answer = f.answer; world = f.world; rose = f.rose; disk = known_reads f.disk }
+
+  known_comes : (outcome : Outcome) (reply : List ℕ) → Comes known outcome old reply new → Comes (Unit {0}) outcome old reply new
+  known_comes (gives said left) reply g = known_gives said left reply g
+  known_comes (commits note) reply (inl a) = inl (known_acknowledges note reply a)
+  known_comes (commits note) reply (inr (inl f)) = inr (inl (known_fails note reply f))
+  known_comes (commits note) reply (inr (inr f)) = inr (inr (known_full note reply f))
+  known_comes reopens reply (inl r) = inl (known_reopens reply r)
+  known_comes reopens reply (inr (inl f)) = inr (inl (known_no_reopening reply f))
+  known_comes reopens reply (inr (inr f)) = absurd (f.unknown k)
+  known_comes reverts reply (inl b) = inl (known_brings reply b)
+  known_comes reverts reply (inr (inl f)) = inr (inl (known_damage reply f))
+  known_comes reverts reply (inr (inr f)) = inr (inr (known_no_revert reply f))
+
+  known_without : (command : Command) → LeavesDiskFor known command old new → LeavesDiskFor (Unit {0}) command old new
+  known_without commands.Reopen d = known_settles d
+  known_without commands.Revert d = known_reads d
+  known_without commands.Nothing d = known_leaves d
+  known_without (commands.Getas name schema) d = known_leaves d
+  known_without (commands.Drop name) d = known_leaves d
+  known_without commands.Struct d = known_leaves d
+  known_without (commands.Add route literals) d = known_leaves d
+  known_without (commands.Insert route place copies literals) d = known_leaves d
+  known_without (commands.Set route row prop literal) d = known_leaves d
+  known_without (commands.Remove route place rows) d = known_leaves d
+  known_without (commands.Size route) d = known_leaves d
+  known_without (commands.Show route) d = known_leaves d
+  known_without (commands.Commit note) d = known_leaves d
+  known_without commands.Log d = known_leaves d
+  known_without commands.Rollback d = known_leaves d
+  known_without commands.Space d = known_leaves d
+  known_without commands.Quit d = known_leaves d
+
+  known_carried : (command : Command) (reply : List ℕ) → Carried known command old reply new → Carried (Unit {0}) command old reply new
+  known_carried command reply (inl comes) = inl (known_comes (outcome_of old.world command) reply comes)
+  known_carried command reply (inr w) = inr (record { takes = w.takes; answer = w.answer; world = w.world; disk = known_without command w.disk })
+
+  pub known_step : (line reply : List ℕ) → Step known old line reply new → Step (Unit {0}) old line reply new
+  known_step line reply (inl c) = inl (record { command = c.command; reads = c.reads; carried = known_carried c.command reply c.carried })
+  known_step line reply (inr (inl r)) = inr (inl (record { error = r.error; offends = r.offends; refuses = known_gives _ _ reply r.refuses }))
+  known_step line reply (inr (inr l)) = inr (inr (record { takes = l.takes; refuses = known_gives _ _ reply l.refuses }))

@@ -1,0 +1,152 @@
+-- What comes of a command, where the session is shut and where it is not.
+use Rattle.std.proofs.Common.{◌≡◌, ℕ, Bool, true, false, cond, ◌&&◌, List, Option, Some, None, refl, ap, sym, subst, inl, inr}
+use Rattle.std.specs.Prelude.{not, if◌then◌else◌}
+use Rattle.cmd_text.specs.Replies.{reply_bytes}
+use Rattle.cmd_text.specs.declared.command.Command.{Command}
+use Rattle.cmd_text.specs.declared.command.Command.TheVariants as commands
+use Rattle.cmd_text.specs.declared.refusal.Refusal.{Refusal}
+use Rattle.cmd_text.specs.declared.refusal.Refusal.TheVariants.{Shut}
+use Rattle.cmd_text.specs.declared.reply.Reply.{Reply}
+use Rattle.cmd_text.specs.declared.reply.Reply.TheVariants.{Refused}
+use Rattle.host_io.specs.Outside.{Outside}
+use Rattle.lines.specs.Machine.{State}
+use Rattle.lines.specs.Served.{state_of}
+use Rattle.storage.specs.Stored.{Stored, is_shut}
+use Rattle.view_store.specs.Views.{NamedTable}
+use Rattle.session.specs.Answered.{Answered, IsGiven}
+use Rattle.session.specs.Carried.{Carried, Comes, LeavesDiskFor}
+use Rattle.session.specs.Commands.{Outcome, gives, commits, reopens, reverts, goes_when_shut, outcome_in, outcome_of, reaches_disk, refused, unless_due}
+use Rattle.session.specs.Disk.{LeavesDisk}
+use Rattle.session.specs.World.{World, with_tables}
+use Rattle.session.proofs.Ready.{SameFile}
+
+shut_or_not : (shut goes : Bool) (one two : Outcome) → (shut && not goes) ≡ false → (if shut && not goes then one else two) ≡ two
+shut_or_not shut goes one two e = ap (λ b. cond b one two) e
+
+-- a session that is not shut, or a command that goes all the same
+pub outcome_open : (w : World) (command : Command) → (is_shut w.store && not (goes_when_shut command)) ≡ false → outcome_of w command ≡ outcome_in w command
+outcome_open w command e = shut_or_not (is_shut w.store) (goes_when_shut command) (refused Shut w) (outcome_in w command) e
+
+pub outcome_shut : (w : World) (command : Command) → (is_shut w.store && not (goes_when_shut command)) ≡ true → outcome_of w command ≡ refused Shut w
+outcome_shut w command e = ap (λ b. cond b (refused Shut w) (outcome_in w command)) e
+
+pub open_goes : (s : Stored) (goes : Bool) → is_shut s ≡ false → (is_shut s && not goes) ≡ false
+open_goes s goes e = ap (λ b. b && not goes) e
+
+pub goes_always : (shut goes : Bool) → goes ≡ true → (shut && not goes) ≡ false
+goes_always true goes e = ap not e
+goes_always false goes e = refl
+
+-- a command that is none of those that reach the disk reaches none
+pub unreached : (command : Command) → ((note : List ℕ) → command ≡ commands.Commit note → ⊥) → (command ≡ commands.Reopen → ⊥) → (command ≡ commands.Revert → ⊥) → reaches_disk command ≡ false
+unreached (commands.Commit note) commit reopen revert = absurd (commit note refl)
+unreached commands.Reopen commit reopen revert = absurd (reopen refl)
+unreached commands.Revert commit reopen revert = absurd (revert refl)
+unreached commands.Nothing commit reopen revert = refl
+unreached (commands.Getas name schema) commit reopen revert = refl
+unreached (commands.Drop name) commit reopen revert = refl
+unreached commands.Struct commit reopen revert = refl
+unreached (commands.Add route literals) commit reopen revert = refl
+unreached (commands.Insert route place copies literals) commit reopen revert = refl
+unreached (commands.Set route row prop literal) commit reopen revert = refl
+unreached (commands.Remove route place rows) commit reopen revert = refl
+unreached (commands.Size route) commit reopen revert = refl
+unreached (commands.Show route) commit reopen revert = refl
+unreached commands.Log commit reopen revert = refl
+unreached commands.Rollback commit reopen revert = refl
+unreached commands.Space commit reopen revert = refl
+unreached commands.Quit commit reopen revert = refl
+
+-- no call of the disk was made
+pub still : {known : Type 0} (old new : World) (outside : Outside) → LeavesDisk known (state_of old outside) (state_of new outside)
+still old new outside = record { bytes = λ _. refl; faults = refl }
+
+module _ (known : Type 0) (outside : Outside) where
+  pub given_comes : (o : Outcome) (old : World) (reply : List ℕ) (new : World) → IsGiven o reply new → Comes known o (state_of old outside) reply (state_of new outside)
+  given_comes (gives said left) old reply new given = record { answer = given.0; world = given.1; disk = still old new outside }
+  given_comes (commits note) old reply new given = absurd given
+  given_comes reopens old reply new given = absurd given
+  given_comes reverts old reply new given = absurd given
+
+  -- a refusal that is due
+  pub refused_comes : (refusal : Refusal) (w : World) (reply : List ℕ) (o : Outcome) → o ≡ refused refusal w → reply ≡ reply_bytes (Refused refusal) → Comes known o (state_of w outside) reply (state_of w outside)
+  refused_comes refusal w reply o is answer =
+      subst (λ (x : Outcome). Comes known x (state_of w outside) reply (state_of w outside)) (sym is) (record { answer = answer; world = refl; disk = still w w outside })
+
+  without_disk : (command : Command) (old new : State World) → reaches_disk command ≡ false → LeavesDisk known old new → LeavesDiskFor known command old new
+  without_disk commands.Reopen old new none leaves = absurd (let f : true ≡ false = none in cc)
+  without_disk commands.Revert old new none leaves = absurd (let f : true ≡ false = none in cc)
+  without_disk (commands.Commit note) old new none leaves = leaves
+  without_disk commands.Nothing old new none leaves = leaves
+  without_disk (commands.Getas name schema) old new none leaves = leaves
+  without_disk (commands.Drop name) old new none leaves = leaves
+  without_disk commands.Struct old new none leaves = leaves
+  without_disk (commands.Add route literals) old new none leaves = leaves
+  without_disk (commands.Insert route place copies literals) old new none leaves = leaves
+  without_disk (commands.Set route row prop literal) old new none leaves = leaves
+  without_disk (commands.Remove route place rows) old new none leaves = leaves
+  without_disk (commands.Size route) old new none leaves = leaves
+  without_disk (commands.Show route) old new none leaves = leaves
+  without_disk commands.Log old new none leaves = leaves
+  without_disk commands.Rollback old new none leaves = leaves
+  without_disk commands.Space old new none leaves = leaves
+  without_disk commands.Quit old new none leaves = leaves
+
+  -- what a command that reaches no disk is answered
+  pub answered_carried : (command : Command) (old : World) (reply : Reply) (new : World) → outcome_of old command ≡ outcome_in old command → reaches_disk command ≡ false
+      → Answered command old reply new → Carried known command (state_of old outside) (reply_bytes reply) (state_of new outside)
+  answered_carried command old reply new is none answered = elim answered.answers [
+    | inl given ↦ inl (subst (λ (x : Outcome). Comes known x (state_of old outside) (reply_bytes reply) (state_of new outside)) (sym is) (given_comes (outcome_in old command) old (reply_bytes reply) new given))
+    | inr memory ↦ inr (record {
+      takes = memory.1;
+      answer = ap reply_bytes memory.0;
+      world = memory.2;
+      disk = without_disk command (state_of old outside) (state_of new outside) none (still old new outside);
+    })
+  ]
+
+-- the file is the same after a command that reaches no disk
+same_world : (w new left : World) → new ≡ left → SameFile w.store left.store → SameFile w.store new.store
+same_world w new left is same = subst (λ (x : World). SameFile w.store x.store) (sym is) same
+
+nothing_changed : (w : World) → SameFile w.store w.store
+nothing_changed w = record { kept = refl; before = refl; attempted = refl; slot = refl; other = refl }
+
+given_left : (w left new : World) (said reply : List ℕ) → IsGiven (gives said left) reply new → SameFile w.store left.store → SameFile w.store new.store
+given_left w left new said reply given same = same_world w new left given.1 same
+
+given_or_refused : (due : Option Refusal) (w new : World) (done : Outcome) (reply : List ℕ) → (IsGiven done reply new → ⊥) → IsGiven (unless_due due w done) reply new → SameFile w.store new.store
+given_or_refused None w new done reply never given = absurd (never given)
+given_or_refused (Some refusal) w new done reply never given = given_left w w new (reply_bytes (Refused refusal)) reply given (nothing_changed w)
+
+given_unless : (due : Option Refusal) (w left new : World) (said reply : List ℕ) → IsGiven (unless_due due w (gives said left)) reply new → SameFile w.store left.store → SameFile w.store new.store
+given_unless None w left new said reply given same = given_left w left new said reply given same
+given_unless (Some refusal) w left new said reply given same = given_left w w new (reply_bytes (Refused refusal)) reply given (nothing_changed w)
+
+changed_views : (w : World) (views : List NamedTable) → SameFile w.store (with_tables w views).store
+changed_views w views = record { kept = refl; before = refl; attempted = refl; slot = refl; other = refl }
+
+pub given_same : (command : Command) (w : World) (reply : List ℕ) (new : World) → IsGiven (outcome_in w command) reply new → SameFile w.store new.store
+given_same commands.Nothing w reply new given = given_left w _ new _ reply given (nothing_changed w)
+given_same (commands.Getas name schema) w reply new given = given_unless _ w _ new _ reply given (changed_views w _)
+given_same (commands.Drop name) w reply new given = given_unless _ w _ new _ reply given (changed_views w _)
+given_same commands.Struct w reply new given = given_left w _ new _ reply given (nothing_changed w)
+given_same (commands.Add route literals) w reply new given = given_unless _ w _ new _ reply given (changed_views w _)
+given_same (commands.Insert route place copies literals) w reply new given = given_unless _ w _ new _ reply given (changed_views w _)
+given_same (commands.Set route row prop literal) w reply new given = given_unless _ w _ new _ reply given (changed_views w _)
+given_same (commands.Remove route place rows) w reply new given = given_unless _ w _ new _ reply given (changed_views w _)
+given_same (commands.Size route) w reply new given = given_unless _ w _ new _ reply given (nothing_changed w)
+given_same (commands.Show route) w reply new given = given_unless _ w _ new _ reply given (nothing_changed w)
+given_same (commands.Commit note) w reply new given = given_or_refused _ w new (commits note) reply (λ never. never) given
+given_same commands.Log w reply new given = given_left w _ new _ reply given (nothing_changed w)
+given_same commands.Rollback w reply new given = given_left w _ new _ reply given (changed_views w _)
+given_same commands.Reopen w reply new given = absurd given
+given_same commands.Revert w reply new given = given_or_refused _ w new reverts reply (λ never. never) given
+given_same commands.Space w reply new given = given_left w _ new _ reply given (nothing_changed w)
+given_same commands.Quit w reply new given = given_left w _ new _ reply given (nothing_changed w)
+
+pub answered_same : (command : Command) (w : World) (reply : Reply) (new : World) → Answered command w reply new → SameFile w.store new.store
+answered_same command w reply new answered = elim answered.answers [
+  | inl given ↦ given_same command w (reply_bytes reply) new given
+  | inr memory ↦ same_world w new w memory.2 (nothing_changed w)
+]

@@ -1,0 +1,54 @@
+use Rattle.std.proofs.Common.{◌≡◌, false, ap, refl, sym, subst, ◌∙◌}
+use Rattle.cmd_text.specs.Replies.{reply_bytes}
+use Rattle.cmd_text.specs.declared.command.Command.TheVariants as commands
+use Rattle.lines.specs.Served.{state_of}
+use Rattle.storage.specs.Stored.{is_shut}
+use Rattle.session.specs.Carried.{Carried}
+use Rattle.session.specs.Going.{GoesOn}
+use Rattle.session.specs.Planning.{IsPlannedNext}
+use Rattle.session.specs.World.{World}
+use Rattle.session.proofs.OnDisk.{commit_failed, commit_goes, commit_goes_wrong, commit_made}
+use Rattle.session.proofs.session.Session.commit.Goals.{in-Ok-carry, in-Err-carry}
+use Rattle.session.proofs.session.Session.commit.Goals as goal
+
+pub returns-clause-carried : goal.returns-clause-carried
+returns-clause-carried g c =
+    let from = g.H.Disk.outside c.args.host.now in
+    let to = g.H.Disk.outside c.carry.new.disk in
+    let inside : World = record { store = c.self.inside.store } in
+    let new : World = record { store = c.carry.new.self } in
+    let note = c.args.note.now in
+    let reply = reply_bytes c.match-carry.result in
+    let unshut : is_shut inside.store ≡ false = subst (λ (w : World). is_shut w.store ≡ false) (sym c.self.view_is) c.requires.«open» in
+    let planned : IsPlannedNext inside.store note c.in-Ok.plan = subst (λ (w : World). IsPlannedNext w.store note c.in-Ok.plan) (sym c.self.view_is) c.in-Ok.ensures.planned in
+    subst (λ (w : World). Carried g.H.Disk.tells (commands.Commit note) (state_of w from) reply (state_of new to)) c.self.view_is
+    (elim c.match-carry.branch [
+      | in-Ok-carry w ↦
+          let e = w.in-Ok-carry.ensures in
+          commit_made g.H.Disk.tells inside note reply unshut c.in-Ok.plan planned new from to e.places e.counts.disk.later w.in-Ok-carry.number e.number
+          (ap reply_bytes (w.result-is ∙ w.committed.ensures.value)) e.ok e.commits
+      | in-Err-carry w ↦
+          let e = w.in-Err-carry.ensures in
+          commit_failed g.H.Disk.tells inside note reply unshut c.in-Ok.plan planned new from to e.places e.counts.disk.later
+          (ap reply_bytes (w.result-is ∙ w.refused-in-Err-carry.ensures.value)) e.err (e.counts.disk.cause refl)
+    ])
+
+pub returns-clause-goes : goal.returns-clause-goes
+returns-clause-goes g c = λ tells.
+    let from = g.H.Disk.outside c.args.host.now in
+    let to = g.H.Disk.outside c.carry.new.disk in
+    let inside : World = record { store = c.self.inside.store } in
+    let new : World = record { store = c.carry.new.self } in
+    let note = c.args.note.now in
+    let reply = reply_bytes c.match-carry.result in
+    let unshut : is_shut inside.store ≡ false = subst (λ (w : World). is_shut w.store ≡ false) (sym c.self.view_is) c.requires.«open» in
+    let planned : IsPlannedNext inside.store note c.in-Ok.plan = subst (λ (w : World). IsPlannedNext w.store note c.in-Ok.plan) (sym c.self.view_is) c.in-Ok.ensures.planned in
+    subst (λ (w : World). GoesOn (commands.Commit note) (state_of w from) (state_of new to) from to) c.self.view_is
+    (elim c.match-carry.branch [
+      | in-Ok-carry w ↦
+          let e = w.in-Ok-carry.ensures in
+          commit_goes g.H.Disk.tells inside note reply unshut c.in-Ok.plan planned new from to e.places e.counts.disk.later w.in-Ok-carry.number e.ok (e.rests tells) (e.commits tells)
+      | in-Err-carry w ↦
+          let e = w.in-Err-carry.ensures in
+          commit_goes_wrong g.H.Disk.tells inside note reply unshut c.in-Ok.plan planned new from to e.places e.counts.disk.later w.in-Err-carry.field-0 e.err (e.commits tells)
+    ])

@@ -1,0 +1,87 @@
+//! The commands that reach the disk: `commit`, `reopen` and `revert`.
+ghost use Rattle.std.specs.Prelude.{◌≡◌, ◌≤◌, IfErr, IfOk, false, length};
+ghost use Rattle.cmd_text.specs.declared.command.Command.TheVariants as commands;
+ghost use Rattle.cmd_text.specs.Replies.{reply_bytes};
+ghost use Rattle.host_io.specs.Calls.{CountsFaults};
+ghost use Rattle.lines.specs.Crash.{IsReady};
+ghost use Rattle.lines.specs.Lines.{max_line};
+ghost use Rattle.lines.specs.Served.{state_of};
+ghost use Rattle.storage.specs.Stored.{is_shut};
+ghost use Rattle.session.specs.Carried.{Carried};
+ghost use Rattle.session.specs.Planning.{IsPlannedNext, IsUnplanned};
+ghost use Rattle.session.specs.Going.{GoesOn};
+ghost use Rattle.session.specs.Step.{machine};
+ghost use Rattle.session.specs.Saying.{IsOneLine};
+
+use crate::refusals::{of_opening, of_plan, of_revert};
+use crate::{Session, replies};
+use cmd_text::{Note, Refusal, Reply};
+use commit_plan::Plan;
+use host_io::{Failed, Host};
+
+impl Session {
+    /// Stores the views as the next commit, with the note where it is not empty.
+    pub(crate) fn commit<H: Host>(&mut self, host: &mut H, note: &Note) -> Reply
+        requires open { is_shut self.old.store ≡ false }
+        requires ready { H.tells → IsReady machine (state_of self.old (H.outside host.old)) }
+        ensures carried { Carried H.tells (commands.Commit note.now) (state_of self.old (H.outside host.old)) (reply_bytes result) (state_of self.new (H.outside host.new)) }
+        ensures one_line { IsOneLine result }
+        ensures short { length (reply_bytes result) ≤ max_line }
+        ensures counts { CountsFaults (result ≡ Reply.Refused Refusal.Disk) (H.outside host.old) (H.outside host.new) }
+        ensures goes { H.tells → GoesOn (commands.Commit note.now) (state_of self.old (H.outside host.old)) (state_of self.new (H.outside host.new)) (H.outside host.old) (H.outside host.new) }
+    {
+        let plan = match self.plan(note) {
+            Ok(plan) => plan,
+            Err(refusal) => return replies::refused(refusal),
+        };
+        match self.store.carry(host, plan) {
+            Ok(number) => replies::committed(number),
+            Err(Failed) => replies::refused(Refusal::Disk),
+        }
+    }
+
+    /// Plans the commit of the views. It takes all memory of the commit.
+    fn plan(&self, note: &Note) -> Result<Plan, Refusal>
+        ensures planned { IfOk result (IsPlannedNext self.now.store note.now) }
+        ensures refused { IfErr result (IsUnplanned self.now.store note.now) }
+    {
+        match self.store.plan(self.alloc, note.as_text()) {
+            Ok(plan) => Ok(plan),
+            Err(error) => Err(of_plan(error)),
+        }
+    }
+
+    /// Opens the file anew. Where the session is shut, what was pending is settled first.
+    pub(crate) fn reopen<H: Host>(&mut self, host: &mut H) -> Reply
+        requires ready { H.tells → IsReady machine (state_of self.old (H.outside host.old)) }
+        ensures carried { Carried H.tells commands.Reopen (state_of self.old (H.outside host.old)) (reply_bytes result) (state_of self.new (H.outside host.new)) }
+        ensures one_line { IsOneLine result }
+        ensures short { length (reply_bytes result) ≤ max_line }
+        ensures counts { CountsFaults (result ≡ Reply.Refused Refusal.Disk) (H.outside host.old) (H.outside host.new) }
+        ensures goes { H.tells → GoesOn commands.Reopen (state_of self.old (H.outside host.old)) (state_of self.new (H.outside host.new)) (H.outside host.old) (H.outside host.new) }
+    {
+        match self.store.reopen(self.alloc, host) {
+            Ok(number) => replies::reopened(number),
+            Err(error) => replies::refused(of_opening(error)),
+        }
+    }
+
+    /// Brings the views of the commit before back.
+    pub(crate) fn revert<H: Host>(&mut self, host: &mut H) -> Reply
+        requires open { is_shut self.old.store ≡ false }
+        requires ready { H.tells → IsReady machine (state_of self.old (H.outside host.old)) }
+        ensures carried { Carried H.tells commands.Revert (state_of self.old (H.outside host.old)) (reply_bytes result) (state_of self.new (H.outside host.new)) }
+        ensures one_line { IsOneLine result }
+        ensures short { length (reply_bytes result) ≤ max_line }
+        ensures counts { CountsFaults (result ≡ Reply.Refused Refusal.Disk) (H.outside host.old) (H.outside host.new) }
+        ensures goes { H.tells → GoesOn commands.Revert (state_of self.old (H.outside host.old)) (state_of self.new (H.outside host.new)) (H.outside host.old) (H.outside host.new) }
+    {
+        if self.store.before().is_none() {
+            return replies::refused(Refusal::NoName);
+        }
+        match self.store.revert(self.alloc, host) {
+            Ok(number) => replies::reverted(number),
+            Err(error) => replies::refused(of_revert(error)),
+        }
+    }
+}

@@ -1,0 +1,88 @@
+-- A run in which nothing goes wrong is done, or wanted memory.
+use Rattle.std.proofs.Common.{◌≡◌, ◌≢◌, ℕ, ◌≤◌, ◌⊎◌, List, [], ◌∷◌, length, length-append, refl, ap, sym, subst, ◌∙◌, inl, inr, arith}
+use Rattle.command_line.specs.Asking.{IsSameJob}
+use Rattle.command_line.specs.Words.{AsksFor}
+use Rattle.command_line.specs.declared.job.Job.{Job}
+use Rattle.command_line.specs.declared.job.Task.{Task}
+use Rattle.command_line.specs.declared.job.Task.TheVariants.{Serve, Check}
+use Rattle.host_io.specs.Calls.{Rose}
+use Rattle.host_io.specs.Outside.{Outside}
+use Rattle.lines.specs.Lines.{max_budget}
+use Rattle.recovery.specs.Commits.{Commit}
+use Rattle.recovery.specs.Standing.{StandsFor}
+use Rattle.recovery.specs.declared.error.OpenError.{OpenError}
+use Rattle.recovery.specs.declared.error.OpenError.TheVariants as opening
+use Rattle.session.proofs.Undamaged.{no_cause}
+use Rattle.storage.specs.declared.mode.Mode.{Mode}
+use Rattle.storage.specs.declared.mode.Mode.TheVariants.{Read}
+use Rattle.shell.specs.Faults.{IsFault}
+use Rattle.shell.specs.Ran.{GoesWell, MayOpen, Ran, RanAs}
+use Rattle.shell.specs.declared.fault.FileFault.{FileFault}
+use Rattle.shell.specs.declared.fault.FileFault.TheVariants.{Empty, NotAStore, Damaged}
+use Rattle.shell.specs.declared.status.Status.{Status}
+use Rattle.shell.specs.declared.status.Status.TheVariants.{Done, Usage, Refused, TakeFault, SayFault, Memory, TooMuch, DiskFault}
+
+-- a file that stands for a commit has no fault
+stands_well : (mode : Mode) (file : List ℕ) (c : Commit) (fault : FileFault) → StandsFor file c → IsFault mode file fault → ⊥
+stands_well mode file c Empty stands cause = let long = stands.3.headed.long in let none = ap length cause.1 in absurd (omega (arith, long, none))
+stands_well mode file c NotAStore stands cause = elim (no_cause file c opening.NotAStore stands cause.1) [
+  | inl e ↦ let f : ◌≡◌ {A = OpenError} opening.NotAStore opening.Failed = e in cc
+  | inr e ↦ let f : ◌≡◌ {A = OpenError} opening.NotAStore opening.Memory = e in cc
+]
+stands_well mode file c (Damaged place) stands cause = elim (no_cause file c (opening.Damaged place) stands cause.1) [
+  | inl e ↦ let f : ◌≡◌ {A = OpenError} (opening.Damaged place) opening.Failed = e in cc
+  | inr e ↦ let f : ◌≡◌ {A = OpenError} (opening.Damaged place) opening.Memory = e in cc
+]
+
+empty_well : (mode : Mode) (file : List ℕ) (fault : FileFault) → file ≡ [] → mode ≢ Read → IsFault mode file fault → ⊥
+empty_well mode file Empty none writes cause = writes cause.0
+empty_well mode file NotAStore none writes cause = cause.0 none
+empty_well mode file (Damaged place) none writes cause = cause.0 none
+
+opens_well : (task : Task) (mode : Mode) (cap : ℕ) (old new : Outside) → MayOpen task mode old.now.disk.seen → RanAs task mode cap Refused old new → ⊥
+opens_well Serve mode cap old new (inl empty) (fault, cause, says) = empty_well mode old.now.disk.seen fault empty.0 empty.1 cause
+opens_well Serve mode cap old new (inr stands) (fault, cause, says) = stands_well mode old.now.disk.seen stands.0 fault stands.1 cause
+opens_well Check mode cap old new stands (fault, cause, says) = stands_well Read old.now.disk.seen stands.0 fault stands.1 cause
+
+-- the budget was not passed
+within_budget : (task : Task) (mode : Mode) (cap : ℕ) (old new : Outside) → length old.input ≤ max_budget → RanAs task mode cap TooMuch old new → ⊥
+within_budget Check mode cap old new short ran = ran
+within_budget Serve mode cap old new short ran =
+    let from = ran.ran in
+    let serves = from.serves in
+    let same : from.greeted.input ≡ old.input = from.greeting.input ∙ ran.starts.opens.input in
+    let came = ap length (sym same ∙ serves.came) in
+    let taken = length-append serves.taken new.input in
+    let more = ap length serves.ends.more in
+    let parts = length-append serves.ends.front (serves.ends.byte ∷ []) in
+    let full = serves.ends.full in omega (arith, came, taken, more, parts, full, short)
+
+pub completes : (words : List (List ℕ)) (status : Status) (old new : Outside) → ((one other : Job) → AsksFor words one → AsksFor words other → IsSameJob one other)
+    → Ran words status old new → (status ≡ TakeFault → Rose old.take_faults new.take_faults) → (status ≡ SayFault → Rose old.say_faults new.say_faults)
+    → (status ≡ DiskFault → Rose old.disk_faults new.disk_faults) → GoesWell words old new → (status ≡ Done) ⊎ (status ≡ Memory)
+completes words Done old new one ran takes says disk well = inl refl
+completes words Memory old new one ran takes says disk well = inr refl
+completes words Usage old new one ran takes says disk well = absurd (ran.0 (well.job, well.right))
+completes words TakeFault old new one ran takes says disk well = absurd (well.takes (takes refl))
+completes words SayFault old new one ran takes says disk well = absurd (well.says (says refl))
+completes words DiskFault old new one ran takes says disk well = absurd (well.disk (disk refl))
+completes words Refused old new one ran takes says disk well =
+    let same = one well.job ran.job well.right ran.asks in
+    absurd (opens_well ran.job.task ran.job.mode ran.job.cap old new
+    (subst (λ (m : Mode). MayOpen ran.job.task m old.now.disk.seen) same.mode (subst (λ (t : Task). MayOpen t well.job.mode old.now.disk.seen) same.task well.opens)) ran.ran)
+completes words TooMuch old new one ran takes says disk well = absurd (within_budget ran.job.task ran.job.mode ran.job.cap old new well.short ran.ran)
+
+silent : (task : Task) (words : List (List ℕ)) (mode : Mode) (cap : ℕ) (old new : Outside) → RanAs task mode cap Memory old new → Ran words Memory old new
+silent Serve words mode cap old new ran = ran
+silent Check words mode cap old new ran = ran
+
+-- what came of a job, by its status
+pub ran_job : (words : List (List ℕ)) (job : Job) (status : Status) (old new : Outside) → AsksFor words job → status ≢ Usage → RanAs job.task job.mode job.cap status old new → Ran words status old new
+ran_job words job Usage old new asks right ran = absurd (right refl)
+ran_job words job Memory old new asks right ran = silent job.task words job.mode job.cap old new ran
+ran_job words job Done old new asks right ran = record { job = job; asks = asks; ran = ran }
+ran_job words job Refused old new asks right ran = record { job = job; asks = asks; ran = ran }
+ran_job words job TakeFault old new asks right ran = record { job = job; asks = asks; ran = ran }
+ran_job words job SayFault old new asks right ran = record { job = job; asks = asks; ran = ran }
+ran_job words job TooMuch old new asks right ran = record { job = job; asks = asks; ran = ran }
+ran_job words job DiskFault old new asks right ran = record { job = job; asks = asks; ran = ran }

@@ -1,0 +1,25 @@
+-- Why a file is not served.
+use Rattle.std.specs.Prelude.{◌≡◌, ◌≢◌, ℕ, List, [], Result, Ok, Err}
+use Rattle.recovery.specs.Refusals.{IsDamagedAt, IsNoStore}
+use Rattle.session.specs.declared.starting.StartError.{StartError}
+use Rattle.session.specs.declared.starting.StartError.TheVariants as start_error
+use Rattle.storage.specs.declared.mode.Mode.{Mode}
+use Rattle.storage.specs.declared.mode.Mode.TheVariants.{Read}
+use Rattle.shell.specs.declared.fault.FileFault.{FileFault}
+use Rattle.shell.specs.declared.fault.FileFault.TheVariants.{Empty, NotAStore, Damaged}
+use Rattle.shell.specs.declared.status.Status.{Status}
+use Rattle.shell.specs.declared.status.Status.TheVariants as status
+
+-- by how its store was not opened; a disk that failed and want of memory are no fault of the file
+abbrev pub fault_of : StartError → Result FileFault Status
+fault_of start_error.Empty = Ok Empty
+fault_of start_error.NotAStore = Ok NotAStore
+fault_of (start_error.Damaged place) = Ok (Damaged place)
+fault_of start_error.Failed = Err status.DiskFault
+fault_of start_error.Memory = Err status.Memory
+
+-- the bytes of the file are why: it is empty and only read, or it is not empty and stands for no commit
+abbrev pub IsFault : Mode → List ℕ → FileFault → Type 0
+IsFault mode file Empty = (mode ≡ Read) × (file ≡ [])
+IsFault mode file NotAStore = (file ≢ []) × IsNoStore file
+IsFault mode file (Damaged place) = (file ≢ []) × IsDamagedAt file place

@@ -1,0 +1,95 @@
+//! The lines that the program says by itself. Each fits the room of a reply.
+ghost use Rattle.std.specs.Prelude.{◌≡◌, ◌≤◌, ◌+◌, ◌++◌, ◌∷◌, [], codes, decimal, length};
+ghost use Rattle.lines.specs.Lines.{newline};
+ghost use Rattle.shell.specs.Said.{check_line, fault_line, greeting_line, spaced};
+
+use crate::fault::FileFault;
+use mk_value::Text;
+use storage::Report;
+
+/// More than the most bytes of a line that the program says by itself: its words, and five numbers.
+pub(crate) const MAX_OWN_LINE: usize = 160;
+
+/// Appends the greeting, which names the number of a commit.
+pub(crate) fn write_greeting(number: u64, out: &mut Text)
+    requires { MAX_OWN_LINE ≤ out.old.spare }
+    ensures bytes { out.new.bytes ≡ out.old.bytes ++ greeting_line number }
+    ensures room { out.old.spare + length out.old.bytes ≤ out.new.spare + length out.new.bytes }
+{
+    append("ok mkshell ", out);
+    append_number(number, out);
+    append("\n", out);
+}
+
+/// Appends why a file is refused.
+pub(crate) fn write_fault(fault: FileFault, out: &mut Text)
+    requires { MAX_OWN_LINE ≤ out.old.spare }
+    ensures bytes { out.new.bytes ≡ out.old.bytes ++ fault_line fault }
+{
+    match fault {
+        FileFault::Empty => append("refused empty\n", out),
+        FileFault::NotAStore => append("refused notastore\n", out),
+        FileFault::Damaged(place) => write_damage(place, out),
+    }
+}
+
+fn write_damage(place: u64, out: &mut Text)
+    requires { MAX_OWN_LINE ≤ out.old.spare }
+    ensures bytes { out.new.bytes ≡ out.old.bytes ++ fault_line (FileFault.Damaged place) }
+{
+    append("refused damaged ", out);
+    append_number(place, out);
+    append("\n", out);
+}
+
+/// Appends what a file was found to have.
+pub(crate) fn write_report(report: &Report, out: &mut Text)
+    requires { MAX_OWN_LINE ≤ out.old.spare }
+    ensures bytes { out.new.bytes ≡ out.old.bytes ++ check_line report.now }
+{
+    let space = report.space;
+    append("ok check", out);
+    append_spaced(space.number, out);
+    append_spaced(space.end, out);
+    append_spaced(space.used, out);
+    append_spaced(report.views as u64, out);
+    append_spaced(report.blocks, out);
+    append("\n", out);
+}
+
+/// Appends a number behind a space.
+fn append_spaced(number: u64, out: &mut Text)
+    requires { 21 ≤ out.old.spare }
+    ensures bytes { out.new.bytes ≡ out.old.bytes ++ spaced (number ∷ []) }
+    ensures spare { out.old.spare ≤ out.new.spare + 21 }
+    ensures room { out.old.spare + length out.old.bytes ≤ out.new.spare + length out.new.bytes }
+{
+    append(" ", out);
+    append_number(number, out);
+}
+
+/// Appends a number of at most 20 digits.
+fn append_number(number: u64, out: &mut Text)
+    requires { 20 ≤ out.old.spare }
+    ensures bytes { out.new.bytes ≡ out.old.bytes ++ decimal number }
+    ensures spare { out.old.spare ≤ out.new.spare + 20 }
+    ensures room { out.old.spare + length out.old.bytes ≤ out.new.spare + length out.new.bytes }
+{
+    has_20_digits(number);
+    let _ = out.push_integer(number);
+}
+
+/// Appends a text that fits.
+fn append(text: &str, out: &mut Text)
+    requires { length text.now ≤ out.old.spare }
+    ensures bytes { out.new.bytes ≡ out.old.bytes ++ text.now }
+    ensures spare { out.old.spare ≤ out.new.spare + length text.now }
+    ensures room { out.old.spare + length out.old.bytes ≤ out.new.spare + length out.new.bytes }
+{
+    let _ = out.push_str(text);
+}
+
+/// A number of 64 bits has at most 20 digits.
+fn has_20_digits(number: u64)
+    ensures { length (decimal number) ≤ 20 }
+{}
