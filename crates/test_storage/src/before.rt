@@ -1,5 +1,5 @@
 //! The commit before, and its views brought back. The first seven calls of a host open the worked file.
-use crate::call::{CAP, Call, Case, DONE, EMPTY_FILE, File, WORKED_FILE, holds};
+use crate::call::{CAP, Call, Case, DONE, EMPTY_FILE, File, WORKED_FILE, hold};
 use host_io::{Effect, Fault};
 use std::test::Fail;
 use storage::Mode;
@@ -149,8 +149,5 @@ const CASES: [Case; 8] = [
 
 #[test]
 fn the_commit_before_is_brought_back(rt: HostRuntime) -> Result<(), Fail> {
-    for case in &CASES {
-        holds(&rt, rt.alloc(), case)?;
-    }
-    Ok(())
+    hold(rt.alloc(), &CASES)
 }

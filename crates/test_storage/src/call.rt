@@ -9,10 +9,10 @@ use host_io::{Fault, MemHost};
 use mk_value::{Text, is_text};
 use recovery::OpenError;
 use std::alloc::{AllocError, Global};
-use std::process::Abort;
 use std::test::Fail;
 use storage::{Mode, Report, check};
 use struct_text::parse;
+use view_store::EditError;
 
 /// A call of a store. A place is a path to a view; in a literal `~` stands for 512 letters.
 pub enum Call {
@@ -30,6 +30,8 @@ pub enum Call {
     Rollback,
     /// The next commit with this note.
     Commit(&'static str),
+    /// So many commits, the note of each of which is its number.
+    NumberedCommits(u64),
     Revert,
     Reopen,
     /// The number, the end and the bytes used.
@@ -38,8 +40,12 @@ pub enum Call {
     Before,
     Mode,
     IsShut,
+    /// How many calls of the host were made.
+    HostCalls,
     /// The views that are edited.
     Views,
+    /// Whether the file has these bytes.
+    FileIs(&'static [u8]),
     /// A look at the file with these bytes changed: the space, the views and the blocks, or why none is found.
     Check(&'static [(usize, u8)]),
 }
@@ -95,6 +101,7 @@ impl Call {
             }
             Call::Rollback => rollback(alloc, fixture),
             Call::Commit(text) => commit(alloc, fixture, text),
+            Call::NumberedCommits(count) => numbered_commits(alloc, fixture, *count),
             Call::Revert => revert(alloc, fixture),
             Call::Reopen => reopen(alloc, fixture),
             Call::Check(changes) => check_changed(alloc, fixture.file(), changes),
@@ -103,7 +110,9 @@ impl Call {
             Call::Before => before(alloc, fixture),
             Call::Mode => mode(alloc, fixture),
             Call::IsShut => is_shut(alloc, fixture),
+            Call::HostCalls => host_calls(alloc, fixture),
             Call::Views => views(alloc, fixture),
+            Call::FileIs(bytes) => file_is(alloc, fixture, bytes),
         }
     }
 }
@@ -114,9 +123,13 @@ fn make(alloc: Global, fixture: &mut Fixture, structure: &str) -> Result<String,
     Ok(String::from_str(alloc, DONE)?)
 }
 
-fn drop_view(alloc: Global, fixture: &mut Fixture, view: &str) -> Result<String, Fail> {
-    let answer = fixture.drop_view(&name(view)?);
+/// What an edit answers.
+fn edited(alloc: Global, answer: Result<(), EditError>) -> Result<String, Fail> {
     Ok(format!(in alloc; "{answer:?}")?)
+}
+
+fn drop_view(alloc: Global, fixture: &mut Fixture, view: &str) -> Result<String, Fail> {
+    edited(alloc, fixture.drop_view(&name(view)?))
 }
 
 fn insert(
@@ -128,9 +141,8 @@ fn insert(
     copies: u16,
 ) -> Result<String, Fail> {
     let path = path(alloc, place)?;
-    let row = row_for(alloc, fixture.store().views().schema(&path)?, row)?;
-    let answer = fixture.insert(&path, pos, &row, copies);
-    Ok(format!(in alloc; "{answer:?}")?)
+    let row = row_for(alloc, fixture.store().views(), &path, row)?;
+    edited(alloc, fixture.insert(&path, pos, &row, copies))
 }
 
 fn set(
@@ -143,9 +155,8 @@ fn set(
 ) -> Result<String, Fail> {
     let path = path(alloc, place)?;
     let prop = name(prop)?;
-    let value = value_for(alloc, fixture.store().views().schema(&path)?, &prop, value)?;
-    let answer = fixture.set(&path, row, &prop, &value);
-    Ok(format!(in alloc; "{answer:?}")?)
+    let value = value_for(alloc, fixture.store().views(), &path, &prop, value)?;
+    edited(alloc, fixture.set(&path, row, &prop, &value))
 }
 
 fn remove(
@@ -155,8 +166,7 @@ fn remove(
     pos: usize,
     count: usize,
 ) -> Result<String, Fail> {
-    let answer = fixture.remove(&path(alloc, place)?, pos, count);
-    Ok(format!(in alloc; "{answer:?}")?)
+    edited(alloc, fixture.remove(&path(alloc, place)?, pos, count))
 }
 
 fn remove_in_copy(
@@ -166,8 +176,10 @@ fn remove_in_copy(
     pos: usize,
     count: usize,
 ) -> Result<String, Fail> {
-    let answer = fixture.remove_in_copy(&path(alloc, place)?, pos, count);
-    Ok(format!(in alloc; "{answer:?}")?)
+    edited(
+        alloc,
+        fixture.remove_in_copy(&path(alloc, place)?, pos, count),
+    )
 }
 
 fn rollback(alloc: Global, fixture: &mut Fixture) -> Result<String, Fail> {
@@ -184,8 +196,17 @@ fn commit(alloc: Global, fixture: &mut Fixture, text: &str) -> Result<String, Fa
     Ok(format!(in alloc; "{answer:?}")?)
 }
 
+fn numbered_commits(alloc: Global, fixture: &mut Fixture, count: u64) -> Result<String, Fail> {
+    for _commit in 0..count {
+        let mut text = Text::new(alloc);
+        text.push_integer(fixture.store().number().saturating_add(1))?;
+        let _answer = commit(alloc, fixture, text.as_str())?;
+    }
+    Ok(String::from_str(alloc, DONE)?)
+}
+
 /// The note of a text.
-pub fn note(alloc: Global, text: &str) -> Result<Text, Fail>
+fn note(alloc: Global, text: &str) -> Result<Text, Fail>
     ensures { IfOk result (λ note. IsNote note.bytes) }
 {
     if !is_text(text) || text.len() > 255 {
@@ -239,8 +260,18 @@ fn is_shut(alloc: Global, fixture: &Fixture) -> Result<String, Fail> {
     Ok(format!(in alloc; "{shut}")?)
 }
 
+fn host_calls(alloc: Global, fixture: &Fixture) -> Result<String, Fail> {
+    let calls = fixture.calls();
+    Ok(format!(in alloc; "{calls}")?)
+}
+
 fn views(alloc: Global, fixture: &Fixture) -> Result<String, Fail> {
     Ok(shown(alloc, fixture.store().views())?.into_string())
+}
+
+fn file_is(alloc: Global, fixture: &Fixture, bytes: &[u8]) -> Result<String, Fail> {
+    let same = fixture.file() == bytes;
+    Ok(format!(in alloc; "{same}")?)
 }
 
 /// What a look at a file with these bytes changed finds.
@@ -284,25 +315,53 @@ fn opened(alloc: Global, case: &Case) -> Result<Fixture, Fail> {
     Ok(Fixture::open(alloc, &file, case.faults, case.mode, case.cap)?)
 }
 
-/// Each call answers as it should. Gives the store after them.
-pub fn answer_all(
-    rt: &impl Abort,
-    alloc: Global,
-    title: &str,
-    mut fixture: Fixture,
-    turns: &[Turn],
-) -> Result<Fixture, Fail> {
-    for (at, (call, wanted)) in turns.iter().enumerate() {
-        let answer = call.answer(alloc, &mut fixture)?;
-        let wanted = spelled(alloc, wanted)?;
-        assert_eq!(rt; answer.as_str(), wanted.as_str(), "{title}, call {at}");
+/// Fails where another text was found than is wanted.
+pub fn same(title: &str, found: &str, wanted: &str) -> Result<(), Fail> {
+    if found == wanted {
+        return Ok(());
     }
-    Ok(fixture)
+    Err(Fail::new(format_args!("{title}: {found}, not {wanted}")))
+}
+
+/// Fails where another number was found than is wanted.
+pub fn same_number(title: &str, found: u64, wanted: u64) -> Result<(), Fail> {
+    if found == wanted {
+        return Ok(());
+    }
+    Err(Fail::new(format_args!("{title}: {found}, not {wanted}")))
+}
+
+/// The call answers as it should.
+fn answers(alloc: Global, fixture: &mut Fixture, title: &str, turn: &Turn) -> Result<(), Fail> {
+    let (call, wanted) = turn;
+    let answer = call.answer(alloc, fixture)?;
+    let wanted = spelled(alloc, wanted)?;
+    same(title, answer.as_str(), wanted.as_str())
+}
+
+/// Each call answers as it should.
+pub fn answer_all(
+    alloc: Global,
+    fixture: &mut Fixture,
+    title: &str,
+    turns: &[Turn],
+) -> Result<(), Fail> {
+    for turn in turns {
+        answers(alloc, fixture, title, turn)?;
+    }
+    Ok(())
 }
 
 /// Each call of the case answers as it should.
-pub fn holds(rt: &impl Abort, alloc: Global, case: &Case) -> Result<(), Fail> {
-    let fixture = opened(alloc, case)?;
-    let _after = answer_all(rt, alloc, case.title, fixture, case.turns)?;
+fn holds(alloc: Global, case: &Case) -> Result<(), Fail> {
+    let mut fixture = opened(alloc, case)?;
+    answer_all(alloc, &mut fixture, case.title, case.turns)
+}
+
+/// Each call of each case answers as it should.
+pub fn hold(alloc: Global, cases: &[Case]) -> Result<(), Fail> {
+    for case in cases {
+        holds(alloc, case)?;
+    }
     Ok(())
 }

@@ -1,5 +1,5 @@
 //! Edits are given up: the views that were committed are there again, with the places of their blocks.
-use crate::call::{CAP, Call, Case, DONE, EMPTY_FILE, WORKED_FILE, holds};
+use crate::call::{CAP, Call, Case, DONE, EMPTY_FILE, WORKED_FILE, hold};
 use std::test::Fail;
 use storage::Mode;
 
@@ -104,8 +104,5 @@ const CASES: [Case; 2] = [
 
 #[test]
 fn edits_are_given_up(rt: HostRuntime) -> Result<(), Fail> {
-    for case in &CASES {
-        holds(&rt, rt.alloc(), case)?;
-    }
-    Ok(())
+    hold(rt.alloc(), &CASES)
 }

@@ -1,20 +1,10 @@
-//! Commits of which each call fails, and what a crash leaves after each call. The numbers of calls were worked out by hand.
-use crate::call::{CAP, Call, DONE, Turn, answer_all};
-use crate::fixture::{CommitError, Fixture};
-use crate::texts::{shown, spelled};
+//! Commits of which each call fails, and what a crash leaves after each call. Ends, sums and numbers of calls were worked out by hand.
+use crate::call::{CAP, Call, DONE, Turn, answer_all, same_number};
+use crate::fixture::Fixture;
 use host_io::{Effect, Fault};
-use mk_value::Text;
 use std::alloc::Global;
-use std::process::Abort;
 use std::test::Fail;
 use storage::Mode;
-
-/// What a file stands for.
-struct Standing {
-    number: u64,
-    /// The views, where `~` stands for 512 letters.
-    views: &'static str,
-}
 
 /// A commit, and what comes before it.
 struct Scenario {
@@ -22,14 +12,20 @@ struct Scenario {
     /// What is done to a new store up to the commit before.
     before: &'static [Turn],
     edits: &'static [Turn],
-    old: Standing,
-    new: Standing,
+    commit: &'static [Turn],
+    /// What a file that stands for the commit before answers.
+    old: &'static [Turn],
+    /// What a file that stands for the new commit answers. The one before it can be brought back.
+    new: &'static [Turn],
+    /// The place of the gate that the commit opens.
+    gate: usize,
     /// How many calls of the host the commit makes.
     calls: u64,
 }
 
 const SCENARIOS: [Scenario; 4] = [
-    // The other slot was never open, so no gate is closed. Three blocks, the directory and the body come, and then as ever.
+    // The other slot was never open, so no gate is closed. Three blocks, the directory and the body of the mark are written and
+    // synced, and then the gate.
     Scenario {
         title: "the first commit",
         before: &[],
@@ -37,18 +33,19 @@ const SCENARIOS: [Scenario; 4] = [
             (Call::Make("people[name:S,age:I]"), DONE),
             (Call::Insert("people", 0, r#"{("Ann",31)}"#, 1), DONE),
         ],
-        old: Standing {
-            number: 0,
-            views: "",
-        },
-        new: Standing {
-            number: 1,
-            views: r#"people[name:S,age:I]{("Ann",31)}"#,
-        },
+        commit: &[(Call::Commit(""), "Ok(1)")],
+        old: &[(Call::Space, "0 208 16"), (Call::Views, "")],
+        new: &[
+            (Call::Space, "1 352 144"),
+            (Call::Views, r#"people[name:S,age:I]{("Ann",31)}"#),
+            (Call::Before, "Some(0)"),
+            (Call::Revert, "Ok(0)"),
+            (Call::Views, ""),
+        ],
+        gate: 128,
         calls: 8,
     },
     // The other gate is closed in two calls. The age goes to the place of the first directory, and the new one behind the old.
-    // Then come the body of the mark and a sync, the gate and a sync.
     Scenario {
         title: "one column",
         before: &[
@@ -57,14 +54,19 @@ const SCENARIOS: [Scenario; 4] = [
             (Call::Commit(""), "Ok(1)"),
         ],
         edits: &[(Call::Set("people", 0, "age", "32"), DONE)],
-        old: Standing {
-            number: 1,
-            views: r#"people[name:S,age:I]{("Ann",31)}"#,
-        },
-        new: Standing {
-            number: 2,
-            views: r#"people[name:S,age:I]{("Ann",32)}"#,
-        },
+        commit: &[(Call::Commit(""), "Ok(2)")],
+        old: &[
+            (Call::Space, "1 352 144"),
+            (Call::Views, r#"people[name:S,age:I]{("Ann",31)}"#),
+        ],
+        new: &[
+            (Call::Space, "2 448 144"),
+            (Call::Views, r#"people[name:S,age:I]{("Ann",32)}"#),
+            (Call::Before, "Some(1)"),
+            (Call::Revert, "Ok(1)"),
+            (Call::Views, r#"people[name:S,age:I]{("Ann",31)}"#),
+        ],
+        gate: 64,
         calls: 8,
     },
     // Written are: of `s` the sizes, the short text, and a memo of 4,097 letters in two pieces; in the first row the numbers of `w`,
@@ -84,14 +86,22 @@ const SCENARIOS: [Scenario; 4] = [
                 DONE,
             ),
         ],
-        old: Standing {
-            number: 1,
-            views: r#"t[s:S,v[k:I,w[i:I]]]{("a~",{(1,{(7)})})}"#,
-        },
-        new: Standing {
-            number: 2,
-            views: r#"t[s:S,v[k:I,w[i:I]]]{("a~~~~~~~~",{(1,{(7),(300)})}),("~",{(2,{(8),(9)}),(3,{})})}"#,
-        },
+        commit: &[(Call::Commit(""), "Ok(2)")],
+        old: &[
+            (Call::Space, "1 928 720"),
+            (Call::Views, r#"t[s:S,v[k:I,w[i:I]]]{("a~",{(1,{(7)})})}"#),
+        ],
+        new: &[
+            (Call::Space, "2 5808 4912"),
+            (
+                Call::Views,
+                r#"t[s:S,v[k:I,w[i:I]]]{("a~~~~~~~~",{(1,{(7),(300)})}),("~",{(2,{(8),(9)}),(3,{})})}"#,
+            ),
+            (Call::Before, "Some(1)"),
+            (Call::Revert, "Ok(1)"),
+            (Call::Views, r#"t[s:S,v[k:I,w[i:I]]]{("a~",{(1,{(7)})})}"#),
+        ],
+        gate: 64,
         calls: 14,
     },
     // The commit before had a longer directory, of 163 bytes at 256. Behind its closed gate the short text goes there, then the age and
@@ -106,7 +116,6 @@ const SCENARIOS: [Scenario; 4] = [
             (Call::Space, "1 432 224"),
             (Call::Drop("other"), DONE),
             (Call::Commit("shorter"), "Ok(2)"),
-            (Call::Space, "2 544 160"),
         ],
         edits: &[
             (
@@ -115,17 +124,30 @@ const SCENARIOS: [Scenario; 4] = [
             ),
             (Call::Set("people", 0, "age", "32"), DONE),
         ],
-        old: Standing {
-            number: 2,
-            views: r#"people[name:S,age:I]{("Ann",31)}"#,
-        },
-        new: Standing {
-            number: 3,
-            views: r#"people[name:S,age:I]{("Ann of the long name",32)}"#,
-        },
+        commit: &[(Call::Commit(""), "Ok(3)")],
+        old: &[
+            (Call::Space, "2 544 160"),
+            (Call::Views, r#"people[name:S,age:I]{("Ann",31)}"#),
+            (Call::Notes, "2 shorter;"),
+        ],
+        new: &[
+            (Call::Space, "3 544 176"),
+            (
+                Call::Views,
+                r#"people[name:S,age:I]{("Ann of the long name",32)}"#,
+            ),
+            (Call::Notes, "2 shorter;"),
+            (Call::Before, "Some(2)"),
+            (Call::Revert, "Ok(2)"),
+            (Call::Views, r#"people[name:S,age:I]{("Ann",31)}"#),
+        ],
+        gate: 128,
         calls: 10,
     },
 ];
+
+/// A commit that fails.
+const FAILING: [Turn; 2] = [(Call::Commit(""), "Err(Failed)"), (Call::IsShut, "true")];
 
 /// The commit that an image stands for.
 #[derive(Clone, Copy)]
@@ -166,83 +188,28 @@ fn left_by(call: u64, calls: u64, effect: Effect) -> Images {
     OLD
 }
 
-/// The file before the commit.
-fn file_before(rt: &impl Abort, alloc: Global, scenario: &Scenario) -> Result<Vec<u8>, Fail> {
-    let new = Fixture::create(alloc, &[], Mode::Write, CAP)?;
-    let made = answer_all(rt, alloc, scenario.title, new, scenario.before)?;
-    Ok(Vec::from_slice(alloc, made.file())?)
-}
-
-/// The store of the file with its edits, over a host with this script.
-fn edited(
-    rt: &impl Abort,
-    alloc: Global,
-    scenario: &Scenario,
-    file: &[u8],
-    script: &[Fault],
-) -> Result<Fixture, Fail> {
-    let fixture = Fixture::open(alloc, file, script, Mode::Write, CAP)?;
-    answer_all(rt, alloc, scenario.title, fixture, scenario.edits)
-}
-
-/// Makes the commit.
-fn commit(alloc: Global, fixture: &mut Fixture) -> Result<Result<u64, CommitError>, Fail> {
-    if fixture.is_shut() {
-        return Err(Fail::new("the store is shut"));
-    }
-    Ok(fixture.commit(alloc, &Text::new(alloc)))
-}
-
-/// The views of a store are these.
-fn shows(rt: &impl Abort, alloc: Global, fixture: &Fixture, views: &str) -> Result<(), Fail> {
-    let found = shown(alloc, fixture.store().views())?;
-    let wanted = spelled(alloc, views)?;
-    assert_eq!(rt; found.as_str(), wanted.as_str());
-    Ok(())
-}
-
-/// The store stands for the commit that is left. The commit before the new one is the old one, which can be brought back.
+/// A file is open whose store answers as that of the commit that is left.
 fn stands(
-    rt: &impl Abort,
     alloc: Global,
     scenario: &Scenario,
     fixture: &mut Fixture,
     left: Left,
 ) -> Result<(), Fail> {
-    match left {
-        Left::Old => stands_for(rt, alloc, fixture, &scenario.old),
-        Left::New => {
-            stands_for(rt, alloc, fixture, &scenario.new)?;
-            goes_back(rt, alloc, fixture, &scenario.old)
-        }
-    }
+    let turns = match left {
+        Left::Old => scenario.old,
+        Left::New => scenario.new,
+    };
+    answer_all(alloc, fixture, scenario.title, turns)
 }
 
-fn stands_for(
-    rt: &impl Abort,
-    alloc: Global,
-    fixture: &Fixture,
-    standing: &Standing,
-) -> Result<(), Fail> {
-    assert_eq!(rt; fixture.store().number(), standing.number);
-    shows(rt, alloc, fixture, standing.views)
-}
-
-fn goes_back(
-    rt: &impl Abort,
-    alloc: Global,
-    fixture: &mut Fixture,
-    older: &Standing,
-) -> Result<(), Fail> {
-    assert!(rt; !fixture.is_shut());
-    assert_eq!(rt; fixture.store().before(), Some(older.number));
-    assert_eq!(rt; fixture.revert(alloc), Ok(older.number));
-    shows(rt, alloc, fixture, older.views)
+/// The file opens to the commit that is left.
+fn opens(alloc: Global, scenario: &Scenario, file: &[u8], left: Left) -> Result<(), Fail> {
+    let mut fixture = Fixture::open(alloc, file, &[], Mode::Write, CAP)?;
+    stands(alloc, scenario, &mut fixture, left)
 }
 
 /// Each image of a crash after so many calls opens to the commit that is left.
 fn leaves(
-    rt: &impl Abort,
     alloc: Global,
     scenario: &Scenario,
     fixture: &Fixture,
@@ -251,15 +218,33 @@ fn leaves(
 ) -> Result<(), Fail> {
     for (choice, left) in EFFECTS.iter().zip(images) {
         let image = fixture.crash(after, *choice)?;
-        let mut opened = Fixture::open(alloc, image.as_slice(), &[], Mode::Write, CAP)?;
-        stands(rt, alloc, scenario, &mut opened, *left)?;
+        opens(alloc, scenario, image.as_slice(), *left)?;
+    }
+    Ok(())
+}
+
+/// The images of a crash after each call of the commit open so, the first of which was the one of this number.
+fn leaves_two(
+    alloc: Global,
+    scenario: &Scenario,
+    fixture: &Fixture,
+    first: u64,
+) -> Result<(), Fail> {
+    for made in 0..=scenario.calls {
+        let images = left_after(made, scenario.calls);
+        leaves(
+            alloc,
+            scenario,
+            fixture,
+            first.saturating_add(made),
+            &images,
+        )?;
     }
     Ok(())
 }
 
 /// Once all but the gate was synced, an image with the gate open stands for the new commit.
 fn waits_for_its_gate(
-    rt: &impl Abort,
     alloc: Global,
     scenario: &Scenario,
     fixture: &Fixture,
@@ -267,89 +252,104 @@ fn waits_for_its_gate(
 ) -> Result<(), Fail> {
     let image = fixture.crash(synced, Effect::Nothing)?;
     let mut file = Vec::from_slice(alloc, image.as_slice())?;
-    assert!(rt; file.len() >= 192);
-    let gate = if scenario.new.number % 2 == 0 {
-        64
-    } else {
-        128
-    };
-    file[gate] = 0xa5;
-    let opened = Fixture::open(alloc, &file, &[], Mode::Write, CAP)?;
-    stands_for(rt, alloc, &opened, &scenario.new)
+    if scenario.gate < file.len() {
+        file[scenario.gate] = 0xa5;
+    }
+    opens(alloc, scenario, &file, Left::New)
 }
 
-/// Makes the commit, and looks at the images of a crash after each call. Gives the number of the first call.
-fn makes(rt: &impl Abort, alloc: Global, scenario: &Scenario, file: &[u8]) -> Result<u64, Fail> {
-    let mut fixture = edited(rt, alloc, scenario, file, &[])?;
+/// Makes the commit, and gives the number of its first call.
+fn makes(alloc: Global, scenario: &Scenario, fixture: &mut Fixture) -> Result<u64, Fail> {
+    answer_all(alloc, fixture, scenario.title, scenario.edits)?;
     let first = fixture.calls();
-    let answer = commit(alloc, &mut fixture)?;
-    assert_eq!(rt; answer, Ok(scenario.new.number), "{}", scenario.title);
-    assert_eq!(rt;
-        fixture.calls().checked_sub(first),
-        Some(scenario.calls),
-        "{}",
-        scenario.title
-    );
-    for made in 0..=scenario.calls {
-        let after = first.saturating_add(made);
-        leaves(
-            rt,
-            alloc,
-            scenario,
-            &fixture,
-            after,
-            &left_after(made, scenario.calls),
-        )?;
-    }
-    let synced = fixture.calls().saturating_sub(2);
-    waits_for_its_gate(rt, alloc, scenario, &fixture, synced)?;
-    stands(rt, alloc, scenario, &mut fixture, Left::New)?;
+    answer_all(alloc, fixture, scenario.title, scenario.commit)?;
+    let end = first.saturating_add(scenario.calls);
+    same_number(scenario.title, fixture.calls(), end)?;
+    leaves_two(alloc, scenario, fixture, first)?;
+    waits_for_its_gate(alloc, scenario, fixture, end.saturating_sub(2))?;
+    stands(alloc, scenario, fixture, Left::New)?;
     Ok(first)
+}
+
+fn makes_over(alloc: Global, scenario: &Scenario, file: &[u8]) -> Result<u64, Fail> {
+    let mut fixture = Fixture::open(alloc, file, &[], Mode::Write, CAP)?;
+    makes(alloc, scenario, &mut fixture)
 }
 
 /// Fails to make the commit, looks at the images of a crash after that, and opens the file anew. It stands for what is read then, and no
 /// crash changes that any more.
 fn fails(
-    rt: &impl Abort,
+    alloc: Global,
+    scenario: &Scenario,
+    fixture: &mut Fixture,
+    images: &Images,
+) -> Result<(), Fail> {
+    answer_all(alloc, fixture, scenario.title, scenario.edits)?;
+    answer_all(alloc, fixture, scenario.title, &FAILING)?;
+    leaves(alloc, scenario, fixture, fixture.calls(), images)?;
+    let _number = fixture.reopen(alloc)?;
+    let [_, read, _] = *images;
+    leaves(alloc, scenario, fixture, fixture.calls(), &[read; 3])?;
+    stands(alloc, scenario, fixture, read)
+}
+
+fn fails_over(
     alloc: Global,
     scenario: &Scenario,
     file: &[u8],
     fault: Fault,
     images: &Images,
 ) -> Result<(), Fail> {
-    let mut fixture = edited(rt, alloc, scenario, file, &[fault])?;
-    let answer = commit(alloc, &mut fixture)?;
-    assert_eq!(rt;
-        answer,
-        Err(CommitError::Failed),
-        "{}: {fault:?}",
-        scenario.title
-    );
-    assert!(rt; fixture.is_shut());
-    leaves(rt, alloc, scenario, &fixture, fixture.calls(), images)?;
-    let number = fixture.reopen(alloc)?;
-    assert!(rt; !fixture.is_shut());
-    assert_eq!(rt; number, fixture.store().number());
-    let [_, read, _] = *images;
-    leaves(rt, alloc, scenario, &fixture, fixture.calls(), &[read; 3])?;
-    stands(rt, alloc, scenario, &mut fixture, read)
+    let mut fixture = Fixture::open(alloc, file, &[fault], Mode::Write, CAP)?;
+    fails(alloc, scenario, &mut fixture, images)
+}
+
+/// Fails each call of the commit with each effect.
+fn fails_each(alloc: Global, scenario: &Scenario, file: &[u8], first: u64) -> Result<(), Fail> {
+    for call in 0..scenario.calls {
+        for effect in EFFECTS {
+            let fault = Fault {
+                call: first.saturating_add(call),
+                effect,
+            };
+            let images = left_by(call, scenario.calls, effect);
+            fails_over(alloc, scenario, file, fault, &images)?;
+        }
+    }
+    Ok(())
+}
+
+/// The file before the commit.
+fn file_before(alloc: Global, scenario: &Scenario) -> Result<Vec<u8>, Fail> {
+    let mut fixture = Fixture::create(alloc, &[], Mode::Write, CAP)?;
+    file_after(alloc, &mut fixture, scenario.title, scenario.before)
+}
+
+fn file_after(
+    alloc: Global,
+    fixture: &mut Fixture,
+    title: &str,
+    turns: &[Turn],
+) -> Result<Vec<u8>, Fail> {
+    answer_all(alloc, fixture, title, turns)?;
+    Ok(Vec::from_slice(alloc, fixture.file())?)
+}
+
+/// The commit stands or the one before it, wherever a call fails or a crash comes.
+fn holds(alloc: Global, scenario: &Scenario) -> Result<(), Fail> {
+    let file = file_before(alloc, scenario)?;
+    let first = makes_over(alloc, scenario, &file)?;
+    fails_each(alloc, scenario, &file, first)
+}
+
+fn hold(alloc: Global, scenarios: &[Scenario]) -> Result<(), Fail> {
+    for scenario in scenarios {
+        holds(alloc, scenario)?;
+    }
+    Ok(())
 }
 
 #[test]
 fn a_commit_stands_or_the_one_before(rt: HostRuntime) -> Result<(), Fail> {
-    for scenario in &SCENARIOS {
-        let file = file_before(&rt, rt.alloc(), scenario)?;
-        let first = makes(&rt, rt.alloc(), scenario, &file)?;
-        for call in 0..scenario.calls {
-            for effect in EFFECTS {
-                let fault = Fault {
-                    call: first.saturating_add(call),
-                    effect,
-                };
-                let images = left_by(call, scenario.calls, effect);
-                fails(&rt, rt.alloc(), scenario, &file, fault, &images)?;
-            }
-        }
-    }
-    Ok(())
+    hold(rt.alloc(), &SCENARIOS)
 }

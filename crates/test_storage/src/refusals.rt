@@ -1,12 +1,13 @@
 //! Commits that are not planned, files that are not opened, and calls of the disk that fail.
-use crate::call::{CAP, Call, Case, DONE, EMPTY_FILE, File, Turn, WORKED_FILE, answer_all, holds};
+use crate::call::{CAP, Call, Case, DONE, EMPTY_FILE, File, Turn, WORKED_FILE, answer_all, hold};
 use crate::fixture::Fixture;
 use crate::worked::WORKED;
 use host_io::{Effect, Fault, MemHost};
+use mk_value::Memory;
 use recovery::OpenError;
 use std::alloc::Global;
 use std::test::Fail;
-use storage::{Mode, check};
+use storage::{Mode, Report, check};
 
 /// A new store, with the greatest number of a commit.
 const LAST: File = File {
@@ -102,14 +103,11 @@ const UNPLANNED: [Case; 7] = [
 
 #[test]
 fn commits_are_not_planned(rt: HostRuntime) -> Result<(), Fail> {
-    for case in &UNPLANNED {
-        holds(&rt, rt.alloc(), case)?;
-    }
-    Ok(())
+    hold(rt.alloc(), &UNPLANNED)
 }
 
 /// Bytes of the worked file that are changed, and what a look at it finds.
-const CHECKED: Case = Case {
+const CHECKED: [Case; 1] = [Case {
     title: "looks at changed files",
     file: WORKED_FILE,
     faults: &[],
@@ -123,80 +121,109 @@ const CHECKED: Case = Case {
         (Call::Check(&[(240, 1)]), "Damaged(325)"),
         (Call::Check(&[(128, 0)]), "0 208 16 0 1"),
     ],
-};
+}];
 
 #[test]
 fn files_are_looked_at(rt: HostRuntime) -> Result<(), Fail> {
-    holds(&rt, rt.alloc(), &CHECKED)
+    hold(rt.alloc(), &CHECKED)
 }
+
+/// Calls after the one of the host that fails.
+struct Failing {
+    title: &'static str,
+    /// How many calls of the host the first call makes. One of them fails.
+    calls: u64,
+    turns: &'static [Turn],
+}
+
+/// How many calls of the host it takes to open the worked file: the marks two, the length, the directory, and three blocks.
+const CALLS: u64 = 7;
 
 /// A call fails with the disk, the store is as it was, and the call succeeds the next time.
-const FAILING: [[Turn; 5]; 2] = [
-    [
-        (Call::Reopen, "Err(Failed)"),
-        (Call::Views, r#"people[name:S,age:I]{("Ann",31)}"#),
-        (Call::Before, "Some(0)"),
-        (Call::Reopen, "Ok(1)"),
-        (Call::Before, "Some(0)"),
-    ],
-    [
-        (Call::Revert, "Err(Failed)"),
-        (Call::Views, r#"people[name:S,age:I]{("Ann",31)}"#),
-        (Call::Before, "Some(0)"),
-        (Call::Revert, "Ok(0)"),
-        (Call::Views, ""),
-    ],
+const FAILING: [Failing; 2] = [
+    Failing {
+        title: "the file is opened anew",
+        calls: CALLS,
+        turns: &[
+            (Call::Reopen, "Err(Failed)"),
+            (Call::Views, r#"people[name:S,age:I]{("Ann",31)}"#),
+            (Call::Before, "Some(0)"),
+            (Call::Reopen, "Ok(1)"),
+            (Call::Before, "Some(0)"),
+        ],
+    },
+    // No block is read.
+    Failing {
+        title: "the commit before is brought back",
+        calls: 4,
+        turns: &[
+            (Call::Revert, "Err(Failed)"),
+            (Call::Views, r#"people[name:S,age:I]{("Ann",31)}"#),
+            (Call::Before, "Some(0)"),
+            (Call::Revert, "Ok(0)"),
+            (Call::Views, ""),
+        ],
+    },
 ];
 
-/// The store of the worked file, over a host one call of which fails.
-fn failing_at(alloc: Global, call: u64) -> Result<Fixture, OpenError> {
-    let script = [Fault {
+const CALLS_MADE: [Case; 1] = [Case {
+    title: "calls of the host are counted",
+    file: WORKED_FILE,
+    faults: &[],
+    mode: Mode::Write,
+    cap: CAP,
+    turns: &[
+        (Call::HostCalls, "7"),
+        (Call::Reopen, "Ok(1)"),
+        (Call::HostCalls, "14"),
+        (Call::Revert, "Ok(0)"),
+        (Call::HostCalls, "18"),
+    ],
+}];
+
+/// Fails the call of the host of this number.
+fn failing_at(call: u64) -> [Fault; 1] {
+    [Fault {
         call,
         effect: Effect::Nothing,
-    }];
-    Fixture::open(alloc, &WORKED, &script, Mode::Write, CAP)
+    }]
 }
 
-/// The numbers of the calls of the host that a call of the store makes once it was opened.
-fn calls_of(alloc: Global, call: &Call) -> Result<(u64, u64), Fail> {
-    let mut fixture = failing_at(alloc, u64::MAX)?;
-    let first = fixture.calls();
-    let _answer = call.answer(alloc, &mut fixture)?;
-    Ok((first, fixture.calls()))
+/// The calls answer as they should, where this call of the host fails.
+fn fails_at(alloc: Global, failing: &Failing, call: u64) -> Result<(), Fail> {
+    let mut fixture = Fixture::open(alloc, &WORKED, &failing_at(call), Mode::Write, CAP)?;
+    answer_all(alloc, &mut fixture, failing.title, failing.turns)
 }
 
-#[test]
-fn calls_fail_with_the_disk(rt: HostRuntime) -> Result<(), Fail> {
-    for turns in &FAILING {
-        let (first, end) = calls_of(rt.alloc(), &turns[0].0)?;
-        assert!(rt; first < end);
-        for call in first..end {
-            let fixture = failing_at(rt.alloc(), call)?;
-            let _after = answer_all(&rt, rt.alloc(), "failing", fixture, turns)?;
-        }
+/// They do so at each call of the host that the first of them makes.
+fn fails_with_the_disk(alloc: Global, failing: &Failing) -> Result<(), Fail> {
+    for call in 0..failing.calls {
+        fails_at(alloc, failing, CALLS.saturating_add(call))?;
     }
     Ok(())
 }
 
-/// A file is opened, and looked at, by so many calls of the host: the marks two, the length, the directory, and three blocks.
-const CALLS: u64 = 7;
+#[test]
+fn calls_fail_with_the_disk(rt: HostRuntime) -> Result<(), Fail> {
+    hold(rt.alloc(), &CALLS_MADE)?;
+    for failing in &FAILING {
+        fails_with_the_disk(rt.alloc(), failing)?;
+    }
+    Ok(())
+}
+
+/// What a look at the worked file finds, where this call of the host fails.
+fn checked(alloc: Global, call: u64) -> Result<Result<Report, OpenError>, Memory> {
+    let mut host = MemHost::new(alloc, &WORKED, b"", &failing_at(call), 0, 0)?;
+    Ok(check(alloc, &mut host))
+}
 
 #[test]
-fn files_are_not_opened_where_the_disk_fails(rt: HostRuntime) -> Result<(), Fail> {
-    for call in 0..=CALLS {
-        let wanted = if call < CALLS {
-            Some(OpenError::Failed)
-        } else {
-            None
-        };
-        assert_eq!(rt; failing_at(rt.alloc(), call).err(), wanted, "call {call}");
-        let script = [Fault {
-            call,
-            effect: Effect::Nothing,
-        }];
-        let mut host = MemHost::new(rt.alloc(), &WORKED, b"", &script, 0, 0)?;
-        let answer = check(rt.alloc(), &mut host);
-        assert_eq!(rt; answer.err(), wanted, "call {call}");
+fn a_look_fails_with_the_disk(rt: HostRuntime) -> Result<(), Fail> {
+    for call in 0..CALLS {
+        let found = checked(rt.alloc(), call)?;
+        assert_eq!(rt; found.err(), Some(OpenError::Failed), "call {call}");
     }
+    assert!(rt; checked(rt.alloc(), CALLS)?.is_ok());
     Ok(())
 }

@@ -1,5 +1,5 @@
 //! Where blocks go, as the space that commits take up. Ends and sums were worked out by hand.
-use crate::call::{CAP, Call, Case, DONE, EMPTY_FILE, WORKED_FILE, holds};
+use crate::call::{CAP, Call, Case, DONE, EMPTY_FILE, WORKED_FILE, hold};
 use std::test::Fail;
 use storage::Mode;
 
@@ -82,8 +82,5 @@ const CASES: [Case; 4] = [
 
 #[test]
 fn blocks_go_to_the_least_places(rt: HostRuntime) -> Result<(), Fail> {
-    for case in &CASES {
-        holds(&rt, rt.alloc(), case)?;
-    }
-    Ok(())
+    hold(rt.alloc(), &CASES)
 }

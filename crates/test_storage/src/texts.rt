@@ -1,12 +1,10 @@
 //! Paths, rows and values from texts, and texts of views.
-use mk_value::{
-    Kind, Memory, Name, Path, Row, Schema, TableRead, Text, Value, print_value, to_value,
-};
+use mk_value::{Kind, Memory, Name, Path, Row, TableRead, Text, Value, print_value, to_value};
 use std::alloc::Global;
 use std::test::Fail;
 use struct_text::print;
 use tables::Shared;
-use tokens::{cut, path_at, read_literal};
+use tokens::{Piece, cut, path_at, read_literal};
 use view_store::Views;
 
 /// How many letters a `~` stands for in the texts of tables: with one more a value is a memo.
@@ -41,9 +39,14 @@ pub fn name(text: &str) -> Result<Name, Fail> {
 
 /// The path that a text spells, such as `book/0/phones`.
 pub fn path(alloc: Global, text: &str) -> Result<Path, Fail> {
-    let pieces = cut(alloc, text)?.pieces;
-    let (path, taken) = path_at(alloc, pieces.as_slice())?;
-    if taken < pieces.as_slice().len() {
+    let cutting = cut(alloc, text)?;
+    whole_path(alloc, cutting.pieces.as_slice())
+}
+
+/// The path that all of the pieces are.
+fn whole_path(alloc: Global, pieces: &[Piece<'_>]) -> Result<Path, Fail> {
+    let (path, taken) = path_at(alloc, pieces)?;
+    if taken < pieces.len() {
         return Err(Fail::new("no path"));
     }
     Ok(path)
@@ -56,13 +59,15 @@ fn value(alloc: Global, literal: &str, kind: &Kind) -> Result<Value, Fail> {
     Ok(to_value(alloc, &literal, kind)?)
 }
 
-/// The value that a literal spells for a property.
+/// The value that a literal spells for a property of the view at a path.
 pub fn value_for(
     alloc: Global,
-    schema: &Schema,
+    views: &Views,
+    path: &Path,
     prop: &Name,
     literal: &str,
 ) -> Result<Value, Fail> {
+    let schema = views.schema(path)?;
     let Some(at) = schema.find(prop.as_str()) else {
         return Err(Fail::new("no such property"));
     };
@@ -70,10 +75,14 @@ pub fn value_for(
     value(alloc, literal, &prop.kind)
 }
 
-/// The first row of the view of a schema that a literal spells.
-pub fn row_for(alloc: Global, schema: &Schema, literal: &str) -> Result<Row, Fail> {
-    let kind = Kind::V(schema.copy()?);
-    let Value::V(rows) = value(alloc, literal, &kind)? else {
+/// The first row that a literal spells of the view at a path.
+pub fn row_for(alloc: Global, views: &Views, path: &Path, literal: &str) -> Result<Row, Fail> {
+    let kind = Kind::V(views.schema(path)?.copy()?);
+    first_row(&value(alloc, literal, &kind)?)
+}
+
+fn first_row(value: &Value) -> Result<Row, Fail> {
+    let Value::V(rows) = value else {
         return Err(Fail::new("no view"));
     };
     match rows.as_slice().first() {
