@@ -12,12 +12,16 @@
 mod column;
 mod cut;
 mod fill;
+mod growing;
 mod held;
 mod packed;
+mod prepared;
 mod segment;
 mod segmented;
 mod spine;
+mod tail;
 
 pub use column::IntCol;
 pub use held::Held;
 pub use packed::PackedBytes;
+pub use prepared::PreparedPush;
