@@ -1,12 +1,14 @@
 -- Laws of a list that is kept in parts, the last of which stands by itself.
-use Rattle.std.proofs.Common.{◌≡◌, ℕ, suc, ◌+◌, ◌-◌, ◌<◌, ◌≤◌, Some, List, [], ◌∷◌, ◌++◌, length, get_or, set, take, drop, slice_get, refl, sym, ap, ◌∙◌, arith, inl, inr, min}
-use Rattle.std.proofs.lemmas.List.{append_assoc, append-nil, length-append, map-append, get_or_append_left, get_or-append_right, get_or_default, drop-append-le, take-append-le, take_all, take_at, length-drop}
+use Rattle.std.proofs.Common.{◌≡◌, ℕ, suc, ◌+◌, ◌-◌, ◌<◌, ◌≤◌, Some, List, [], ◌∷◌, ◌++◌, length, get_or, set, take, drop, slice_get, refl, sym, ap, subst, ◌∙◌, arith, inl, inr, min, sum}
+use Rattle.std.proofs.lemmas.List.{append_assoc, append-nil, length-append, map-append, get_or_append_left, get_or-append_right, get_or_default, drop-append-le, take-append-le, take_all, take_at, length-drop, length_push}
 use Rattle.std.proofs.lemmas.Bool.{cases_lt}
 use Rattle.std.proofs.Math.Seq.{drop-append-add, get_or-append_seam}
 use Rattle.std.proofs.lemmas.Option.{slice_get-get_or, get_or_from_slice_get}
+use Rattle.segments.specs.declared.segments.Place.{Place}
+use Rattle.segments.specs.Segments.{IsPlace}
 use Rattle.segments.specs.Joined.{joined, counts_of}
 use Rattle.segments.proofs.Lists.{last_parts, take-append-more}
-use Rattle.segments.proofs.Joined.{joined-append, set-append}
+use Rattle.segments.proofs.Joined.{joined-append, set-append, length-joined, length-counts}
 
 -- reads in a list that is made of two
 
@@ -91,3 +93,50 @@ pub front_and_last : {X : Type 0} (ss : List (List X)) → 0 < length ss → ss 
 front_and_last ss some =
     let last : ℕ = length ss - 1 in
     last_parts ss (get_or ss last []) last (omega arith) (get_or_default ss last [] (get_or ss last []) (omega arith))
+
+-- a list without its last item
+
+pub front-push : {X : Type 0} (xs : List X) (x : X) → take (length (xs ++ x ∷ []) - 1) (xs ++ x ∷ []) ≡ xs
+front-push xs x = take_at xs (x ∷ []) (length (xs ++ x ∷ []) - 1) (omega (arith, length_push xs x))
+
+pub front_parts : {X : Type 0} (xs : List X) (d : X) → 0 < length xs → xs ≡ take (length xs - 1) xs ++ get_or xs (length xs - 1) d ∷ []
+front_parts xs d some =
+    let last : ℕ = length xs - 1 in
+    last_parts xs (get_or xs last d) last (omega arith) (get_or_default xs last d (get_or xs last d) (omega arith))
+
+-- the last part without its last item
+pub joined-front : {X : Type 0} (head : List (List X)) (s : List X) (d : X) → 0 < length s → joined (head ++ take (length s - 1) s ∷ []) ≡ take (length (joined (head ++ s ∷ [])) - 1) (joined (head ++ s ∷ []))
+joined-front head s d some =
+    let t = take (length s - 1) s in
+    let x = get_or s (length s - 1) d in
+    let whole : joined (head ++ s ∷ []) ≡ joined (head ++ t ∷ []) ++ x ∷ [] =
+    ap (λ z. joined (head ++ z ∷ [])) (front_parts s d some) ∙ joined-last-more head t x in
+    sym (front-push (joined (head ++ t ∷ [])) x) ∙ ap (λ z. take (length z - 1) z) (sym whole)
+
+-- places in a list of parts with one more
+
+module _ {X : Type 0} (head : List (List X)) (s : List X) (at : ℕ) where
+  pub place-left : (p : Place) → IsPlace (counts_of head) at p → IsPlace (counts_of (head ++ s ∷ [])) at p
+  place-left p h =
+      let P : List ℕ → Type 0 = λ cs. IsPlace cs at p in
+      let cs : List ℕ = counts_of head in
+      subst P (sym (counts-last head s)) (record {
+        segment = omega (arith, h.segment, length-append cs (length s ∷ []));
+        within = omega (arith, h.within, get_or_append_left cs (length s ∷ []) 0 p.segment h.segment);
+        sum = ap (λ n. n + p.offset) (ap sum (take-append-le p.segment cs (length s ∷ []) (omega (arith, h.segment)))) ∙ h.sum;
+      })
+
+  pub place-last : (p : Place) → length (joined head) ≤ at → at < length (joined (head ++ s ∷ [])) → p.segment ≡ length head → p.offset ≡ at - length (joined head) → IsPlace (counts_of (head ++ s ∷ [])) at p
+  place-last p le l is off =
+      let P : List ℕ → Type 0 = λ cs. IsPlace cs at p in
+      let cs : List ℕ = counts_of head in
+      let len : length cs ≡ length head = length-counts head in
+      let here : p.segment ≡ length cs = is ∙ sym len in
+      let count : get_or (cs ++ length s ∷ []) p.segment 0 ≡ length s = ap (λ k. get_or (cs ++ length s ∷ []) k 0) here ∙ get_or-append_seam cs (length s) [] 0 in
+      let front : take p.segment (cs ++ length s ∷ []) ≡ cs = take_at cs (length s ∷ []) p.segment (sym here) in
+      let start : sum (take p.segment (cs ++ length s ∷ [])) ≡ length (joined head) = ap sum front ∙ sym (length-joined head) in
+      subst P (sym (counts-last head s)) (record {
+        segment = omega (arith, here, length-append cs (length s ∷ []));
+        within = omega (arith, count, off, l, le, ap length (joined-last head s), length-append (joined head) s);
+        sum = omega (arith, start, off, le);
+      })

@@ -152,6 +152,9 @@ impl Table {
         if count == 0 {
             return Ok(());
         }
+        if count == 1 && at == self.len() {
+            return self.push_row(row);
+        }
         let rows = self.len() + count;
         let cols = self.cols_inserted(at, row, count)?;
         self.set_cols(rows, cols);
@@ -225,6 +228,21 @@ impl Table {
     {
         let _rows = table.table().len();
         self.cols.set_view(col, row, table)
+    }
+
+    /// Puts a row at the end.
+    fn push_row(&mut self, row: &Row) -> Result<(), Memory>
+        requires few { length self.old.rows < 16777216 }
+        requires row { IsRowOf row.now self.old.schema }
+        ensures ok { OnOk result (self.new ≡ with_rows_inserted (length self.old.rows) row.now 1 self.old) }
+        ensures err { OnErr result (self.new ≡ self.old) }
+        ensures rests { RestsOn self.new self.old }
+    {
+        let rows = self.len();
+        let props = self.schema.get().as_slice();
+        self.cols.push_row(rows, props, row.as_slice())?;
+        self.rows += 1;
+        Ok(())
     }
 
     /// Copies of the columns with rows put in.
