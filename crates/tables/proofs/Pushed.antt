@@ -1,20 +1,23 @@
 -- Columns at whose end a row was put, and those that were made ready for it.
-use Rattle.std.proofs.Common.{◌≡◌, ℕ, zero, suc, ◌+◌, ◌<◌, ◌≤◌, ℤ, List, [], ◌∷◌, ◌++◌, length, get_or, take, drop, map, pos, refl, ap, sym, subst, ◌∙◌, arith}
+use Rattle.std.proofs.Common.{◌≡◌, ℕ, zero, suc, ◌+◌, ◌-◌, ◌<◌, ℤ, List, [], ◌∷◌, ◌++◌, length, get_or, take, drop, map, pos, refl, ap, sym, subst, ◌∙◌, arith}
 use Rattle.std.specs.List.{AllZip}
 use Rattle.std.proofs.lemmas.List.{length-map, get_or-map, take_all, drop_all}
 use Rattle.mk_value.specs.Heading.{Domain, Attribute}
 use Rattle.mk_value.specs.Data.{Datum, integer, relation_of, IsOf, IsRowOf}
 use Rattle.mk_value.specs.Tables.{domain_at}
-use Rattle.tables.specs.Homes.{Home, no_home, column_of}
+use Rattle.mk_value.specs.Values.{datum_of}
+use Rattle.mk_value.specs.declared.value.Value.{Value}
+use Rattle.tables.specs.Homes.{no_home, column_of}
 use Rattle.tables.specs.Rows.{inserted, home_inserted, with_rows_inserted}
-use Rattle.tables.specs.Tables.{StoredTable}
+use Rattle.tables.specs.Shapes.{HasHomes}
+use Rattle.tables.specs.Tables.{StoredTable, IsTable}
 use Rattle.tables.specs.Columns.{StoredColumn, integers, texts, views, no_column, column_values, home_of, table_of_columns, IsColumnOf, IsColumnWith, AreColumnsOf, AreColumnsIn}
 use Rattle.tables.specs.declared.prepared.PreparedColumn.{PreparedColumn}
 use Rattle.tables.specs.declared.prepared.PreparedColumn.TheVariants.{Ints, Blobs, Views}
 use Rattle.tables.specs.Prepared.{IsPushed, AreReady, ArePushed, HasRoomForNumber, HasRoomForString, IsAfter, IsReadyFor, IsReadyForNumber, IsReadyForString, IsLonger}
 use Rattle.tables.proofs.ColumnWith.{keeps_integer, keeps_long, keeps_text, keeps_bytes, numbers_many, strings_many, views_many, integers_inserted_in, longs_inserted_in, texts_inserted_in, bytes_inserted_in, views_inserted}
-use Rattle.tables.proofs.Gathering.{column_of-columns}
-use Rattle.tables.proofs.Rebuilding.{column_inserted}
+use Rattle.tables.proofs.Gathering.{column_of-columns, length-rows_of_columns}
+use Rattle.tables.proofs.Rebuilding.{AreRebuilt, column_inserted, inserted_done}
 
 -- a value put behind all others
 at_end : {X : Type 0} (n : ℕ) (x : X) (xs : List X) → length xs ≡ n → xs ++ x ∷ [] ≡ inserted n 1 x xs
@@ -171,3 +174,50 @@ row_pushed n schema row old new whole fits h =
           (subst (λ vs. IsColumnWith e (inserted n 1 d vs) (home_inserted n 1 e d (home_of (get_or old k no_column))) (get_or new k no_column)) values
           (pushed_at n k schema row old new h p)));
     }
+
+-- the table with the row
+pub row_done : (n : ℕ) (schema : List Attribute) (row : List Datum) (old new : List StoredColumn) → AreColumnsOf n schema old → IsTable (table_of_columns n schema old) → HasHomes (table_of_columns n schema old)
+    → length (table_of_columns n schema old).rows < 16777216 → IsRowOf row schema → ArePushed n schema row old new
+    → AreRebuilt (n + 1) schema new (with_rows_inserted (length (table_of_columns n schema old).rows) row 1 (table_of_columns n schema old))
+row_done n schema row old new whole table homes few fits h =
+    let t : StoredTable = table_of_columns n schema old in
+    let long : length t.rows ≡ n = length-rows_of_columns n schema old in
+    inserted_done t (length t.rows) 1 (n + 1) row new table homes (omega arith) (omega (arith, few)) fits
+    (subst (λ k. AreColumnsIn (with_rows_inserted k row 1 t) new) (sym long) (row_pushed n schema row old new whole fits h)) (omega (arith, long))
+
+-- One column after another.
+
+rest_of : {X : Type 0} (x : X) (xs : List X) → take (length (x ∷ xs) - 1) (drop 1 (x ∷ xs)) ≡ xs
+rest_of x xs = take_all (length (x ∷ xs) - 1) xs (omega arith)
+
+-- no columns are left
+pub pushed_none : (n : ℕ) (schema : List Attribute) (row : List Datum) (cols : List StoredColumn) → AreReady n schema row cols → length cols ≡ 0 → ArePushed n schema row cols cols
+pushed_none n [] [] [] h e = tt
+pushed_none n [] (d ∷ row) [] h e = absurd h
+pushed_none n (a ∷ schema) [] [] h e = absurd h
+pushed_none n (a ∷ schema) (d ∷ row) [] h e = absurd h
+pushed_none n schema row (c ∷ cols) h e = absurd (omega arith)
+
+-- the columns behind the first
+pub ready_rest : (n : ℕ) (props : List Attribute) (values : List Value) (c : StoredColumn) (rest : List StoredColumn) → AreReady n props (map datum_of values) (c ∷ rest)
+    → AreReady n (take (length props - 1) (drop 1 props)) (map datum_of (take (length values - 1) (drop 1 values))) rest
+ready_rest n [] [] c rest h = absurd h
+ready_rest n [] (v ∷ values) c rest h = absurd h
+ready_rest n (a ∷ props) [] c rest h = absurd h
+ready_rest n (a ∷ props) (v ∷ values) c rest h =
+    subst (λ (ps : List Attribute). AreReady n ps (map datum_of (take (length (v ∷ values) - 1) (drop 1 (v ∷ values)))) rest) (sym (rest_of a props))
+    (subst (λ (vs : List Value). AreReady n props (map datum_of vs) rest) (sym (rest_of v values)) h.2)
+
+-- the first of them, and those behind it
+pub pushed_more : (n : ℕ) (props : List Attribute) (values : List Value) (c new : StoredColumn) (rest more : List StoredColumn) (a : Attribute) (k : Domain) (v : Value)
+    → AreReady n props (map datum_of values) (c ∷ rest) → a ≡ get_or props 0 a → k ≡ a.domain → v ≡ get_or values 0 v → IsPushed n k (datum_of v) c new
+    → ArePushed n (take (length props - 1) (drop 1 props)) (map datum_of (take (length values - 1) (drop 1 values))) rest more → ArePushed n props (map datum_of values) (c ∷ rest) (new ∷ more)
+pushed_more n [] [] c new rest more a k v h at kind here first behind = absurd h
+pushed_more n [] (w ∷ values) c new rest more a k v h at kind here first behind = absurd h
+pushed_more n (b ∷ props) [] c new rest more a k v h at kind here first behind = absurd h
+pushed_more n (b ∷ props) (w ∷ values) c new rest more a k v h at kind here first behind =
+    let domain : k ≡ b.domain = kind ∙ ap (λ (x : Attribute). x.domain) at in (
+      subst (λ e. IsPushed n e (datum_of w) c new) domain (subst (λ (x : Value). IsPushed n k (datum_of x) c new) here first),
+      subst (λ (ps : List Attribute). ArePushed n ps (map datum_of values) rest more) (rest_of b props)
+          (subst (λ (vs : List Value). ArePushed n (take (length (b ∷ props) - 1) (drop 1 (b ∷ props))) (map datum_of vs) rest more) (rest_of w values) behind),
+    )

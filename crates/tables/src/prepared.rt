@@ -63,8 +63,9 @@ pub(crate) fn push_row(
     let Some((first, rest)) = cols.split_first_mut() else {
         return Ok(());
     };
+    let prop = &props[0];
     let column = replace(first, Col::Views(Tables::new(alloc)));
-    match prepare(alloc, rows, column, &props[0].kind, &values[0]) {
+    match prepare(alloc, rows, column, &prop.kind, &values[0]) {
         Ok(prepared) => match push_row(alloc, rows, rest, &props[1..], &values[1..]) {
             Ok(()) => {
                 *first = prepared.finish();
