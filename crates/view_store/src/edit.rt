@@ -51,11 +51,7 @@ fn finished(alloc: Global, table: Table) -> Result<Shared, Memory>
 }
 
 /// Edits the rows of a shared table: in place, where nobody else holds it, and else in a copy in its place, while the others keep it.
-pub(crate) fn edit_rows(
-    alloc: Global,
-    table: &mut Shared,
-    change: Change<'_>,
-) -> Result<(), Memory>
+pub(crate) fn edit_rows(alloc: Global, table: &mut Shared, change: Change<'_>) -> Result<(), Memory>
     requires { due_in table.old [] (edit_of change) ≡ None }
     ensures ok { OnOk result (table.new ≡ edited_here (edit_of change.entry) table.old) }
     ensures err { OnErr result (table.new ≡ table.old) }
