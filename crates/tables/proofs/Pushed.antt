@@ -13,8 +13,9 @@ use Rattle.tables.specs.Shapes.{HasHomes}
 use Rattle.tables.specs.Tables.{StoredTable, IsTable}
 use Rattle.tables.specs.Columns.{StoredColumn, integers, texts, views, no_column, column_values, home_of, table_of_columns, IsColumnOf, IsColumnWith, AreColumnsOf, AreColumnsIn}
 use Rattle.tables.specs.declared.prepared.PreparedColumn.{PreparedColumn}
-use Rattle.tables.specs.declared.prepared.PreparedColumn.TheVariants.{Ints, Blobs, Views}
+use Rattle.tables.specs.declared.prepared.PreparedColumn.TheVariants.{Ints, Blobs, Listed, Views}
 use Rattle.tables.specs.Prepared.{IsPushed, AreReady, ArePushed, HasRoomForNumber, HasRoomForString, IsAfter, IsReadyFor, IsReadyForNumber, IsReadyForString, IsLonger}
+use Rattle.segments.proofs.Last.{front-push}
 use Rattle.tables.proofs.ColumnWith.{keeps_integer, keeps_long, keeps_text, keeps_bytes, numbers_many, strings_many, views_many, integers_inserted_in, longs_inserted_in, texts_inserted_in, bytes_inserted_in, views_inserted}
 use Rattle.tables.proofs.Gathering.{column_of-columns, length-rows_of_columns}
 use Rattle.tables.proofs.Rebuilding.{AreRebuilt, column_inserted, inserted_done}
@@ -59,6 +60,7 @@ ready_integer e n z (integers old) (Ints q) fits whole h = record {
   after (texts new) made = absurd made
   after (views new) made = absurd made
 ready_integer e n z (integers old) (Blobs q) fits whole h = absurd h
+ready_integer e n z (integers old) (Listed l) fits whole h = absurd h
 ready_integer e n z (integers old) (Views a b) fits whole h = absurd h
 ready_integer e n z (texts old) p fits whole h = absurd h
 ready_integer e n z (views old) p fits whole h = absurd h
@@ -75,6 +77,7 @@ ready_long e n z (integers old) (Ints q) fits whole h = record {
   after (texts new) made = absurd made
   after (views new) made = absurd made
 ready_long e n z (integers old) (Blobs q) fits whole h = absurd h
+ready_long e n z (integers old) (Listed l) fits whole h = absurd h
 ready_long e n z (integers old) (Views a b) fits whole h = absurd h
 ready_long e n z (texts old) p fits whole h = absurd h
 ready_long e n z (views old) p fits whole h = absurd h
@@ -90,6 +93,7 @@ ready_text e n v (texts old) (Blobs q) fits whole h = record {
   after (integers new) made = absurd made
   after (views new) made = absurd made
 ready_text e n v (texts old) (Ints q) fits whole h = absurd h
+ready_text e n v (texts old) (Listed l) fits whole h = absurd h
 ready_text e n v (texts old) (Views a b) fits whole h = absurd h
 ready_text e n v (integers old) p fits whole h = absurd h
 ready_text e n v (views old) p fits whole h = absurd h
@@ -105,6 +109,7 @@ ready_bytes e n v (texts old) (Blobs q) fits whole h = record {
   after (integers new) made = absurd made
   after (views new) made = absurd made
 ready_bytes e n v (texts old) (Ints q) fits whole h = absurd h
+ready_bytes e n v (texts old) (Listed l) fits whole h = absurd h
 ready_bytes e n v (texts old) (Views a b) fits whole h = absurd h
 ready_bytes e n v (integers old) p fits whole h = absurd h
 ready_bytes e n v (views old) p fits whole h = absurd h
@@ -118,7 +123,20 @@ ready_table e n rows ts longer fits whole h = record {
   after : (c : StoredColumn) → IsAfter (Views ts longer) c → IsPushed n e (Datum.relation (relation_of rows)) (views ts) c
   after (views new) made =
       views_inserted e n n 1 (views ts) ts new rows h.table whole refl
-      (made ∙ h.put ∙ ap (λ k. inserted k 1 h.table ts) (views_many e n (views ts) ts whole refl)) h.made fits
+      (made ∙ h.put ∙ at_end n h.table ts (views_many e n (views ts) ts whole refl)) h.made fits
+  after (integers new) made = absurd made
+  after (texts new) made = absurd made
+
+pub ready_list : (e : Domain) (n : ℕ) (rows : List (List Datum)) (ts list : List StoredTable) → IsOf (Datum.relation (relation_of rows)) e → IsColumnOf n e (views ts) → IsLonger e rows ts list
+    → IsReadyFor n e (Datum.relation (relation_of rows)) (views ts) (Listed list)
+ready_list e n rows ts list fits whole h = record {
+  before = ap (λ xs. views (take (length xs - 1) xs)) h.put ∙ ap views (front-push ts h.table);
+  after = after;
+} where
+  after : (c : StoredColumn) → IsAfter (Listed list) c → IsPushed n e (Datum.relation (relation_of rows)) (views ts) c
+  after (views new) made =
+      views_inserted e n n 1 (views ts) ts new rows h.table whole refl
+      (made ∙ h.put ∙ at_end n h.table ts (views_many e n (views ts) ts whole refl)) h.made fits
   after (integers new) made = absurd made
   after (texts new) made = absurd made
 

@@ -1,5 +1,5 @@
 -- Columns to which a row is put at the end: each is made ready for its value first, and then none can fail.
-use Rattle.std.specs.Prelude.{◌≡◌, ℕ, ◌<◌, ℤ, List, [], ◌∷◌, ◌++◌, length, None}
+use Rattle.std.specs.Prelude.{◌≡◌, ℕ, ◌-◌, ◌<◌, ℤ, List, [], ◌∷◌, ◌++◌, length, take, None}
 use Rattle.mk_value.specs.Heading.{Domain, Attribute}
 use Rattle.mk_value.specs.Data.{Datum, IsOf}
 use Rattle.tables.specs.Columns.{StoredColumn, integers, texts, views, column_values, home_of, IsColumnOf, IsColumnWith}
@@ -7,7 +7,7 @@ use Rattle.tables.specs.Rows.{inserted, home_inserted}
 use Rattle.tables.specs.Tables.{StoredTable}
 use Rattle.tables.specs.Build.{IsTableOfRows}
 use Rattle.tables.specs.declared.prepared.PreparedColumn.{PreparedColumn}
-use Rattle.tables.specs.declared.prepared.PreparedColumn.TheVariants.{Ints, Blobs, Views}
+use Rattle.tables.specs.declared.prepared.PreparedColumn.TheVariants.{Ints, Blobs, Listed, Views}
 
 -- a column of the domain after a value was put at its end, behind n values
 abbrev pub IsPushed : ℕ → Domain → Datum → StoredColumn → StoredColumn → Type 0
@@ -38,12 +38,14 @@ HasRoomForString _ = ⊥
 abbrev pub column_before : PreparedColumn → StoredColumn
 column_before (Ints p) = integers p.column
 column_before (Blobs p) = texts p.column
+column_before (Listed list) = views (take (length list - 1) list)
 column_before (Views before after) = views before
 
 -- a column with it
 abbrev pub IsAfter : PreparedColumn → StoredColumn → Type 0
 IsAfter (Ints p) (integers c) = (c.values ≡ p.column.values ++ p.value ∷ []) × (c.home ≡ None)
 IsAfter (Blobs p) (texts c) = (c.values ≡ p.values) × (c.home ≡ None)
+IsAfter (Listed list) (views ts) = ts ≡ list
 IsAfter (Views before after) (views ts) = ts ≡ after
 IsAfter _ _ = ⊥
 
@@ -60,7 +62,7 @@ IsReadyForString _ v _ = ⊥
 pub record IsLonger (e : Domain) (rows : List (List Datum)) (old new : List StoredTable) : Type 0 where
   pub table : StoredTable
   pub made : IsTableOfRows e rows table
-  pub put : new ≡ inserted (length old) 1 table old
+  pub put : new ≡ old ++ table ∷ []
 
 -- a column that is ready for a value of the domain, behind its n values
 pub record IsReadyFor (n : ℕ) (e : Domain) (d : Datum) (old : StoredColumn) (p : PreparedColumn) : Type 0 where

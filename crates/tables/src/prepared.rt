@@ -3,13 +3,13 @@ ghost use Rattle.std.specs.Prelude.{◌≡◌, ◌<◌, length, map, IfOk, IfErr
 ghost use Rattle.mk_value.specs.Data.{IsOf};
 ghost use Rattle.mk_value.specs.Kinds.{domain_of};
 ghost use Rattle.mk_value.specs.Values.{datum_of};
-ghost use Rattle.tables.specs.Columns.{IsColumnOf};
+ghost use Rattle.tables.specs.Columns.{IsColumnOf, views};
 ghost use Rattle.tables.specs.Stored.{stored_of};
 ghost use Rattle.tables.specs.Prepared.{AreReady, ArePushed, HasRoomForNumber, HasRoomForString, IsAfter, IsReadyFor, IsReadyForNumber, IsReadyForString, IsLonger, column_before};
 
 use crate::build::inner_of_rows;
 use crate::cols::Col;
-use crate::tables::Tables;
+use crate::tables::{TableList, Tables};
 use mk_value::{Kind, Memory, Prop, Rows, Value};
 use std::alloc::Global;
 use std::mem::replace;
@@ -19,6 +19,8 @@ use std::mem::replace;
 pub(crate) enum PreparedColumn {
     Ints(int_col::PreparedPush),
     Blobs(bytes_col::PreparedPush),
+    /// The list of the tables, which has the one more already.
+    Listed(TableList),
     /// The tables, and the same with one more.
     Views(Tables, Tables),
 }
@@ -31,6 +33,7 @@ impl PreparedColumn {
         match self {
             PreparedColumn::Ints(push) => Col::Ints(push.finish()),
             PreparedColumn::Blobs(push) => Col::Blobs(push.finish()),
+            PreparedColumn::Listed(list) => Col::Views(Tables::of_list(list)),
             PreparedColumn::Views(_tables, longer) => Col::Views(longer),
         }
     }
@@ -42,6 +45,10 @@ impl PreparedColumn {
         match self {
             PreparedColumn::Ints(push) => Col::Ints(push.cancel()),
             PreparedColumn::Blobs(push) => Col::Blobs(push.cancel()),
+            PreparedColumn::Listed(mut list) => {
+                list.pop();
+                Col::Views(Tables::of_list(list))
+            }
             PreparedColumn::Views(tables, _longer) => Col::Views(tables),
         }
     }
@@ -136,7 +143,7 @@ fn prepare_string(col: Col, value: &[u8]) -> Result<PreparedColumn, Col>
     }
 }
 
-/// Makes a column of tables ready for the table of these rows: by a copy of its list.
+/// Makes a column of tables ready for the table of these rows.
 fn prepare_table(
     alloc: Global,
     col: Col,
@@ -152,6 +159,44 @@ fn prepare_table(
     let Col::Views(tables) = col else {
         unreachable!()
     };
+    match tables.into_list() {
+        Ok(list) => put_in_list(alloc, list, kind, inner, rows),
+        Err(tables) => put_in_copy(alloc, tables, kind, inner, rows),
+    }
+}
+
+/// Puts the table of these rows into a list.
+fn put_in_list(
+    alloc: Global,
+    mut list: TableList,
+    kind: &Kind,
+    inner: &Rows,
+    rows: usize,
+) -> Result<PreparedColumn, Col>
+    requires whole { IsColumnOf rows (domain_of kind.now) (views list) }
+    requires fits { IsOf (datum_of (Value.V inner.now)) (domain_of kind.now) }
+    ensures ok { IfOk result (IsReadyFor rows (domain_of kind.now) (datum_of (Value.V inner.now)) (views list)) }
+    ensures err { IfErr result (λ same. stored_of same ≡ views list) }
+{
+    match add_table(alloc, &mut list, kind, inner) {
+        Ok(()) => Ok(PreparedColumn::Listed(list)),
+        Err(Memory) => Err(Col::Views(Tables::of_list(list))),
+    }
+}
+
+/// Puts the table of these rows into a copy of a list.
+fn put_in_copy(
+    alloc: Global,
+    tables: Tables,
+    kind: &Kind,
+    inner: &Rows,
+    rows: usize,
+) -> Result<PreparedColumn, Col>
+    requires whole { IsColumnOf rows (domain_of kind.now) (views tables) }
+    requires fits { IsOf (datum_of (Value.V inner.now)) (domain_of kind.now) }
+    ensures ok { IfOk result (IsReadyFor rows (domain_of kind.now) (datum_of (Value.V inner.now)) (views tables)) }
+    ensures err { IfErr result (λ same. stored_of same ≡ views tables) }
+{
     match longer(alloc, &tables, kind, inner) {
         Ok(longer) => Ok(PreparedColumn::Views(tables, longer)),
         Err(Memory) => Err(Col::Views(tables)),
@@ -163,8 +208,17 @@ fn longer(alloc: Global, tables: &Tables, kind: &Kind, rows: &Rows) -> Result<Ta
     requires { IsOf (datum_of (Value.V rows.now)) (domain_of kind.now) }
     ensures { IfOk result (IsLonger (domain_of kind.now) rows.now tables.now) }
 {
+    let mut list = tables.to_list()?;
+    add_table(alloc, &mut list, kind, rows)?;
+    Ok(Tables::of_list(list))
+}
+
+/// Puts the table of these rows behind those of a list.
+fn add_table(alloc: Global, list: &mut TableList, kind: &Kind, rows: &Rows) -> Result<(), Memory>
+    requires { IsOf (datum_of (Value.V rows.now)) (domain_of kind.now) }
+    ensures ok { OnOk result (IsLonger (domain_of kind.now) rows.now list.old list.new) }
+    ensures err { OnErr result (list.new ≡ list.old) }
+{
     let table = inner_of_rows(alloc, kind, rows)?;
-    let mut longer = tables.same()?;
-    longer.insert(tables.len(), &table, 1)?;
-    Ok(longer)
+    list.push(table)
 }

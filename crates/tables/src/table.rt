@@ -138,6 +138,9 @@ impl Table {
     /// Puts copies of a row, so many times, before the row at a place, or at the end. The tables in them have no homes, and where
     /// there are any the plain columns have none.
     ///
+    /// One row at the end costs its values: each column is made ready for it, and then takes it in place where its last segment is its own.
+    /// Else it costs copies of the columns, which share all but their lists of segments and the segments at the place.
+    ///
     /// # Errors
     ///
     /// `Memory`, and the table is as it was.

@@ -96,8 +96,8 @@ impl Root {
     }
 
     /// Puts copies of a row, so many times, before the row at a place of the view that the path names. Values that are missing at
-    /// the row's end are defaults. It costs the rows that are put in, and for each column of the tables on the path its list of
-    /// segments and the segment at the place.
+    /// the row's end are defaults. One row at the end of a view that nobody else holds costs its values. Else it costs the rows that
+    /// are put in, and for each column of the tables on the path its list of segments and the segment at the place.
     ///
     /// # Errors
     ///

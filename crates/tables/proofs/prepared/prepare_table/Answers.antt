@@ -1,8 +1,0 @@
-use Rattle.mk_value.specs.Kinds.{domain_of}
-use Rattle.tables.proofs.Pushed.{ready_table}
-use Rattle.tables.proofs.prepared.prepare_table.Goals as goal
-
-pub returns-in-Ok-clause-ok : goal.returns-in-Ok-clause-ok
-returns-in-Ok-clause-ok c =
-    rw c.in-Views.is
-    (ready_table (domain_of c.args.kind.now) c.args.rows c.args.inner.now c.in-Views.tables c.in-Ok.longer c.requires.fits (rw c.in-Views.is at c.requires.whole) c.in-Ok.ensures)
