@@ -8,3 +8,4 @@ pub mod Fills
 pub mod Orders
 mod Filled
 mod BlockLaws
+pub mod Grown

@@ -7,3 +7,5 @@ pub mod Ties
 pub mod Filled
 pub mod Cursor
 pub mod Blocks
+pub mod Growing
+pub mod Prepared

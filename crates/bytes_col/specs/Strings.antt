@@ -9,6 +9,11 @@ pub record Strings : Type 0 where
   pub values : List (List ℕ)
   pub home : Option BytesHome
 
+-- a column, and the values that it is to have in place of its own
+pub record Push : Type 0 where
+  pub column : Strings
+  pub values : List (List ℕ)
+
 -- a value of at most 512 bytes is short, and a longer one is a memo
 abbrev pub is_short : List ℕ → Bool
 is_short value = nat_le (length value) 512

@@ -1,5 +1,6 @@
 //! A segment of values.
 ghost use Rattle.std.specs.Prelude.{◌≡◌, ℕ, pos, ◌+◌, ◌-◌, ◌*◌, ◌<◌, ◌≤◌, [], ◌∷◌, ◌++◌, length, slice_set, slice_index_or, take, drop, replicate, None, IfOk, OnOk, OnErr};
+ghost use Rattle.bytes_col.specs.Growing.{front};
 ghost use Rattle.bytes_col.specs.Strings.{short_bytes};
 ghost use Rattle.std.specs.Bool.{OnTrue, OnFalse};
 ghost use Rattle.bytes_col.specs.Chunk.{cell_value, IsCell, IsBehind, HasSize, overwritten};
@@ -123,13 +124,25 @@ impl Chunk {
     /// Adds a value.
     pub(crate) fn append(&mut self, value: &[u8]) -> Result<(), Memory>
         requires { length self.old < 512 }
-        ensures { OnOk result (self.new ≡ self.old ++ value.now ∷ []) }
+        ensures ok { OnOk result (self.new ≡ self.old ++ value.now ∷ []) }
+        ensures err { OnErr result (self.new ≡ self.old) }
     {
         self.cells.reserve(1)?;
         let cell = stage(&mut self.bytes, value)?;
         self.cells.push_reserved(cell);
         self.short += short_size(value);
         Ok(())
+    }
+
+    /// Takes the last value away. Its bytes, if it is short, are those of no value then.
+    pub(crate) fn pop(&mut self)
+        requires { 0 < length self.old }
+        ensures { self.new ≡ front self.old }
+    {
+        let last = self.len() - 1;
+        let short = self.short - short_size(self.value(last));
+        self.cells.truncate(last);
+        self.short = short;
     }
 
     /// Adds a memo, which shares its bytes.
@@ -141,6 +154,16 @@ impl Chunk {
         self.cells.reserve(1)?;
         self.cells.push_reserved(Cell::Memo(memo.clone()?));
         Ok(())
+    }
+
+    /// A copy, with one more value.
+    pub(crate) fn with(&self, value: &[u8]) -> Result<Chunk, Memory>
+        requires { length self.now < 512 }
+        ensures { IfOk result (λ chunk. chunk ≡ self.now ++ value.now ∷ []) }
+    {
+        let mut chunk = self.clone()?;
+        chunk.append(value)?;
+        Ok(chunk)
     }
 
     /// Adds a value, and its size.

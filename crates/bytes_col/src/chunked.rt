@@ -4,10 +4,11 @@ ghost use Rattle.std.specs.Bool.{OnTrue};
 ghost use Rattle.segments.specs.Joined.{joined};
 ghost use Rattle.bytes_col.specs.Strings.{short_bytes};
 ghost use Rattle.bytes_col.specs.Blocks.{AreBlocks, IsBlocksRefusal};
-ghost use Rattle.bytes_col.specs.Spine.{HasSizes};
+ghost use Rattle.bytes_col.specs.Spine.{HasSizes, LastTakes};
 
 use crate::blocks::{BlocksError, Memos, parts_of};
 use crate::chunk::{CHUNK_MOST, Chunk, push_shared, set_shared};
+use crate::growing::Growing;
 use crate::parts::Parts;
 use crate::spine::Spine;
 use int_col::IntCol;
@@ -25,6 +26,8 @@ pub(crate) enum Kind {
     One(Shared<Chunk>),
     /// The list of the chunks. Those that are left may be few.
     Many(Shared<Spine>),
+    /// The same, with a last chunk that takes values in place.
+    Growing(Growing),
 }
 
 impl Clone for Kind {
@@ -35,6 +38,7 @@ impl Clone for Kind {
             Kind::Empty(alloc) => Ok(Kind::Empty(*alloc)),
             Kind::One(chunk) => Ok(Kind::One(chunk.clone()?)),
             Kind::Many(spine) => Ok(Kind::Many(spine.clone()?)),
+            Kind::Growing(growing) => Ok(Kind::Growing(growing.clone()?)),
         }
     }
 }
@@ -135,6 +139,7 @@ impl Chunked {
             Kind::Empty(alloc) => *alloc,
             Kind::One(chunk) => chunk.get().allocator(),
             Kind::Many(spine) => spine.get().allocator(),
+            Kind::Growing(growing) => growing.allocator(),
         }
     }
 
@@ -147,6 +152,7 @@ impl Chunked {
             Kind::Empty(_) => 0,
             Kind::One(chunk) => chunk.get().len(),
             Kind::Many(spine) => spine.get().len(),
+            Kind::Growing(growing) => growing.len(),
         }
     }
 
@@ -158,6 +164,7 @@ impl Chunked {
             Kind::Empty(_) => 0,
             Kind::One(chunk) => chunk.get().short_len(),
             Kind::Many(spine) => spine.get().short_len(),
+            Kind::Growing(growing) => growing.short_len(),
         }
     }
 
@@ -170,6 +177,7 @@ impl Chunked {
             Kind::Empty(_) => unreachable!(),
             Kind::One(chunk) => chunk.get().value(at),
             Kind::Many(spine) => spine.get().value(at),
+            Kind::Growing(growing) => growing.value(at),
         }
     }
 
@@ -189,6 +197,7 @@ impl Chunked {
                 Some(own) => own.set(at, value, sizes),
                 None => spine.own()?.set(at, value, sizes),
             },
+            Kind::Growing(_) => self.set_anew(at, value, sizes),
         }
     }
 
@@ -240,6 +249,23 @@ impl Chunked {
         }
     }
 
+    /// Sets a value in a list of the chunks.
+    fn set_anew(&mut self, at: usize, value: &[u8], sizes: &mut IntCol) -> Result<(), Memory>
+        requires at { at < length (joined self.old) }
+        requires sizes { HasSizes (joined self.old) sizes.old }
+        ensures ok { OnOk result (joined self.new ≡ slice_set (joined self.old) at value.now) }
+        ensures sizes { OnOk result (HasSizes (joined self.new) sizes.new) }
+        ensures err { OnErr result (self.new ≡ self.old) }
+        ensures sizes_err { OnErr result (sizes.new ≡ sizes.old) }
+    {
+        let mut changed = sizes.same()?;
+        let mut spine = self.to_spine()?;
+        spine.set(at, value, &mut changed)?;
+        *self = Chunked::of_spine(spine)?;
+        *sizes = changed;
+        Ok(())
+    }
+
     /// Makes an insert in a list of the chunks, which stays where they are several then.
     fn insert_anew(
         &mut self,
@@ -281,6 +307,54 @@ impl Chunked {
         Ok(())
     }
 
+    /// The same values and one more. Where they are in several chunks, the last of them is no other list's.
+    pub(crate) fn grown(&self, value: &[u8]) -> Result<Chunked, Memory>
+        requires { length (joined self.now) < 16777216 }
+        ensures { IfOk result (λ grown. joined grown ≡ joined self.now ++ value.now ∷ []) }
+    {
+        match &self.kind {
+            Kind::Many(spine) => Ok(Chunked::of_growing(Growing::of_spine(spine, value)?)),
+            Kind::Growing(growing) => Ok(Chunked::of_growing(growing.with(value)?)),
+            _ => self.copy_with(value),
+        }
+    }
+
+    /// A copy with one more value.
+    fn copy_with(&self, value: &[u8]) -> Result<Chunked, Memory>
+        requires { length (joined self.now) < 16777216 }
+        ensures { IfOk result (λ copy. joined copy ≡ joined self.now ++ value.now ∷ []) }
+    {
+        let mut spine = self.to_spine()?;
+        spine.append(value)?;
+        Chunked::of_spine(spine)
+    }
+
+    /// These values, which grow in place.
+    pub(crate) fn of_growing(growing: Growing) -> Chunked
+        ensures { result ≡ growing }
+    {
+        Chunked {
+            kind: Kind::Growing(growing),
+        }
+    }
+
+    /// The values as they grow, if they take one more in place.
+    ///
+    /// # Errors
+    ///
+    /// The values as they are, if they do not.
+    pub(crate) fn into_growing(self) -> Result<Growing, Chunked>
+        ensures same { IfOk result (λ growing. growing ≡ self) }
+        ensures takes { OnOk result (LastTakes self) }
+        ensures err { IfErr result (λ same. same ≡ self) }
+    {
+        let Chunked { kind } = self;
+        match kind {
+            Kind::Growing(growing) => growing_if(growing),
+            kind => Err(Chunked { kind }),
+        }
+    }
+
     /// A list of the same chunks.
     fn to_spine(&self) -> Result<Spine, Memory>
         ensures { IfOk result (λ spine. joined spine ≡ joined self.now) }
@@ -290,6 +364,7 @@ impl Chunked {
             Kind::Empty(alloc) => Spine::of_chunks(Vec::new(*alloc)),
             Kind::One(chunk) => spine_of_one(chunk),
             Kind::Many(spine) => Ok(spine.get().clone()?),
+            Kind::Growing(growing) => growing.to_spine(),
         }
     }
 
@@ -304,6 +379,19 @@ impl Chunked {
             });
         }
         Ok(Chunked::of_one(alloc, spine.into_chunks()))
+    }
+}
+
+/// The values as they grow, if they take one more in place, and else the values as they are.
+fn growing_if(growing: Growing) -> Result<Growing, Chunked>
+    ensures same { IfOk result (λ same. same ≡ growing) }
+    ensures takes { OnOk result (LastTakes growing) }
+    ensures err { IfErr result (λ same. same ≡ growing) }
+{
+    if growing.takes() {
+        Ok(growing)
+    } else {
+        Err(Chunked::of_growing(growing))
     }
 }
 

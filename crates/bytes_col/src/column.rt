@@ -4,13 +4,17 @@ ghost use Rattle.std.specs.List.{filter};
 ghost use Rattle.std.specs.Ordering.{nat_cmp};
 ghost use Rattle.std.specs.Cmp.Lexicographic.{slice_cmp};
 ghost use Rattle.bytes_col.specs.Blocks.{AreBlocks, IsBlocksRefusal};
-ghost use Rattle.bytes_col.specs.Strings.{Strings, is_short, short_bytes, sizes_of, memo_rows, home_after};
+ghost use Rattle.segments.specs.Joined.{joined};
+ghost use Rattle.bytes_col.specs.Spine.{HasSizes, LastTakes, strings_of};
+ghost use Rattle.bytes_col.specs.Strings.{Strings, Push, is_short, short_bytes, sizes_of, memo_rows, home_after};
 
 use crate::blocks::{BlocksError, Memos};
 use crate::cell::SHORT_MOST;
 use crate::chunked::Chunked;
+use crate::growing::Growing;
 use crate::home::{BytesHome, Home};
 use crate::order::order;
+use crate::prepared::PreparedPush;
 use crate::short_bytes::ShortBytes;
 use int_col::IntCol;
 use mk_value::{Bytes, Memory, Positions};
@@ -26,6 +30,14 @@ pub struct BytesCol {
     chunks: Chunked,
     sizes: IntCol,
     home: Option<Home>,
+}
+
+/// The parts of a column that grows in place.
+#[derive(Drop)]
+pub(crate) struct GrowingColumn {
+    pub(crate) growing: Growing,
+    pub(crate) sizes: IntCol,
+    pub(crate) home: Option<Home>,
 }
 
 impl Model for BytesCol {
@@ -165,6 +177,83 @@ impl BytesCol {
         self.chunks.insert(at, value, count, &mut self.sizes)?;
         self.home = None;
         Ok(())
+    }
+
+    /// Makes itself ready for one more value at the end: what then is done with it cannot fail.
+    ///
+    /// It costs the value in the end where the last chunk was made by such a push and has room. Else the last chunk is copied, and where
+    /// it is full the list of chunks.
+    ///
+    /// # Errors
+    ///
+    /// The column as it was, for want of memory.
+    pub fn prepare_push(self, value: &[u8]) -> Result<PreparedPush, BytesCol>
+        requires { length self.values < 16777216 }
+        ensures ok { IfOk result (λ prepared. prepared ≡ record { column = self; values = self.values ++ value.now ∷ [] }) }
+        ensures err { IfErr result (λ same. same ≡ self) }
+    {
+        PreparedPush::of(self, value)
+    }
+
+    /// The same values and one more, without a home.
+    pub(crate) fn grown(&self, value: &[u8]) -> Result<BytesCol, Memory>
+        requires { length self.now.values < 16777216 }
+        ensures values { IfOk result (λ grown. grown.values ≡ self.now.values ++ value.now ∷ []) }
+        ensures home { IfOk result (λ grown. grown.home ≡ None) }
+    {
+        let sizes = with_size(&self.sizes, value.len() as i64)?;
+        Ok(BytesCol {
+            chunks: self.chunks.grown(value)?,
+            sizes,
+            home: None,
+        })
+    }
+
+    /// The parts of the column, if it takes one more value in place.
+    ///
+    /// # Errors
+    ///
+    /// The column as it is, if it does not.
+    pub(crate) fn into_parts(self) -> Result<GrowingColumn, BytesCol>
+        ensures same { IfOk result (λ parts. strings_of parts.growing parts.home ≡ self) }
+        ensures takes { IfOk result (λ parts. LastTakes parts.growing) }
+        ensures sizes { IfOk result (λ parts. HasSizes (joined parts.growing) parts.sizes) }
+        ensures err { IfErr result (λ same. same ≡ self) }
+    {
+        let BytesCol {
+            chunks,
+            sizes,
+            home,
+        } = self;
+        match chunks.into_growing() {
+            Ok(growing) => Ok(GrowingColumn {
+                growing,
+                sizes,
+                home,
+            }),
+            Err(chunks) => Err(BytesCol {
+                chunks,
+                sizes,
+                home,
+            }),
+        }
+    }
+
+    /// The column of these parts.
+    pub(crate) fn of_parts(parts: GrowingColumn) -> BytesCol
+        requires { HasSizes (joined parts.growing) parts.sizes }
+        ensures { result ≡ strings_of parts.growing parts.home }
+    {
+        let GrowingColumn {
+            growing,
+            sizes,
+            home,
+        } = parts;
+        BytesCol {
+            chunks: Chunked::of_growing(growing),
+            sizes,
+            home,
+        }
     }
 
     /// Removes as many values from a place on. The home is then none, unless none are removed.
@@ -330,6 +419,18 @@ fn sizes(alloc: Global, values: &[Bytes]) -> Result<Vec<i64>, Memory>
         sizes.push(value.as_slice().len() as i64)?;
     }
     Ok(sizes)
+}
+
+/// The sizes and one more. They have no home.
+fn with_size(sizes: &IntCol, size: i64) -> Result<IntCol, Memory>
+    requires { length sizes.now.values < 16777216 }
+    ensures values { IfOk result (λ longer. longer.values ≡ sizes.now.values ++ size ∷ []) }
+    ensures home { IfOk result (λ longer. longer.home ≡ None) }
+{
+    match sizes.same()?.prepare_push(size) {
+        Ok(prepared) => Ok(prepared.finish()),
+        Err(_) => Err(Memory),
+    }
 }
 
 /// Adds a row where it is one of those that are sought.

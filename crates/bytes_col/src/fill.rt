@@ -7,6 +7,7 @@ ghost use Rattle.segments.specs.Joined.{joined};
 use crate::cell::SHORT_MOST;
 use crate::chunk::Chunk;
 use crate::chunked::{Chunked, Kind};
+use crate::growing::Growing;
 use crate::spine::Spine;
 
 /// How far the short bytes were written: up to byte `skip` of those from row `row` on, and so many bytes.
@@ -52,6 +53,7 @@ impl Chunked {
             Kind::Empty(_) => unreachable!(),
             Kind::One(chunk) => chunk.get().fill_short(row, skip, into),
             Kind::Many(spine) => spine.get().fill_short(row, skip, into),
+            Kind::Growing(growing) => growing.fill_short(row, skip, into),
         }
     }
 }
@@ -80,6 +82,25 @@ impl Spine {
         let _few = self.len();
         let place = self.find(row);
         let chunk = self.chunks()[place.segment].get();
+        let filled = chunk.fill_short(place.offset, skip, into);
+        Filled {
+            row: row + (filled.row - place.offset),
+            ..filled
+        }
+    }
+}
+
+impl Growing {
+    /// Writes short bytes of the chunk that has row `row`, as many as it has from there on and the slice takes.
+    fn fill_short(&self, row: usize, skip: usize, into: &mut [u8]) -> Filled
+        requires row { row < length (joined self.now) }
+        requires some { 0 < length into.old }
+        ensures { Fills (joined self.now) row skip into.old into.new result }
+    {
+        // The list has few values, so that a row of it fits.
+        let _few = self.len();
+        let place = self.find(row);
+        let chunk = self.chunk(place.segment);
         let filled = chunk.fill_short(place.offset, skip, into);
         Filled {
             row: row + (filled.row - place.offset),

@@ -17,14 +17,17 @@ mod chunk;
 mod chunked;
 mod column;
 mod fill;
+mod growing;
 mod home;
 mod memo;
 mod order;
 mod parts;
+mod prepared;
 mod short_bytes;
 mod spine;
 
 pub use blocks::{BlocksError, Memos};
 pub use column::BytesCol;
 pub use home::BytesHome;
+pub use prepared::PreparedPush;
 pub use short_bytes::ShortBytes;

@@ -6,6 +6,7 @@ ghost use Rattle.segments.specs.Splices.{Applies, Covers, items_after, spliced};
 ghost use Rattle.segments.specs.Joined.{joined, counts_of};
 ghost use Rattle.bytes_col.specs.Strings.{short_bytes, sizes_of};
 ghost use Rattle.bytes_col.specs.Spine.{HasSizes, LastTakes};
+ghost use Rattle.bytes_col.specs.Growing.{front};
 ghost use Rattle.bytes_col.specs.Parts.{added};
 
 use crate::chunk::{CHUNK_MOST, Chunk, push_shared, set_shared};
@@ -124,9 +125,51 @@ impl Spine {
         set_shared(chunk, place.offset, value, sizes, at)
     }
 
+    /// The list of the chunks before the last.
+    pub(crate) fn without_last(&self) -> Result<Spine, Memory>
+        requires { 0 < length self.now }
+        ensures { IfOk result (λ spine. spine ≡ front self.now) }
+    {
+        // The list has few values.
+        let _few = self.len();
+        let before = &self.chunks[..self.chunks.len() - 1];
+        Spine::of_chunks(Vec::from_clones(self.allocator(), before)?)
+    }
+
+    /// A copy of the last chunk, which takes one more value, with it.
+    pub(crate) fn last_with(&self, value: &[u8]) -> Result<Chunk, Memory>
+        requires { LastTakes self.now }
+        ensures { IfOk result (λ chunk. chunk ≡ slice_index_or self.now (length self.now - 1) [] ++ value.now ∷ []) }
+    {
+        let last = self.chunks.len() - 1;
+        self.chunks[last].get().with(value)
+    }
+
+    /// A chunk of this value, with room for more that are like those of the last chunk.
+    pub(crate) fn next_of(&self, value: &[u8]) -> Result<Chunk, Memory>
+        ensures { IfOk result (λ chunk. chunk ≡ value.now ∷ []) }
+    {
+        let mut chunk = Chunk::new(self.allocator());
+        if let Some(last) = self.chunks.last() {
+            chunk.reserve(last.get(), CHUNK_MOST)?;
+        }
+        chunk.append(value)?;
+        Ok(chunk)
+    }
+
+    /// The list of these chunks and one more.
+    pub(crate) fn with_last(&self, last: Shared<Chunk>) -> Result<Spine, Memory>
+        requires { length (joined (self.now ++ last ∷ [])) ≤ 16777216 }
+        ensures { IfOk result (λ spine. spine ≡ self.now ++ last ∷ []) }
+    {
+        let mut chunks = Vec::from_clones(self.allocator(), &self.chunks)?;
+        chunks.push(last)?;
+        Spine::of_chunks(chunks)
+    }
+
     /// Whether the last chunk takes one more value.
-    fn takes(&self) -> bool
-        ensures { OnTrue result (LastTakes self.now) }
+    pub(crate) fn takes(&self) -> bool
+        ensures yes { OnTrue result (LastTakes self.now) }
     {
         match self.chunks.last() {
             None => false,
@@ -205,6 +248,16 @@ impl Spine {
         self.replace(&Splice { at, end, count }, value)?;
         *sizes = longer;
         Ok(())
+    }
+
+    /// Adds a value at the end. The sizes are kept elsewhere.
+    pub(crate) fn append(&mut self, value: &[u8]) -> Result<(), Memory>
+        requires { length (joined self.old) < 16777216 }
+        ensures { OnOk result (joined self.new ≡ joined self.old ++ value.now ∷ []) }
+    {
+        let at = self.len();
+        let end = at;
+        self.replace(&Splice { at, end, count: 1 }, value)
     }
 
     /// Removes values from a place on, and their sizes.

@@ -5,3 +5,4 @@ pub mod Segments
 pub mod Columns
 pub mod Fills
 mod PackedCuts
+pub mod Grown

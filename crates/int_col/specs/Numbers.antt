@@ -12,6 +12,11 @@ pub record Numbers : Type 0 where
   pub cuts : List ℕ
   pub home : Option Span
 
+-- a column, and a value that is to be put at its end
+pub record Push : Type 0 where
+  pub column : Numbers
+  pub value : ℤ
+
 -- the cuts are as they have to be and add up to the length
 pub record IsColumn (c : Numbers) : Type 0 where
   pub few : length c.values ≤ 16777216

@@ -1,5 +1,5 @@
 -- The list of a column's segments, each seen as the list of its values.
-use Rattle.std.specs.Prelude.{◌≡◌, ℕ, ◌-◌, ◌<◌, ℤ, List, [], length, slice_index_or, Option}
+use Rattle.std.specs.Prelude.{◌≡◌, ℕ, ◌-◌, ◌<◌, ◌⊎◌, ℤ, List, [], length, slice_index_or, Option}
 use Rattle.mk_value.specs.declared.span.Span.{Span}
 use Rattle.segments.specs.Joined.{joined, counts_of}
 use Rattle.int_col.specs.Cuts.{AreCuts}
@@ -19,3 +19,12 @@ pub record IsSpine (segments : List (List ℤ)) (counts : List ℕ) : Type 0 whe
 pub record LastTakes (segments : List (List ℤ)) (v : ℤ) : Type 0 where
   pub some : 0 < length segments
   pub takes : Takes (slice_index_or segments (length segments - 1) []) v
+
+-- the last segment, if there is one, has all values that a segment may have
+abbrev pub IsLastFull : List (List ℤ) → Type 0
+IsLastFull segments = (length segments ≡ 0) ⊎ (length (slice_index_or segments (length segments - 1) []) ≡ 2048)
+
+-- there is a last segment, and it has room
+pub record HasLastRoom (segments : List (List ℤ)) : Type 0 where
+  pub some : 0 < length segments
+  pub room : length (slice_index_or segments (length segments - 1) []) < 2048

@@ -1,14 +1,17 @@
 //! A column of integers.
-ghost use Rattle.std.specs.Prelude.{◌≡◌, ℕ, ℤ, ◌+◌, ◌-◌, ◌<◌, ◌≤◌, ◌==◌, [], ◌++◌, length, take, drop, replicate, slice_get, slice_set, sum, if◌then◌else◌, Some, None, IfOk, IfErr, OnOk, OnErr};
+ghost use Rattle.std.specs.Prelude.{◌≡◌, ℕ, ℤ, ◌+◌, ◌-◌, ◌<◌, ◌≤◌, ◌==◌, [], ◌∷◌, ◌++◌, length, take, drop, replicate, slice_get, slice_set, sum, if◌then◌else◌, Some, None, IfOk, IfErr, OnOk, OnErr};
 ghost use Rattle.bit_pack.specs.declared.widths.Width.{Width};
 ghost use Rattle.bit_pack.specs.Width.{IsLeastWidth};
 ghost use Rattle.bit_pack.specs.Packed.{Packed, packed};
 ghost use Rattle.bit_pack.specs.Refusal.{IsRefusal};
 ghost use Rattle.int_col.specs.Cuts.{full_cuts};
-ghost use Rattle.int_col.specs.Numbers.{Numbers, IsColumn, segment_values, home_after, HasPackedBytes, ArePackedBytes};
+ghost use Rattle.int_col.specs.Spine.{numbers_of, LastTakes};
+ghost use Rattle.int_col.specs.Numbers.{Numbers, Push, IsColumn, segment_values, home_after, HasPackedBytes, ArePackedBytes};
 
+use crate::growing::Growing;
 use crate::held::Held;
 use crate::packed::PackedBytes;
+use crate::prepared::PreparedPush;
 use crate::segmented::Segmented;
 use bit_pack::{PackError, Width};
 use mk_value::{Memory, Span};
@@ -161,6 +164,61 @@ impl IntCol {
         self.segments.insert(at, value, count)?;
         self.home = None;
         Ok(())
+    }
+
+    /// Makes itself ready for one more value at the end: what then is done with it cannot fail.
+    ///
+    /// It costs one write in the end where the last segment was made by such a push, has room, and holds the value at its width. Else the
+    /// last segment is copied, and where it is full the list of segments.
+    ///
+    /// # Errors
+    ///
+    /// The column as it was, for want of memory.
+    pub fn prepare_push(self, value: i64) -> Result<PreparedPush, IntCol>
+        requires { length self.values < 16777216 }
+        ensures ok { IfOk result (λ prepared. prepared ≡ record { column = self; value = value }) }
+        ensures err { IfErr result (λ same. same ≡ self) }
+    {
+        PreparedPush::of(self, value)
+    }
+
+    /// The same values and one more, without a home.
+    pub(crate) fn grown(&self, value: i64) -> Result<IntCol, Memory>
+        requires { length self.now.values < 16777216 }
+        ensures values { IfOk result (λ grown. grown.values ≡ self.now.values ++ value ∷ []) }
+        ensures home { IfOk result (λ grown. grown.home ≡ None) }
+    {
+        Ok(IntCol {
+            segments: self.segments.grown(value)?,
+            home: None,
+        })
+    }
+
+    /// The column as it grows, and its home, if it takes one more value in place.
+    ///
+    /// # Errors
+    ///
+    /// The column as it is, if it does not.
+    pub(crate) fn into_growing(self, value: i64) -> Result<(Growing, Option<Span>), IntCol>
+        ensures same { IfOk result (λ parts. numbers_of parts.0 parts.1 ≡ self) }
+        ensures takes { IfOk result (λ parts. LastTakes parts.0 value) }
+        ensures err { IfErr result (λ same. same ≡ self) }
+    {
+        let IntCol { segments, home } = self;
+        match segments.into_growing(value) {
+            Ok(growing) => Ok((growing, home)),
+            Err(segments) => Err(IntCol { segments, home }),
+        }
+    }
+
+    /// The column of these values, and where it stands in a file.
+    pub(crate) fn of_growing(growing: Growing, home: Option<Span>) -> IntCol
+        ensures { result ≡ numbers_of growing home }
+    {
+        IntCol {
+            segments: Segmented::of_growing(growing),
+            home,
+        }
     }
 
     /// Removes as many values from a place on. The home is then none, unless none are removed.

@@ -214,12 +214,21 @@ impl Segment {
     }
 
     /// All values.
-    fn values(&self) -> Result<Vec<i64>, Memory>
+    pub(crate) fn values(&self) -> Result<Vec<i64>, Memory>
         ensures values { IfOk result (λ values. values.items ≡ self.now) }
         ensures few { IfOk result (λ values. length values.items ≤ 2048) }
     {
         let mut values = vec![in *self.bytes.allocator(); 0; self.count]?;
         self.copy_values(0, &mut values);
+        Ok(values)
+    }
+
+    /// All values, and one more.
+    pub(crate) fn values_with(&self, value: i64) -> Result<Vec<i64>, Memory>
+        ensures { IfOk result (λ values. values.items ≡ self.now ++ value ∷ []) }
+    {
+        let mut values = self.values()?;
+        values.push(value)?;
         Ok(values)
     }
 

@@ -1,5 +1,5 @@
 //! A list of values in segments, which copies of a column share.
-ghost use Rattle.std.specs.Prelude.{◌≡◌, ℕ, ℤ, ◌+◌, ◌-◌, ◌<◌, ◌≤◌, List, [], ◌∷◌, ◌++◌, length, slice_get, slice_set, slice_index_or, take, drop, replicate, Some, IfOk, OnOk, OnErr};
+ghost use Rattle.std.specs.Prelude.{◌≡◌, ℕ, ℤ, ◌+◌, ◌-◌, ◌<◌, ◌≤◌, List, [], ◌∷◌, ◌++◌, length, slice_get, slice_set, slice_index_or, take, drop, replicate, Some, IfOk, IfErr, OnOk, OnErr};
 ghost use Rattle.std.specs.Bool.{OnTrue};
 ghost use Rattle.bit_pack.specs.Width.{IsLeastWidth};
 ghost use Rattle.bit_pack.specs.Packed.{Packed, PackedAt, values_from};
@@ -7,8 +7,10 @@ ghost use Rattle.segments.specs.Splices.{Applies, spliced};
 ghost use Rattle.segments.specs.Joined.{joined, counts_of};
 ghost use Rattle.int_col.specs.Cuts.{AreCuts, full_cuts};
 ghost use Rattle.int_col.specs.Segment.{Takes};
+ghost use Rattle.int_col.specs.Spine.{LastTakes};
 
 use crate::cut::{cut, cut_packed};
+use crate::growing::Growing;
 use crate::held::Held;
 use crate::segment::{Segment, push_shared, set_shared};
 use crate::spine::Spine;
@@ -27,6 +29,8 @@ pub(crate) enum Kind {
     One(Shared<Segment>),
     /// The list of the segments. Those that are left may be few.
     Many(Shared<Spine>),
+    /// The same, with a last segment that takes values in place.
+    Growing(Growing),
 }
 
 impl Clone for Kind {
@@ -37,6 +41,7 @@ impl Clone for Kind {
             Kind::Empty(alloc) => Ok(Kind::Empty(*alloc)),
             Kind::One(segment) => Ok(Kind::One(segment.clone()?)),
             Kind::Many(spine) => Ok(Kind::Many(spine.clone()?)),
+            Kind::Growing(growing) => Ok(Kind::Growing(growing.clone()?)),
         }
     }
 }
@@ -129,6 +134,7 @@ impl Segmented {
             Kind::Empty(alloc) => *alloc,
             Kind::One(segment) => segment.get().allocator(),
             Kind::Many(spine) => spine.get().allocator(),
+            Kind::Growing(growing) => growing.allocator(),
         }
     }
 
@@ -142,6 +148,7 @@ impl Segmented {
             Kind::Empty(_) => 0,
             Kind::One(segment) => segment.get().len(),
             Kind::Many(spine) => spine.get().len(),
+            Kind::Growing(growing) => growing.len(),
         }
     }
 
@@ -156,6 +163,7 @@ impl Segmented {
             Kind::Empty(_) => 0,
             Kind::One(_) => 1,
             Kind::Many(spine) => spine.get().segments(),
+            Kind::Growing(growing) => growing.segments(),
         }
     }
 
@@ -169,6 +177,7 @@ impl Segmented {
             Kind::Empty(_) => unreachable!(),
             Kind::One(segment) => segment.get().lend(),
             Kind::Many(spine) => spine.get().segment(k),
+            Kind::Growing(growing) => growing.segment(k),
         }
     }
 
@@ -180,6 +189,7 @@ impl Segmented {
             Kind::Empty(_) => Width::W0,
             Kind::One(segment) => segment.get().width(),
             Kind::Many(spine) => spine.get().width(),
+            Kind::Growing(growing) => growing.width(),
         }
     }
 
@@ -192,6 +202,7 @@ impl Segmented {
             Kind::Empty(_) => unreachable!(),
             Kind::One(segment) => segment.get().get(at),
             Kind::Many(spine) => spine.get().get(at),
+            Kind::Growing(growing) => growing.get(at),
         }
     }
 
@@ -204,6 +215,7 @@ impl Segmented {
             Kind::Empty(_) => {}
             Kind::One(segment) => segment.get().copy_values(from, into),
             Kind::Many(spine) => spine.get().copy_values(from, into),
+            Kind::Growing(growing) => growing.copy_values(from, into),
         }
     }
 
@@ -221,6 +233,7 @@ impl Segmented {
                 Some(own) => own.set(at, value),
                 None => spine.own()?.set(at, value),
             },
+            Kind::Growing(growing) => growing.set(at, value),
         }
     }
 
@@ -236,6 +249,11 @@ impl Segmented {
                 Some(own) => own.insert(at, value, count),
                 None => spine.own()?.insert(at, value, count),
             },
+            Kind::Growing(growing) => {
+                let spine = growing.inserted(at, value, count)?;
+                self.kind = Kind::Many(spine);
+                Ok(())
+            }
             Kind::One(segment) if count == 1 && takes_at(segment.get(), at, value) => {
                 push_shared(segment, value)
             }
@@ -255,10 +273,63 @@ impl Segmented {
         let _few = self.len();
         match &mut self.kind {
             Kind::Many(spine) => spine.own()?.remove(at, count),
+            Kind::Growing(growing) => {
+                let spine = growing.removed(at, count)?;
+                self.kind = Kind::Many(spine);
+                Ok(())
+            }
             _ => {
                 let end = at + count;
                 self.splice(&Splice { at, end, count: 0 }, 0)
             }
+        }
+    }
+
+    /// The same values and one more. Where they are in several segments, the last of them is no other list's.
+    pub(crate) fn grown(&self, value: i64) -> Result<Segmented, Memory>
+        requires { length (joined self.now) < 16777216 }
+        ensures { IfOk result (λ grown. joined grown ≡ joined self.now ++ value ∷ []) }
+    {
+        match &self.kind {
+            Kind::Many(spine) => Ok(Segmented::of_growing(Growing::of_spine(spine, value)?)),
+            Kind::Growing(growing) => Ok(Segmented::of_growing(growing.with(value)?)),
+            _ => self.copy_with(value),
+        }
+    }
+
+    /// A copy with one more value.
+    fn copy_with(&self, value: i64) -> Result<Segmented, Memory>
+        requires { length (joined self.now) < 16777216 }
+        ensures { IfOk result (λ copy. joined copy ≡ joined self.now ++ value ∷ []) }
+    {
+        let mut copy = self.clone()?;
+        copy.insert(self.len(), value, 1)?;
+        Ok(copy)
+    }
+
+    /// These values, which grow in place.
+    pub(crate) fn of_growing(growing: Growing) -> Segmented
+        ensures { result ≡ growing }
+    {
+        Segmented {
+            kind: Kind::Growing(growing),
+        }
+    }
+
+    /// The values as they grow, if they take one more in place.
+    ///
+    /// # Errors
+    ///
+    /// The values as they are, if they do not.
+    pub(crate) fn into_growing(self, value: i64) -> Result<Growing, Segmented>
+        ensures same { IfOk result (λ growing. growing ≡ self) }
+        ensures takes { OnOk result (LastTakes self value) }
+        ensures err { IfErr result (λ same. same ≡ self) }
+    {
+        let Segmented { kind } = self;
+        match kind {
+            Kind::Growing(growing) => growing_if(growing, value),
+            kind => Err(Segmented { kind }),
         }
     }
 
@@ -301,4 +372,17 @@ fn takes_at(segment: &Segment, at: usize, value: i64) -> bool
     ensures takes { OnTrue result (Takes segment.now value) }
 {
     at == segment.len() && segment.takes(value)
+}
+
+/// The values as they grow, if they take one more in place, and else the values as they are.
+fn growing_if(growing: Growing, value: i64) -> Result<Growing, Segmented>
+    ensures same { IfOk result (λ same. same ≡ growing) }
+    ensures takes { OnOk result (LastTakes growing value) }
+    ensures err { IfErr result (λ same. same ≡ growing) }
+{
+    if growing.takes(value) {
+        Ok(growing)
+    } else {
+        Err(Segmented::of_growing(growing))
+    }
 }

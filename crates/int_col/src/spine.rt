@@ -1,13 +1,14 @@
 //! The list of a column's segments.
 ghost use Rattle.std.specs.Prelude.{◌≡◌, ℕ, ℤ, ◌+◌, ◌-◌, ◌<◌, ◌≤◌, List, [], ◌∷◌, ◌++◌, length, sum, slice_get, slice_set, slice_index_or, take, drop, Some, All, IfOk, OnOk, OnErr, replicate};
-ghost use Rattle.std.specs.Bool.{OnTrue};
+ghost use Rattle.std.specs.Bool.{OnTrue, OnFalse};
 ghost use Rattle.bit_pack.specs.Width.{IsLeastWidth};
 ghost use Rattle.bit_pack.specs.Packed.{Packed};
 ghost use Rattle.segments.specs.Segments.{IsPlace};
 ghost use Rattle.segments.specs.Splices.{Applies, Covers, AreApartBefore, AreApartBehind, size_after, items_after, spliced};
 ghost use Rattle.segments.specs.Joined.{joined, counts_of};
 ghost use Rattle.int_col.specs.Cuts.{AreCuts, full_cuts};
-ghost use Rattle.int_col.specs.Spine.{LastTakes};
+ghost use Rattle.int_col.specs.Spine.{LastTakes, IsLastFull, HasLastRoom};
+ghost use Rattle.int_col.specs.Tail.{AreSegments};
 
 use crate::cut::cut;
 use crate::held::Held;
@@ -222,6 +223,49 @@ impl Spine {
         let _few = self.len();
         let end = at + count;
         self.replace(&Splice { at, end, count: 0 }, 0)
+    }
+
+    /// Whether the last segment has no room, as where there is none.
+    pub(crate) fn is_last_full(&self) -> bool
+        ensures yes { OnTrue result (IsLastFull self.now) }
+        ensures no { OnFalse result (HasLastRoom self.now) }
+        ensures cut { AreCuts (counts_of self.now) }
+    {
+        match self.segments.last() {
+            None => true,
+            Some(last) => last.get().len() == SEGMENT_MOST,
+        }
+    }
+
+    /// The list of the segments before the last.
+    pub(crate) fn without_last(&self) -> Result<Spine, Memory>
+        requires { 0 < length self.now }
+        ensures { IfOk result (λ spine. spine ≡ take (length self.now - 1) self.now) }
+    {
+        // The list has few values.
+        let _few = self.len();
+        let alloc = self.allocator();
+        let before = &self.segments[..self.segments.len() - 1];
+        Spine::of_segments(Vec::from_clones(alloc, before)?)
+    }
+
+    /// The values of the last segment, and one more.
+    pub(crate) fn last_with(&self, value: i64) -> Result<Vec<i64>, Memory>
+        requires { 0 < length self.now }
+        ensures { IfOk result (λ values. values.items ≡ slice_index_or self.now (length self.now - 1) [] ++ value ∷ []) }
+    {
+        let last = self.segments.len() - 1;
+        self.segments[last].get().values_with(value)
+    }
+
+    /// The list of these segments and one more.
+    pub(crate) fn with_last(&self, last: Shared<Segment>) -> Result<Spine, Memory>
+        requires { AreSegments (self.now ++ last ∷ []) }
+        ensures { IfOk result (λ spine. spine ≡ self.now ++ last ∷ []) }
+    {
+        let mut segments = Vec::from_clones(self.allocator(), &self.segments)?;
+        segments.push(last)?;
+        Spine::of_segments(segments)
     }
 
     /// Whether the last segment takes one more value.

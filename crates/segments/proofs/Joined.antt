@@ -58,11 +58,11 @@ start_more ss k s l here =
 pub counts_more : {X : Type 0} (ss : List (List X)) (k : ℕ) (s : List X) → k < length ss → s ≡ get_or ss k s → counts_of (take (k + 1) ss) ≡ counts_of (take k ss) ++ length s ∷ []
 counts_more ss k s l here = map_more length ss k s l ∙ ap (λ x. counts_of (take k ss) ++ length x ∷ []) (sym here)
 
-set-append : {X : Type 0} (xs ys : List X) (i : ℕ) (v : X) → xs ++ set ys i v ≡ set (xs ++ ys) (length xs + i) v
+pub set-append : {X : Type 0} (xs ys : List X) (i : ℕ) (v : X) → xs ++ set ys i v ≡ set (xs ++ ys) (length xs + i) v
 set-append [] ys i v = ap (λ n. set ys n v) (let e : i ≡ 0 + i = omega arith in e)
 set-append (x ∷ xs) ys i v = ap (λ zs. x ∷ zs) (set-append xs ys i v) ∙ ap (λ n. set (x ∷ (xs ++ ys)) n v) (let e : suc (length xs + i) ≡ suc (length xs) + i = omega arith in e)
 
-set-append-left : {X : Type 0} (xs ys : List X) (i : ℕ) (v : X) → i < length xs → set xs i v ++ ys ≡ set (xs ++ ys) i v
+pub set-append-left : {X : Type 0} (xs ys : List X) (i : ℕ) (v : X) → i < length xs → set xs i v ++ ys ≡ set (xs ++ ys) i v
 set-append-left [] ys i v l = absurd (omega arith)
 set-append-left (x ∷ xs) ys zero v l = refl
 set-append-left (x ∷ xs) ys (suc i) v l = ap (λ zs. x ∷ zs) (set-append-left xs ys i v (omega arith))

@@ -4,3 +4,4 @@ pub mod Places
 pub mod Splices
 pub mod Joined
 pub mod Counted
+pub mod Last

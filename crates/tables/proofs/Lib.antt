@@ -9,6 +9,7 @@ pub mod Gathering
 pub mod Homeless
 pub mod Lists
 pub mod PlainColumns
+pub mod Pushed
 pub mod Reading
 pub mod Rebuilding
 pub mod Rested

@@ -13,7 +13,7 @@ use Rattle.tables.specs.Lists.{tables_of}
 use Rattle.tables.specs.declared.cols.Col.{Col}
 use Rattle.tables.specs.declared.cols.Col.TheVariants.{Ints, Blobs, Views}
 use Rattle.tables.specs.declared.tables.Kind.{Kind}
-use Rattle.tables.specs.declared.tables.Kind.TheVariants.{Empty, Many}
+use Rattle.tables.specs.declared.tables.Kind.TheVariants.{Empty, Many, Own}
 use Rattle.tables.specs.declared.cols.Cols.TheDeep.{deep-Col, deep-Cols, deep-Kind, deep-Shared, deep-Table, deep-TableList, deep-Tables}
 use Rattle.tables.specs.declared.cols.Cols.TheInside as cols
 use Rattle.tables.specs.declared.shared.Shared.TheInside as shared
@@ -46,6 +46,7 @@ list_falls a = omega (arith, most-shared a.items.items)
 kind_bound : (k : Kind) → deep-Kind k ≤ tables_size (tables_of k)
 kind_bound (Empty alloc) = omega arith
 kind_bound (Many list) = omega arith
+kind_bound (Own list) = omega arith
 
 pub tables_fall : (a : tables.Inside) → deep-Tables a ≤ tables_size (tables_of a.kind)
 tables_fall a = omega (arith, kind_bound a.kind)

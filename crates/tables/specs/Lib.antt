@@ -6,6 +6,7 @@ pub mod Falls
 pub mod HomeCode
 pub mod Homes
 pub mod Lists
+pub mod Prepared
 pub mod Read
 pub mod Rests
 pub mod Rows

@@ -6,13 +6,15 @@ ghost use Rattle.mk_value.specs.Values.{datum_of};
 ghost use Rattle.tables.specs.Cells.{IsWholeColumn, IsSet, IsSetIn, HasNumber, HasString, HasView, with_number, with_string, with_view};
 ghost use Rattle.tables.specs.Columns.{column_values, no_column};
 ghost use Rattle.tables.specs.Homes.{empty_homes_in};
+ghost use Rattle.tables.specs.Prepared.{AreReady, ArePushed};
 ghost use Rattle.tables.specs.Stored.{stored_of};
 
 use crate::build::inner_of_rows;
+use crate::prepared::push_row;
 use crate::{Shared, Tables};
 use bytes_col::BytesCol;
 use int_col::IntCol;
-use mk_value::{Kind, Memory, Value};
+use mk_value::{Kind, Memory, Prop, Value};
 use std::alloc::Global;
 use std::marker::Model;
 
@@ -90,6 +92,21 @@ impl Cols {
     /// The allocator of the list.
     pub(crate) fn allocator(&self) -> Global {
         *self.items.allocator()
+    }
+
+    /// Puts a row at the end of the columns of so many rows. No copy of a column is changed.
+    pub(crate) fn push_row(
+        &mut self,
+        rows: usize,
+        props: &[Prop],
+        values: &[Value],
+    ) -> Result<(), Memory>
+        requires few { rows < 16777216 }
+        requires ready { AreReady rows props.now (map datum_of values.now) self.old }
+        ensures ok { OnOk result (ArePushed rows props.now (map datum_of values.now) self.old self.new) }
+        ensures err { OnErr result (self.new ≡ self.old) }
+    {
+        push_row(self.allocator(), rows, &mut self.items, props, values)
     }
 
     /// Gives the value at a row of a column another. No copy of the column is changed.

@@ -7,6 +7,7 @@
 mod build;
 mod cols;
 mod column;
+mod prepared;
 mod shared;
 mod table;
 mod tables;

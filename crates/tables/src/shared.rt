@@ -1,5 +1,5 @@
 //! Tables that are shared.
-ghost use Rattle.std.specs.Prelude.{◌≡◌, IfOk};
+ghost use Rattle.std.specs.Prelude.{◌≡◌, IfOk, IfSome};
 
 use crate::Table;
 use mk_value::{Lent, Memory, Same, Schema, TableRead, Value};
@@ -57,6 +57,18 @@ pub fn share(alloc: Global, table: Table) -> Result<Shared, Memory>
 }
 
 impl Shared {
+    ghost use Rattle.std.specs.Borrow.{LendsIf, sem};
+    ghost use Rattle.tables.specs.contracts.shared.Shared.{the_row};
+    ghost use Rattle.tables.specs.contracts.table.Table.{the_row as table_row};
+
+    /// The table, to be edited in place, where nobody else holds it. It takes no memory.
+    pub fn sole(&mut self) -> Option<&mut Table>
+        ensures* writes_back { sem 𝓛 (LendsIf the_row table_row self.entry result (λ w. w) self.old) }
+        ensures value { IfSome result (λ table. table.now ≡ self.old) }
+    {
+        Rc::get_mut(&mut self.table)
+    }
+
     /// The table that is shared.
     pub fn table(&self) -> &Table
         ensures { result.now ≡ self.now }

@@ -138,6 +138,9 @@ impl Table {
     /// Puts copies of a row, so many times, before the row at a place, or at the end. The tables in them have no homes, and where
     /// there are any the plain columns have none.
     ///
+    /// One row at the end costs its values: each column is made ready for it, and then takes it in place where its last segment is its own.
+    /// Else it costs copies of the columns, which share all but their lists of segments and the segments at the place.
+    ///
     /// # Errors
     ///
     /// `Memory`, and the table is as it was.
@@ -151,6 +154,9 @@ impl Table {
     {
         if count == 0 {
             return Ok(());
+        }
+        if count == 1 && at == self.len() {
+            return self.push_row(row);
         }
         let rows = self.len() + count;
         let cols = self.cols_inserted(at, row, count)?;
@@ -225,6 +231,21 @@ impl Table {
     {
         let _rows = table.table().len();
         self.cols.set_view(col, row, table)
+    }
+
+    /// Puts a row at the end.
+    fn push_row(&mut self, row: &Row) -> Result<(), Memory>
+        requires few { length self.old.rows < 16777216 }
+        requires row { IsRowOf row.now self.old.schema }
+        ensures ok { OnOk result (self.new ≡ with_rows_inserted (length self.old.rows) row.now 1 self.old) }
+        ensures err { OnErr result (self.new ≡ self.old) }
+        ensures rests { RestsOn self.new self.old }
+    {
+        let rows = self.len();
+        let props = self.schema.get().as_slice();
+        self.cols.push_row(rows, props, row.as_slice())?;
+        self.rows += 1;
+        Ok(())
     }
 
     /// Copies of the columns with rows put in.

@@ -1,5 +1,5 @@
 //! The tables in the rows of a view column.
-ghost use Rattle.std.specs.Prelude.{◌≡◌, ◌+◌, ◌<◌, ◌≤◌, [], ◌∷◌, ◌++◌, length, take, replicate, slice_get, slice_set, Some, IfOk, OnOk, OnErr};
+ghost use Rattle.std.specs.Prelude.{◌≡◌, ◌+◌, ◌-◌, ◌<◌, ◌≤◌, [], ◌∷◌, ◌++◌, length, take, replicate, slice_get, slice_set, Some, IfOk, IfErr, OnOk, OnErr};
 ghost use Rattle.tables.specs.Rows.{inserted, removed};
 
 use crate::Shared;
@@ -15,18 +15,19 @@ pub struct Tables {
     kind: Kind,
 }
 
-/// What is kept: no tables, which take no memory, or the list of them.
+/// What is kept: no tables, which take no memory, or the list of them, which copies share or which is no other's.
 #[cycle(table)]
 #[derive(Drop)]
 enum Kind {
     Empty(Global),
     Many(Rc<TableList>),
+    Own(TableList),
 }
 
 /// The tables, one after another.
 #[cycle(table)]
 #[derive(Drop)]
-struct TableList {
+pub(crate) struct TableList {
     items: Vec<Shared>,
 }
 
@@ -81,6 +82,30 @@ impl Clone for TableList {
 }
 
 impl TableList {
+    /// Adds a table behind the others.
+    pub(crate) fn push(&mut self, table: Shared) -> Result<(), Memory>
+        ensures ok { OnOk result (self.new ≡ self.old ++ table ∷ []) }
+        ensures err { OnErr result (self.new ≡ self.old) }
+    {
+        self.items.push(table)?;
+        Ok(())
+    }
+
+    /// Takes the last table away.
+    pub(crate) fn pop(&mut self)
+        ensures { self.new ≡ take (length self.old - 1) self.old }
+    {
+        let _last = self.items.pop();
+    }
+
+    /// Puts a table in place of the one at a place.
+    fn set(&mut self, at: usize, table: Shared)
+        requires { at < length self.old }
+        ensures { self.new ≡ slice_set self.old at table }
+    {
+        self.items[at] = table;
+    }
+
     /// Puts one table, so many times, before the one at a place, or at the end.
     fn insert(&mut self, at: usize, table: &Shared, count: usize) -> Result<(), Memory>
         requires { at ≤ length self.old }
@@ -169,6 +194,24 @@ fn remove_shared(list: &mut Rc<TableList>, at: usize, count: usize) -> Result<()
     Ok(())
 }
 
+/// A list of the same tables.
+fn copy_list(list: &TableList) -> Result<TableList, Memory>
+    ensures { IfOk result (λ copy. copy ≡ list.now) }
+{
+    Ok(list.clone()?)
+}
+
+/// The same tables, in a list that copies share.
+fn shared_copy(list: &TableList) -> Result<Tables, Memory>
+    ensures { IfOk result (λ tables. tables ≡ list.now) }
+{
+    let alloc = *list.items.allocator();
+    let copy = copy_list(list)?;
+    Ok(Tables {
+        kind: Kind::Many(Rc::new(alloc, copy)?),
+    })
+}
+
 /// A list of one table, so many times.
 fn copies(alloc: Global, table: &Shared, count: usize) -> Result<Rc<TableList>, Memory>
     ensures { IfOk result (λ list. list.value ≡ replicate count table.now) }
@@ -195,6 +238,7 @@ impl Tables {
         match &self.kind {
             Kind::Empty(_) => 0,
             Kind::Many(list) => list.items.len(),
+            Kind::Own(list) => list.items.len(),
         }
     }
 
@@ -206,6 +250,7 @@ impl Tables {
         match &self.kind {
             Kind::Empty(_) => unreachable!(),
             Kind::Many(list) => &list.items[at],
+            Kind::Own(list) => &list.items[at],
         }
     }
 
@@ -225,6 +270,7 @@ impl Tables {
                 Ok(())
             }
             Kind::Many(list) => push_shared(list, table),
+            Kind::Own(list) => list.push(table),
         }
     }
 
@@ -237,6 +283,10 @@ impl Tables {
         match &mut self.kind {
             Kind::Empty(_) => unreachable!(),
             Kind::Many(list) => set_shared(list, at, table),
+            Kind::Own(list) => {
+                list.set(at, table);
+                Ok(())
+            }
         }
     }
 
@@ -253,6 +303,7 @@ impl Tables {
                 Ok(())
             }
             Kind::Many(list) => insert_shared(list, at, table, count),
+            Kind::Own(list) => list.insert(at, table, count),
         }
     }
 
@@ -265,10 +316,52 @@ impl Tables {
         match &mut self.kind {
             Kind::Empty(_) => Ok(()),
             Kind::Many(list) => remove_shared(list, at, count),
+            Kind::Own(list) => {
+                list.remove(at, count);
+                Ok(())
+            }
         }
     }
 
-    /// The same tables, in the same list.
+    /// The tables in this list.
+    pub(crate) fn of_list(list: TableList) -> Tables
+        ensures { result ≡ list }
+    {
+        Tables {
+            kind: Kind::Own(list),
+        }
+    }
+
+    /// The list of the tables, if it is no other's.
+    ///
+    /// # Errors
+    ///
+    /// The tables as they are, if it may be.
+    pub(crate) fn into_list(self) -> Result<TableList, Tables>
+        ensures ok { IfOk result (λ list. list ≡ self) }
+        ensures err { IfErr result (λ same. same ≡ self) }
+    {
+        let Tables { kind } = self;
+        match kind {
+            Kind::Own(list) => Ok(list),
+            kind => Err(Tables { kind }),
+        }
+    }
+
+    /// A list of the same tables.
+    pub(crate) fn to_list(&self) -> Result<TableList, Memory>
+        ensures { IfOk result (λ list. list ≡ self.now) }
+    {
+        match &self.kind {
+            Kind::Empty(alloc) => Ok(TableList {
+                items: Vec::new(*alloc),
+            }),
+            Kind::Many(list) => copy_list(list),
+            Kind::Own(list) => copy_list(list),
+        }
+    }
+
+    /// The same tables, in the same list unless that is no other's.
     pub(crate) fn same(&self) -> Result<Tables, Memory>
         ensures { IfOk result (λ tables. tables ≡ self.now) }
     {
@@ -277,6 +370,7 @@ impl Tables {
             Kind::Many(list) => Ok(Tables {
                 kind: Kind::Many(list.clone()?),
             }),
+            Kind::Own(list) => shared_copy(list),
         }
     }
 }

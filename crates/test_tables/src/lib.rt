@@ -16,3 +16,5 @@ mod kept;
 mod restructuring;
 #[cfg(test)]
 mod sources;
+#[cfg(test)]
+mod streams;

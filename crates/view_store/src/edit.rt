@@ -1,5 +1,5 @@
 //! Edits that nothing refuses.
-ghost use Rattle.std.specs.Prelude.{◌≡◌, [], None, IfOk, OnOk};
+ghost use Rattle.std.specs.Prelude.{◌≡◌, [], None, IfOk, OnOk, OnErr};
 ghost use Rattle.tables.specs.Rests.{RestsOn};
 ghost use Rattle.tables.specs.Rows.{completed};
 ghost use Rattle.tables.specs.Shapes.{HasHomes};
@@ -50,10 +50,37 @@ fn finished(alloc: Global, table: Table) -> Result<Shared, Memory>
     share(alloc, table)
 }
 
-/// Edits these very rows. An error may leave anything.
+/// Edits the rows of a shared table: in place, where nobody else holds it, and else in a copy in its place, while the others keep it.
+pub(crate) fn edit_rows(alloc: Global, table: &mut Shared, change: Change<'_>) -> Result<(), Memory>
+    requires { due_in table.old [] (edit_of change) ≡ None }
+    ensures ok { OnOk result (table.new ≡ edited_here (edit_of change.entry) table.old) }
+    ensures err { OnErr result (table.new ≡ table.old) }
+    ensures rests { OnOk result (RestsOn table.new table.old) }
+{
+    match table.sole() {
+        Some(own) => edit_here(alloc, own, change),
+        None => edit_copy(alloc, table, change),
+    }
+}
+
+/// Edits the rows of a shared table in a copy, and puts that in its place.
+fn edit_copy(alloc: Global, table: &mut Shared, change: Change<'_>) -> Result<(), Memory>
+    requires { due_in table.old [] (edit_of change) ≡ None }
+    ensures ok { OnOk result (table.new ≡ edited_here (edit_of change.entry) table.old) }
+    ensures err { OnErr result (table.new ≡ table.old) }
+    ensures rests { OnOk result (RestsOn table.new table.old) }
+{
+    let mut copy = table.table().same()?;
+    edit_here(alloc, &mut copy, change)?;
+    *table = share(alloc, copy)?;
+    Ok(())
+}
+
+/// Edits these very rows.
 fn edit_here(alloc: Global, table: &mut Table, change: Change<'_>) -> Result<(), Memory>
     requires { due_in table.old [] (edit_of change) ≡ None }
     ensures ok { OnOk result (table.new ≡ edited_here (edit_of change.entry) table.old) }
+    ensures err { OnErr result (table.new ≡ table.old) }
     ensures rests { RestsOn table.new table.old }
 {
     match change {

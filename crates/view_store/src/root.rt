@@ -19,7 +19,7 @@ ghost use Rattle.view_store.specs.declared.error.EditError.TheVariants as edit_e
 use crate::EditError;
 use crate::change::Change;
 use crate::check::check;
-use crate::edit::edit;
+use crate::edit::{edit, edit_rows};
 use crate::walk::{find_schema, find_table};
 use mk_value::{Memory, Name, Path, Row, Schema, Sequence, Step, TableRead, Value};
 use std::alloc::Global;
@@ -96,8 +96,8 @@ impl Root {
     }
 
     /// Puts copies of a row, so many times, before the row at a place of the view that the path names. Values that are missing at
-    /// the row's end are defaults. It costs the rows that are put in, and for each column of the tables on the path its list of
-    /// segments and the segment at the place.
+    /// the row's end are defaults. One row at the end of a view that nobody else holds costs its values. Else it costs the rows that
+    /// are put in, and for each column of the tables on the path its list of segments and the segment at the place.
     ///
     /// # Errors
     ///
@@ -285,28 +285,35 @@ impl Root {
             return Err(EditError::NoView);
         };
         let alloc = *self.tables.allocator();
-        let table = edit_table(alloc, &self.tables[at], path.steps(), change)?;
-        self.tables[at] = table;
+        edit_table(alloc, &mut self.tables[at], path.steps(), change)?;
         Ok(())
     }
 }
 
-/// The table after an edit of the rows to which the steps lead.
+/// Edits the rows to which the steps lead from a table. Where there are no steps and nobody else holds the table, it is edited in place.
 fn edit_table(
     alloc: Global,
-    table: &Shared,
+    table: &mut Shared,
     steps: &[Step],
     change: Change<'_>,
-) -> Result<Shared, EditError>
+) -> Result<(), EditError>
     requires { FitsSizes change }
-    ensures due { AnswersDue (due_in table.now steps.now (edit_of change.entry)) result }
-    ensures ok { IfOk result (λ new. new ≡ edited steps.now (edit_of change.entry) table.now) }
-    ensures rests { IfOk result (λ new. RestsOn new table.now) }
-    ensures whole { IfOk result IsTable }
-    ensures homes { IfOk result HasHomes }
+    ensures due { AnswersDue (due_in table.old steps.now (edit_of change.entry)) result }
+    ensures ok { OnOk result (table.new ≡ edited steps.now (edit_of change.entry) table.old) }
+    ensures err { OnErr result (table.new ≡ table.old) }
+    ensures rests { OnOk result (RestsOn table.new table.old) }
+    ensures whole { OnOk result (IsTable table.new) }
+    ensures homes { OnOk result (HasHomes table.new) }
 {
     check(table, steps, change)?;
-    Ok(edit(alloc, table, steps, change)?)
+    if steps.is_empty() {
+        edit_rows(alloc, table, change)?;
+    } else {
+        *table = edit(alloc, table, steps, change)?;
+    }
+    // Each table is whole.
+    let _rows = table.table().len();
+    Ok(())
 }
 
 /// The table to which the steps lead from a table.

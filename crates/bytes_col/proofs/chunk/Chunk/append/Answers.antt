@@ -11,8 +11,8 @@ invariant_of-self-2 c =
     (cell_added c.self.inside.cells.items c.push_reserved.new.self.items c.self.inside.bytes.items _ c.stage.new.bytes.items c.self.inside.short c.short_size.result c.in_ok-cell.cell c.args.value.now
     c.self.invariant c.in_ok-cell.ensures.kept (rw c.reserve.ensures.items at c.push_reserved.ensures.items) c.in_ok-cell.ensures.cell c.in_ok-cell.ensures.behind c.in_ok-cell.ensures.value (rw (← c.self.view_is) at c.requires) c.short_size.ensures.count).0
 
-pub returns : goal.returns
-returns c =
+pub returns-clause-ok : goal.returns-clause-ok
+returns-clause-ok c =
     rw (← c.self.view_is)
     (cell_added c.self.inside.cells.items c.push_reserved.new.self.items c.self.inside.bytes.items _ c.stage.new.bytes.items c.self.inside.short c.short_size.result c.in_ok-cell.cell c.args.value.now
     c.self.invariant c.in_ok-cell.ensures.kept (rw c.reserve.ensures.items at c.push_reserved.ensures.items) c.in_ok-cell.ensures.cell c.in_ok-cell.ensures.behind c.in_ok-cell.ensures.value (rw (← c.self.view_is) at c.requires) c.short_size.ensures.count).1

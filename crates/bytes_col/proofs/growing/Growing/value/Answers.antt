@@ -1,0 +1,6 @@
+use Rattle.std.proofs.Common.{[], ◌∙◌}
+use Rattle.segments.proofs.Joined.{read_place}
+use Rattle.bytes_col.proofs.growing.Growing.value.Goals as goal
+
+pub returns : goal.returns
+returns c = c.value.ensures ∙ read_place c.args.self.now c.args.at c.find-place.result c.chunk-chunk.result.now c.find-place.ensures c.chunk-chunk.ensures []

@@ -1,0 +1,7 @@
+use Rattle.mk_value.specs.Kinds.{domain_of}
+use Rattle.tables.proofs.Pushed.{ready_table}
+use Rattle.tables.proofs.prepared.put_in_copy.Goals as goal
+
+pub returns-in-Ok-clause-ok : goal.returns-in-Ok-clause-ok
+returns-in-Ok-clause-ok c =
+    ready_table (domain_of c.args.kind.now) c.args.rows c.args.inner.now c.args.tables c.in-Ok.longer c.requires.fits c.requires.whole c.in-Ok.ensures
