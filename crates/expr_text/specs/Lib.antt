@@ -3,5 +3,6 @@ pub mod Grammar
 pub mod Meanings
 pub mod Operators
 pub mod Queries
+pub mod Readers
 pub mod Spelling
 pub mod Walk

@@ -7,20 +7,15 @@ use Rattle.mk_value.specs.Limits.{max_name}
 use Rattle.mk_value.specs.Names.{is_name_byte}
 use Rattle.mk_value.specs.Tokens.{Token, word, number, text, bytes, sign}
 use Rattle.tokens.specs.Cutting.{Piece}
-use Rattle.tokens.specs.Depths.{Offence, syntax, too_deep}
 use Rattle.tokens.specs.Literals.{max_braces}
 use Rattle.expr_text.specs.Operators as forms
 use Rattle.expr_text.specs.Operators.{Form, Takes, one_table, takes, two_tables, word_of}
+use Rattle.expr_text.specs.declared.error.ExprError.{ExprError}
+use Rattle.expr_text.specs.declared.error.ExprError.TheVariants.{Syntax, TooDeep}
+use Rattle.expr_text.specs.declared.list.Item.{Item}
+use Rattle.expr_text.specs.declared.list.Item.TheVariants as items
 use Rattle.expr_text.specs.declared.operator.Operator.{Operator}
 use Rattle.expr_text.specs.declared.operator.Operator.TheVariants.{Select, Range, Sort, Project, Without, Rename, Slice, Concat, Pair, Product, Unique, Union, Intersect, Minus, Different, GroupBy, Counts, Join, OuterJoin, JoinProp, OuterJoinProp, Calc, Keep}
-
--- what a list has behind commas; after `named` stands `: NAME` as well
-pub data Item : Type 0 where
-  criterion : Item
-  range : Item
-  order : Item
-  name : Item
-  named : Item
 
 -- What is still to come: a sign; a name; a number without a sign, and any; an expression with at most so many operators inside one another; a path
 -- and its further steps; a literal with braces at most so deep and its parts; a key to sort by; the further members of a list and its end.
@@ -49,25 +44,25 @@ pub data Move : Type 0 where
 
 -- the members of a list, and how it ends
 abbrev pub member_goals : Item → List Goal
-member_goals criterion = a_name ∷ a_sign 61 ∷ a_literal max_braces ∷ []
-member_goals range = a_name ∷ a_sign 61 ∷ a_literal max_braces ∷ a_sign 58 ∷ a_literal max_braces ∷ []
-member_goals order = a_key ∷ []
-member_goals name = a_name ∷ []
-member_goals named = a_name ∷ []
+member_goals items.Criterion = a_name ∷ a_sign 61 ∷ a_literal max_braces ∷ []
+member_goals items.Range = a_name ∷ a_sign 61 ∷ a_literal max_braces ∷ a_sign 58 ∷ a_literal max_braces ∷ []
+member_goals items.Order = a_key ∷ []
+member_goals items.Name = a_name ∷ []
+member_goals items.Named = a_name ∷ []
 
 abbrev pub end_sign : Item → ℕ
-end_sign criterion = 41
-end_sign range = 41
-end_sign order = 41
-end_sign name = 41
-end_sign named = 58
+end_sign items.Criterion = 41
+end_sign items.Range = 41
+end_sign items.Order = 41
+end_sign items.Name = 41
+end_sign items.Named = 58
 
 abbrev pub end_goals : Item → List Goal
-end_goals criterion = []
-end_goals range = []
-end_goals order = []
-end_goals name = []
-end_goals named = a_name ∷ a_sign 41 ∷ []
+end_goals items.Criterion = []
+end_goals items.Range = []
+end_goals items.Order = []
+end_goals items.Name = []
+end_goals items.Named = a_name ∷ a_sign 41 ∷ []
 
 -- one member or more, each behind a comma, and the end
 abbrev pub some_goals : Item → List Goal
@@ -76,16 +71,16 @@ some_goals item = a_sign 44 ∷ (member_goals item ++ (more item ∷ []))
 -- what stands behind the tables of an operator, up to the closing parenthesis
 abbrev pub form_goals : Form → List Goal
 form_goals forms.nothing = a_sign 41 ∷ []
-form_goals forms.criteria = some_goals criterion
-form_goals forms.bounds = some_goals range
-form_goals forms.orders = more order ∷ []
-form_goals forms.names = some_goals name
+form_goals forms.criteria = some_goals items.Criterion
+form_goals forms.bounds = some_goals items.Range
+form_goals forms.orders = more items.Order ∷ []
+form_goals forms.names = some_goals items.Name
 form_goals forms.inner = a_sign 44 ∷ a_name ∷ a_sign 41 ∷ []
 form_goals forms.renamed = a_sign 44 ∷ a_name ∷ a_sign 44 ∷ a_name ∷ a_sign 41 ∷ []
 form_goals forms.rows = a_sign 44 ∷ a_count ∷ a_sign 44 ∷ a_count ∷ a_sign 44 ∷ a_number ∷ a_sign 41 ∷ []
-form_goals forms.named = some_goals named
-form_goals forms.viewed = a_sign 44 ∷ a_name ∷ some_goals name
-form_goals forms.viewed_as = a_sign 44 ∷ a_name ∷ some_goals named
+form_goals forms.named = some_goals items.Named
+form_goals forms.viewed = a_sign 44 ∷ a_name ∷ some_goals items.Name
+form_goals forms.viewed_as = a_sign 44 ∷ a_name ∷ some_goals items.Named
 
 -- what stands in the parentheses of an operator, whose tables have at most so many operators inside one another
 abbrev pub table_goals : ℕ → Takes → List Goal
@@ -199,23 +194,15 @@ pub record Rest : Type 0 where
   pub end : ℕ
 
 -- the first offence of the rest against the goals, if it has one
-abbrev pub ran : Bool → Next → ℕ → (List Goal → Option Offence) → Option Offence
-ran false next place on = Some (syntax place)
-ran true stops place on = Some (syntax place)
-ran true deepens place on = Some (too_deep place)
+abbrev pub ran : Bool → Next → ℕ → (List Goal → Option ExprError) → Option ExprError
+ran false next place on = Some (Syntax place)
+ran true stops place on = Some (Syntax place)
+ran true deepens place on = Some (TooDeep place)
 ran true (goes goals) place on = on goals
 
-unfoldable pub run : List Piece → ℕ → List Goal → Option Offence
-run [] end goals = if are_met goals then None else Some (syntax end)
+unfoldable pub run : List Piece → ℕ → List Goal → Option ExprError
+run [] end goals = if are_met goals then None else Some (Syntax end)
 run (p ∷ pieces) end goals = ran (is_held p.token) (step goals p.token (opens pieces)) p.place (λ further. run pieces end further)
 
-abbrev pub offence_of : Rest → List Goal → Option Offence
+abbrev pub offence_of : Rest → List Goal → Option ExprError
 offence_of rest goals = run rest.pieces rest.end goals
-
--- The goals were met from the old rest to the new one: whatever is still to come behind them, its offence is that of all.
-pub record Meets (goals : List Goal) (old new : Rest) : Type 0 where
-  pub same : (others : List Goal) → offence_of old (goals ++ others) ≡ offence_of new others
-
--- The goals are not met from the rest, and this is the first offence.
-pub record Fails (goals : List Goal) (rest : Rest) (offence : Offence) : Type 0 where
-  pub same : (others : List Goal) → offence_of rest (goals ++ others) ≡ Some offence

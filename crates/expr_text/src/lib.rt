@@ -6,8 +6,12 @@
 //! It stands on the tokens, literals and paths of tokens. It knows nothing of views or of what an operator gives.
 #![tactic(auto)]
 
+mod error;
 mod expr;
+mod list;
 mod operator;
+mod reader;
 
+pub use error::ExprError;
 pub use expr::{Bound, Bounds, Crit, Crits, Expr, NameList, Order, Orders};
 pub use operator::Operator;

@@ -1,0 +1,4 @@
+pub mod Held
+pub mod Meaning
+pub mod Running
+pub mod Walking
