@@ -329,7 +329,7 @@ begun_sound letters zero (Some o) new ts named e whole m = absurd (cc)
 begun_sound letters (suc depth) (Some o) new ts named e whole m = open_sound letters o depth (takes o) ts (operator_word letters o named) refl (pushed (a_sign 40 ∷ table_goals depth (takes o)) new ts e m)
 
 -- one token at the front
-sound : (g : Goal) (t : Token) (follows : Bool) (new : List Goal) → moved g t follows ≡ push new → is_held t ≡ true → (ts : List Token) → Meant new ts → Means g (t ∷ ts)
+pub sound : (g : Goal) (t : Token) (follows : Bool) (new : List Goal) → moved g t follows ≡ push new → is_held t ≡ true → (ts : List Token) → Meant new ts → Means g (t ∷ ts)
 sound (a_sign s) (sign c) follows new e held ts m = elim (sign_split c s [] wrong new e) [
   | inl one ↦ ap (λ x. sign x ∷ ts) one.0 ∙ ap (λ r. sign s ∷ r) (newly [] new ts one.1 m)
   | inr other ↦ absurd (cc)

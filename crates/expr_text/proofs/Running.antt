@@ -14,7 +14,7 @@ use Rattle.tokens.specs.Meanings.{piece_of, pieces_of, token_of, tokens_of_piece
 use Rattle.tokens.specs.declared.token.Piece.{Piece}
 use Rattle.expr_text.specs.Readers.{Becomes, Fails, place_of_first}
 use Rattle.expr_text.specs.Operators.{takes, word_of}
-use Rattle.expr_text.specs.Walk.{Goal, Move, Next, Rest, a_count, a_name, a_number, a_path, a_query, a_sign, are_met, deep, deepens, end_goals, end_sign, followed, goes, is_held, is_opening, member_goals, more, moved, named_in, opened, opens, operator_named, operators, pass, push, ran, run, step, stops, table_goals, wrong}
+use Rattle.expr_text.specs.Walk.{Goal, Move, Next, Rest, a_count, a_key, a_name, a_number, a_path, a_query, a_sign, are_met, deep, deepens, end_goals, end_sign, followed, goes, is_held, is_opening, member_goals, more, moved, named_in, opened, opens, operator_named, operators, pass, push, ran, run, step, stops, table_goals, wrong}
 use Rattle.expr_text.specs.declared.list.Item.{Item}
 use Rattle.expr_text.specs.declared.list.Item.TheVariants.{Criterion, Range, Order, Name, Named}
 use Rattle.expr_text.specs.declared.operator.Operator.{Operator}
@@ -348,3 +348,29 @@ opens_too_deep all p q end depth o e is opening h =
 -- nothing may stand behind the whole
 pub nothing_more : (all : List Piece) (p : Piece) (end : ℕ) → all ≡ p ∷ drop 1 all → run (pieces_of all) end [] ≡ Some (Syntax p.place)
 nothing_more all p end e = ap (λ ps. run (pieces_of ps) end []) e ∙ run-stops (piece_of p) (pieces_of (drop 1 all)) end [] (inr refl)
+
+-- a property to sort by that does not begin with a minus is a name
+key_name : (t : Token) → (t ≡ sign 45 → ⊥) → (follows : Bool) → moved a_key t follows ≡ moved a_name t follows
+key_name (word letters) none follows = refl
+key_name (number z) none follows = refl
+key_name (text content) none follows = refl
+key_name (bytes content) none follows = refl
+key_name (sign c) none follows = ap (λ b. if b then push (a_name ∷ []) else wrong) (other_sign 45 c (λ e. none (ap sign e)))
+
+pub no_key : (all : List Piece) (end : ℕ) → all ≡ [] → Becomes (a_key ∷ []) (rest_at end all) (a_name ∷ []) (rest_at end all)
+no_key all end e = record { same = λ others. ap (λ ps. run (pieces_of ps) end (a_key ∷ others)) e ∙ run-end end (a_key ∷ others) refl ∙ sym (ap (λ ps. run (pieces_of ps) end (a_name ∷ others)) e ∙ run-end end (a_name ∷ others) refl) }
+
+key_run : (p : cutting.Piece) (ps : List cutting.Piece) (end : ℕ) (others : List Goal) → moved a_key p.token (opens ps) ≡ moved a_name p.token (opens ps) → run (p ∷ ps) end (a_key ∷ others) ≡ run (p ∷ ps) end (a_name ∷ others)
+unfolding run
+key_run p ps end others e = ap (λ m. ran (is_held p.token) (followed m others (step others p.token (opens ps))) p.place (λ g. run ps end g)) e
+
+pub plain_key : (all : List Piece) (p : Piece) (end : ℕ) → all ≡ p ∷ drop 1 all → (token_of p.token ≡ sign 45 → ⊥) → Becomes (a_key ∷ []) (rest_at end all) (a_name ∷ []) (rest_at end all)
+plain_key all p end e none = record {
+  same = λ others.
+      ap (λ ps. run (pieces_of ps) end (a_key ∷ others)) e
+      ∙ key_run (piece_of p) (pieces_of (drop 1 all)) end others (key_name (token_of p.token) none (opens (pieces_of (drop 1 all))))
+      ∙ sym (ap (λ ps. run (pieces_of ps) end (a_name ∷ others)) e);
+}
+
+pub minus_key : (t : Token) → t ≡ sign 45 → (follows : Bool) → moved a_key t follows ≡ push (a_name ∷ [])
+minus_key t e follows = ap (λ x. moved a_key x follows) e

@@ -6,11 +6,13 @@
 //! It stands on the tokens, literals and paths of tokens. It knows nothing of views or of what an operator gives.
 #![tactic(auto)]
 
+mod arguments;
 mod error;
 mod expr;
 mod list;
 mod operator;
 mod reader;
+mod reading;
 
 pub use error::ExprError;
 pub use expr::{Bound, Bounds, Crit, Crits, Expr, NameList, Order, Orders};

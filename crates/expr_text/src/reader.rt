@@ -8,15 +8,15 @@ ghost use Rattle.mk_value.specs.Tokens.{word, number as number_token, sign as si
 ghost use Rattle.tokens.specs.Literals.{IsLiteral, max_braces};
 ghost use Rattle.tokens.specs.Meanings.{byte_of, token_of};
 ghost use Rattle.tokens.specs.Paths.{IsPath, path_tokens};
-ghost use Rattle.expr_text.specs.Arguments.{IsCount};
+ghost use Rattle.expr_text.specs.Arguments.{IsCount, IsOrder};
 ghost use Rattle.expr_text.specs.Operators.{takes, word_of};
-ghost use Rattle.expr_text.specs.Spelling.{comma, count as count_token, opening};
-ghost use Rattle.expr_text.specs.Walk.{a_count, a_literal, a_name, a_number, a_path, a_query, a_sign, end_goals, end_sign, member_goals, more, offence_of, table_goals};
+ghost use Rattle.expr_text.specs.Spelling.{comma, count as count_token, minus, opening, order_tokens};
+ghost use Rattle.expr_text.specs.Walk.{a_count, a_key, a_literal, a_name, a_number, a_path, a_query, a_sign, end_goals, end_sign, member_goals, more, offence_of, table_goals};
 
 ghost use Rattle.expr_text.specs.declared.operator.Operator.{Operator as TheOperator};
 
 use crate::list::Item;
-use crate::{ExprError, Operator};
+use crate::{ExprError, Operator, Order};
 use mk_value::{Literal, Name, Path};
 use std::alloc::Global;
 use tokens::{PartError, Piece, Sign, Token, count_of, literal_at, name_of, path_at};
@@ -153,6 +153,34 @@ impl<'a> Reader<'a> {
             return Ok(false);
         }
         Err(ExprError::Syntax(first.place))
+    }
+
+    /// Reads a property to sort by: a name, or one behind a minus.
+    pub(crate) fn key(&mut self) -> Result<Order, ExprError>
+        ensures whole { IfOk result IsOrder }
+        ensures spells { IfOk result (λ order. tokens_left self.old ≡ order_tokens order ++ tokens_left self.new) }
+        ensures meets { OnOk result (Meets (a_key ∷ []) (rest_of self.old) (rest_of self.new)) }
+        ensures fails { IfErr result (Fails (a_key ∷ []) (rest_of self.old)) }
+    {
+        let down = self.minus();
+        let prop = self.name()?;
+        Ok(Order { prop, down })
+    }
+
+    /// Reads a minus, if one stands here.
+    fn minus(&mut self) -> bool
+        ensures spells { IsTrue result → tokens_left self.old ≡ minus ∷ tokens_left self.new }
+        ensures stays { IsFalse result → tokens_left self.old ≡ tokens_left self.new }
+        ensures key { Becomes (a_key ∷ []) (rest_of self.old) (a_name ∷ []) (rest_of self.new) }
+    {
+        let Some(first) = self.rest.first() else {
+            return false;
+        };
+        if !is_sign(&first.token, Sign::Minus) {
+            return false;
+        }
+        self.rest = &self.rest[1..];
+        true
     }
 
     /// Reads the word of an operator and the parenthesis behind it, if they stand here. `depth` operators may stand inside one another.
