@@ -2,6 +2,7 @@ pub mod Deeper
 pub mod Held
 pub mod Lists
 pub mod Meaning
+pub mod Offences
 pub mod Pieces
 pub mod Running
 pub mod Walking

@@ -38,7 +38,7 @@ run_walk (p ∷ front) rest end goals left e =
     run-goes p (front ++ rest) end goals s.further s.held (ap (λ b. step goals p.token b) (opens-append front rest) ∙ s.moves) ∙ run_walk front rest end s.further left s.rest
 
 -- goals that hold no expression do not ask what follows a token
-moved_flag : (g : Goal) (t : Token) (one two : Bool) → raise g ≡ g → moved g t one ≡ moved g t two
+pub moved_flag : (g : Goal) (t : Token) (one two : Bool) → raise g ≡ g → moved g t one ≡ moved g t two
 moved_flag (a_query depth) t one two e = absurd (never depth e)
   where
     never : (depth : ℕ) → a_query (suc depth) ≡ a_query depth → ⊥
@@ -59,7 +59,7 @@ moved_flag a_key (sign c) one two e = refl
 moved_flag (more item) (sign c) one two e = refl
 moved_flag _ _ one two e = refl
 
-step_flag : (goals : List Goal) (t : Token) (one two : Bool) → raised goals ≡ goals → step goals t one ≡ step goals t two
+pub step_flag : (goals : List Goal) (t : Token) (one two : Bool) → raised goals ≡ goals → step goals t one ≡ step goals t two
 step_flag [] t one two e = refl
 step_flag (g ∷ goals) t one two e =
     let first : raise g ≡ g = cc in
