@@ -4,6 +4,7 @@ pub mod Lists
 pub mod Meaning
 pub mod Offences
 pub mod Pieces
+pub mod Refusing
 pub mod Running
 pub mod Walking
 pub mod Whole

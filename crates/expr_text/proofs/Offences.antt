@@ -13,13 +13,13 @@ use Rattle.expr_text.specs.Walk.{Goal, Move, Next, a_query, a_sign, are_met, dee
 use Rattle.expr_text.specs.Walk as walk_
 use Rattle.expr_text.specs.declared.error.ExprError.{ExprError}
 use Rattle.expr_text.specs.declared.error.ExprError.TheVariants.{Memory, Syntax, TooDeep}
-use Rattle.expr_text.proofs.Deeper.{deep_goal, deeper_query, goes_raised_by, met_raised_by, more_deep, query_raised, raise, raised, raised_by, stops_raised_by, walk_raised_by}
+use Rattle.expr_text.proofs.Deeper.{deep_goal, deeper_query, goes_raised_by, met_raised_by, more_deep, query_raised, raise, raised, raised_by, stops_raised_by, walk_raised, walk_raised_by}
 use Rattle.expr_text.proofs.Held.{held_sign}
 use Rattle.expr_text.specs.declared.operator.Operator.{Operator}
 use Rattle.expr_text.proofs.Pieces.{moved_flag, opens-append, run_walk}
 use Rattle.expr_text.proofs.Running.{run-deepens, run-end, run-goes, run-met, run-stops}
 use Rattle.expr_text.proofs.Walking.{opens_first, walk, walk-goes, whole_walks}
-use Rattle.expr_text.proofs.Whole.{pass_steps, walk_behind, walk_front, walk_fronts, walk_step}
+use Rattle.expr_text.proofs.Whole.{pass_steps, walk_behind, walk_front, walk_fronts, walk_step, walk_whole}
 
 -- where the walk over pieces ends
 record Stops (pieces : List Piece) (goals : List Goal) (place : ℕ) : Type 0 where
@@ -43,10 +43,10 @@ record Deepens (pieces : List Piece) (goals : List Goal) (place : ℕ) : Type 0 
   pub deep : step left piece.token (opens rest) ≡ deepens
   pub at : place ≡ piece.place
 
-record Ends (pieces : List Piece) (goals : List Goal) (met : Bool) : Type 0 where
+record Ends (pieces : List Piece) (goals : List Goal) (whole : Bool) : Type 0 where
   pub left : List Goal
   pub walks : walk (tokens_in pieces) false goals ≡ goes left
-  pub met : are_met left ≡ met
+  pub met : are_met left ≡ whole
 
 -- what the walk says, and why
 abbrev Found : List Piece → ℕ → List Goal → Option ExprError → Type 0
@@ -116,7 +116,7 @@ found (p ∷ pieces) end goals = first (λ further. found pieces end further) (i
     first others true held (goes further) is =
         subst (Found (p ∷ pieces) end goals) (sym (run-goes p pieces end goals further held is)) (found_more p pieces end goals further held is (run pieces end further) (others further))
 
-abbrev start : List Goal
+abbrev pub start : List Goal
 start = a_query max_operators ∷ []
 
 -- a front of an expression goes, at the depth that it has
@@ -257,3 +257,163 @@ opening_is (word letters) e = absurd (false≢true e)
 opening_is (number z) e = absurd (false≢true e)
 opening_is (text content) e = absurd (false≢true e)
 opening_is (bytes content) e = absurd (false≢true e)
+
+-- what opens too deep is what the walk finds
+pub too_deep_found : (pieces : List Piece) (end place : ℕ) → OpensTooDeep QueryTokens DeepTokens pieces place → run pieces end start ≡ Some (TooDeep place)
+too_deep_found pieces end place o = ap (λ ps. run ps end start) o.split ∙ run_walk o.front (o.name ∷ o.opening ∷ o.rest) end start strict.left strict.walks ∙ said (step strict.left name opens_here) refl ∙ ap (λ p. Some (TooDeep p)) (sym o.at)
+  where
+    front : List Token
+    front = tokens_in o.front
+
+    name : Token
+    name = o.name.token
+
+    opening : Token
+    opening = o.opening.token
+
+    opens_here : Bool
+    opens_here = is_opening opening
+
+    strict : GoesOver max_operators (tokens_in o.front) o.name.token (opens_first o.goes_on.0 false)
+    strict = front_over max_operators (tokens_in o.front) o.name.token o.goes_on.0 (subst QueryTokens (append_assoc (tokens_in o.front) (o.name.token ∷ []) o.goes_on.0) o.goes_on.1)
+
+    depth : ℕ
+    depth = o.deeper.1.0
+
+    all : QueryIn (more_deep depth max_operators) (tokens_in o.front ++ (o.name.token ∷ o.opening.token ∷ o.deeper.0))
+    all = deeper depth (tokens_in o.front ++ (o.name.token ∷ o.opening.token ∷ o.deeper.0)) (subst (QueryIn depth) (append_assoc (tokens_in o.front) (o.name.token ∷ o.opening.token ∷ []) o.deeper.0) o.deeper.1.1)
+
+    loose : GoesOver (more_deep depth max_operators) (tokens_in o.front) o.name.token (is_opening o.opening.token)
+    loose = front_over (more_deep depth max_operators) (tokens_in o.front) o.name.token (o.opening.token ∷ o.deeper.0) all
+
+    loose_next : GoesOver (more_deep depth max_operators) (tokens_in o.front ++ (o.name.token ∷ [])) o.opening.token (opens_first o.deeper.0 false)
+    loose_next = front_over (more_deep depth max_operators) (tokens_in o.front ++ (o.name.token ∷ [])) o.opening.token o.deeper.0
+        (subst (QueryIn (more_deep depth max_operators)) (sym (append_assoc (tokens_in o.front) (o.name.token ∷ []) (o.opening.token ∷ o.deeper.0))) all)
+
+    same : loose.left ≡ raised_by depth strict.left
+    same = same_left (tokens_in o.front) (is_opening o.name.token) (a_query (more_deep depth max_operators) ∷ []) loose.left (raised_by depth strict.left) loose.walks (walk_deeper depth (tokens_in o.front) (is_opening o.name.token) strict.left strict.walks)
+
+    stop_go : (g : List Goal) → stops ≡ goes g → ⊥
+    stop_go g e = cc
+
+    -- so far within the limit, with the opening too
+    over_name : (g : List Goal) → step strict.left o.name.token (is_opening o.opening.token) ≡ goes g → walk (tokens_in o.front ++ (o.name.token ∷ [])) (is_opening o.opening.token) start ≡ goes g
+    over_name g e =
+        walk_behind (tokens_in o.front) (o.name.token ∷ []) (is_opening o.opening.token) start strict.left strict.walks
+        ∙ walk-goes o.name.token [] (is_opening o.opening.token) strict.left g strict.held e
+
+    over_opening : (g h : List Goal) → step strict.left o.name.token (is_opening o.opening.token) ≡ goes g → step g o.opening.token false ≡ goes h → IsFront QueryTokens (tokens_in o.front ++ (o.name.token ∷ o.opening.token ∷ []))
+    over_opening g h e f =
+        subst (IsFront QueryTokens) (append_assoc (tokens_in o.front) (o.name.token ∷ []) (o.opening.token ∷ []))
+        (query_front max_operators ((tokens_in o.front ++ (o.name.token ∷ [])) ++ (o.opening.token ∷ [])) false h (
+            walk_behind (tokens_in o.front ++ (o.name.token ∷ [])) (o.opening.token ∷ []) false start g (over_name g e) ∙ walk-goes o.opening.token [] false g h loose_next.held f))
+
+    next_same : (g : List Goal) → step strict.left o.name.token (is_opening o.opening.token) ≡ goes g → loose_next.left ≡ raised_by depth g
+    next_same g e =
+        same_left (tokens_in o.front ++ (o.name.token ∷ [])) (is_opening o.opening.token) (a_query (more_deep depth max_operators) ∷ []) loose_next.left (raised_by depth g) loose_next.walks
+        (walk_deeper depth (tokens_in o.front ++ (o.name.token ∷ [])) (is_opening o.opening.token) g (over_name g e))
+
+    at_opening : (g : List Goal) → step strict.left o.name.token (is_opening o.opening.token) ≡ goes g → (n : Next) → step g o.opening.token false ≡ n → ⊥
+    at_opening g e (goes h) is = o.wrong (over_opening g h e is)
+    at_opening g e deepens is = false≢true (deep_step g o.opening.token false is).0
+    at_opening g e stops is =
+        let follows = opens_first o.deeper.0 false in
+        let a : step (raised_by depth g) o.opening.token follows ≡ stops = stops_raised_by depth g o.opening.token follows (stops_flag g o.opening.token false follows is) in
+        stop_go loose_next.further (sym a ∙ ap (λ x. step x o.opening.token follows) (sym (next_same g e)) ∙ loose_next.moves)
+
+    said : (n : Next) → step strict.left o.name.token (is_opening o.opening.token) ≡ n → run (o.name ∷ o.opening ∷ o.rest) end strict.left ≡ Some (TooDeep o.name.place)
+    said deepens is = run-deepens o.name (o.opening ∷ o.rest) end strict.left strict.held is
+    said stops is =
+        let a : step (raised_by depth strict.left) o.name.token (is_opening o.opening.token) ≡ stops = stops_raised_by depth strict.left o.name.token (is_opening o.opening.token) is in
+        absurd (stop_go loose.further (sym a ∙ ap (λ x. step x o.name.token (is_opening o.opening.token)) (sym same) ∙ loose.moves))
+    said (goes g) is = absurd (at_opening g is (step g o.opening.token false) refl)
+
+-- and what the walk finds so opens too deep
+deep_offends : (pieces : List Piece) (place : ℕ) → Deepens pieces start place → OpensTooDeep QueryTokens DeepTokens pieces place
+deep_offends pieces place s = opened s.rest refl
+  where
+    tokens : List Token
+    tokens = tokens_in s.front
+
+    d : (opens s.rest ≡ true) × ((left : List Goal) × (step (raised s.left) s.piece.token true ≡ goes (a_sign 40 ∷ left))) × ((left : List Goal) × (step s.left s.piece.token false ≡ goes left))
+    d = deep_step s.left s.piece.token (opens s.rest) s.deep
+
+    goes_on : IsFront QueryTokens (tokens_in s.front ++ (s.piece.token ∷ []))
+    goes_on = query_front max_operators (tokens_in s.front ++ (s.piece.token ∷ [])) false d.2.0 (
+        walk_behind (tokens_in s.front) (s.piece.token ∷ []) false start s.left s.walks ∙ walk-goes s.piece.token [] false s.left d.2.0 s.held d.2.1)
+
+    deep_go : (g : List Goal) → deepens ≡ goes g → ⊥
+    deep_go g e = cc
+
+    within : (q : Piece) → is_opening q.token ≡ true → IsFront DeepTokens (tokens_in s.front ++ (s.piece.token ∷ q.token ∷ []))
+    within q e = deep_front (suc max_operators) (tokens_in s.front ++ (s.piece.token ∷ q.token ∷ [])) (query_front (suc max_operators) (tokens_in s.front ++ (s.piece.token ∷ q.token ∷ [])) false d.1.0 (
+        walk_behind (tokens_in s.front) (s.piece.token ∷ q.token ∷ []) false (a_query (suc max_operators) ∷ []) (raised s.left) (walk_raised (tokens_in s.front) (is_opening s.piece.token) start s.left s.walks)
+        ∙ walk-goes s.piece.token (q.token ∷ []) false (raised s.left) (a_sign 40 ∷ d.1.0) s.held (ap (λ b. step (raised s.left) s.piece.token b) e ∙ d.1.1)
+        ∙ walk-goes q.token [] false (a_sign 40 ∷ d.1.0) d.1.0 (ap is_held (opening_is q.token e) ∙ held_sign 40) (ap (λ t. step (a_sign 40 ∷ d.1.0) t false) (opening_is q.token e))))
+
+    too_deep_here : (q : Piece) (rest : List Piece) → s.rest ≡ q ∷ rest → IsFront QueryTokens (tokens_in s.front ++ (s.piece.token ∷ q.token ∷ [])) → ⊥
+    too_deep_here q rest e f =
+        let over = front_over max_operators (tokens_in s.front) s.piece.token (q.token ∷ f.0) (subst QueryTokens (append_assoc (tokens_in s.front) (s.piece.token ∷ q.token ∷ []) f.0) f.1) in
+        let same : over.left ≡ s.left = same_left (tokens_in s.front) (is_opening s.piece.token) start over.left s.left over.walks s.walks in
+        let deep : step s.left s.piece.token (is_opening q.token) ≡ deepens = ap (λ ps. step s.left s.piece.token (opens ps)) (sym e) ∙ s.deep in
+        deep_go over.further (sym deep ∙ ap (λ x. step x s.piece.token (is_opening q.token)) (sym same) ∙ over.moves)
+
+    opened : (rest : List Piece) → s.rest ≡ rest → OpensTooDeep QueryTokens DeepTokens pieces place
+    opened [] e = absurd (false≢true (sym (ap opens e) ∙ d.0))
+    opened (q ∷ rest) e = record {
+      front = s.front;
+      name = s.piece;
+      opening = q;
+      rest = rest;
+      split = s.split ∙ ap (λ ps. s.front ++ s.piece ∷ ps) e;
+      goes_on = goes_on;
+      deeper = within q (sym (ap opens e) ∙ d.0);
+      wrong = too_deep_here q rest e;
+      at = s.at;
+    }
+
+-- what the walk finds to be wrong
+stop_offends : (pieces : List Piece) (place : ℕ) → Stops pieces start place → IsFirstWrong DeepTokens pieces place
+stop_offends pieces place s = record {
+  front = s.front;
+  piece = s.piece;
+  rest = s.rest;
+  split = s.split;
+  goes_on = deep_front max_operators (tokens_in s.front) (query_front max_operators (tokens_in s.front) (is_opening s.piece.token) s.left s.walks);
+  wrong = no_deeper (tokens_in s.front) s.piece.token s.left (opens s.rest) s.walks s.wrong;
+  at = s.at;
+}
+
+end_offends : (pieces : List Piece) (end : ℕ) → Ends pieces start false → EndsEarly DeepTokens pieces end end
+end_offends pieces end s = record {
+  goes_on = deep_front max_operators (tokens_in pieces) (query_front max_operators (tokens_in pieces) false s.left s.walks);
+  unfinished = λ q.
+      let whole = whole_walks q.1.0 (more_deep q.0 max_operators) (deeper_query q.1.0 q.0 max_operators q.1.1.whole) in
+      let same : whole.left ≡ raised_by q.0 s.left =
+      same_left (tokens_in pieces) false (a_query (more_deep q.0 max_operators) ∷ []) whole.left (raised_by q.0 s.left) (ap (λ ts. walk ts false (a_query (more_deep q.0 max_operators) ∷ [])) q.1.1.is ∙ whole.walks) (walk_deeper q.0 (tokens_in pieces) false s.left s.walks) in
+      true≢false (sym whole.met ∙ ap are_met same ∙ met_raised_by q.0 s.left ∙ s.met);
+  at = refl;
+}
+
+-- the first offence of pieces
+pub none_deep : (pieces : List Piece) (end place : ℕ) → run pieces end start ≡ Some (Syntax place) → (other : ℕ) → OpensTooDeep QueryTokens DeepTokens pieces other → ⊥
+none_deep pieces end place e other o = let f : Some (Syntax place) ≡ Some (TooDeep other) = sym e ∙ too_deep_found pieces end other o in cc
+
+pub none_deep_whole : (pieces : List Piece) (end : ℕ) → run pieces end start ≡ None → (other : ℕ) → OpensTooDeep QueryTokens DeepTokens pieces other → ⊥
+none_deep_whole pieces end e other o = let f : None ≡ Some (TooDeep other) = sym e ∙ too_deep_found pieces end other o in cc
+
+pub offends_syntax : (pieces : List Piece) (end place : ℕ) → run pieces end start ≡ Some (Syntax place) → Offends QueryTokens DeepTokens pieces None end (syntax place)
+offends_syntax pieces end place e = (none_deep pieces end place e, chosen (subst (Found pieces end start) e (found pieces end start)))
+  where
+    chosen : Stops pieces start place ⊎ (Ends pieces start false × (place ≡ end)) → IsWrongAt DeepTokens pieces None end place
+    chosen (inl s) = inl (stop_offends pieces place s)
+    chosen (inr f) = inr (subst (EndsEarly DeepTokens pieces end) (sym f.1) (end_offends pieces end f.0))
+
+pub offends_deep : (pieces : List Piece) (flaw : Option ℕ) (end place : ℕ) → run pieces end start ≡ Some (TooDeep place) → Offends QueryTokens DeepTokens pieces flaw end (too_deep place)
+offends_deep pieces flaw end place e = deep_offends pieces place (subst (Found pieces end start) e (found pieces end start))
+
+pub never_memory : (pieces : List Piece) (end : ℕ) → run pieces end start ≡ Some Memory → ⊥
+never_memory pieces end e = subst (Found pieces end start) e (found pieces end start)
+
+pub whole_found : (pieces : List Piece) (end : ℕ) → run pieces end start ≡ None → QueryTokens (tokens_in pieces)
+whole_found pieces end e = let f = subst (Found pieces end start) e (found pieces end start) in walk_whole (a_query max_operators) (tokens_in pieces) false f.left f.walks f.met

@@ -1,12 +1,13 @@
 -- What a reader has left to read, and what its steps do.
-use Rattle.std.specs.Prelude.{◌≡◌, ◌⊎◌, ℕ, List, [], ◌∷◌, ◌++◌, drop, Some}
+use Rattle.std.specs.Prelude.{◌≡◌, ◌⊎◌, ℕ, List, [], ◌∷◌, ◌++◌, drop, Some, Result, Ok, Err}
 use Rattle.mk_value.specs.Tokens.{Token}
 use Rattle.tokens.specs.Cutting.{Piece}
 use Rattle.tokens.specs.Fronts.{tokens_in}
 use Rattle.tokens.specs.Meanings.{pieces_of}
 use Rattle.expr_text.specs.Walk.{Goal, Rest, offence_of}
 use Rattle.expr_text.specs.declared.error.ExprError.{ExprError}
-use Rattle.expr_text.specs.declared.error.ExprError.TheVariants.{Memory}
+use Rattle.expr_text.specs.declared.error.ExprError.TheVariants.{Memory, Syntax, TooDeep}
+use Rattle.expr_text.specs.declared.expr.Expr.{Expr}
 use Rattle.expr_text.specs.declared.reader.Reader.{Reader}
 
 abbrev pub rest_of : Reader → Rest
@@ -33,3 +34,10 @@ place_of_first end (p ∷ pieces) = p.place
 
 abbrev pub place_behind : ℕ → Reader → ℕ
 place_behind count reader = place_of_first reader.end (drop count (pieces_of reader.rest.now))
+
+-- how a text with a flaw is refused, where its pieces up to the flaw were read so
+abbrev pub flawed_as : Result Expr ExprError → ℕ → ExprError
+flawed_as (Ok e) flaw = Syntax flaw
+flawed_as (Err (Syntax place)) flaw = Syntax flaw
+flawed_as (Err (TooDeep place)) flaw = TooDeep place
+flawed_as (Err Memory) flaw = Memory

@@ -17,3 +17,4 @@ mod reading;
 pub use error::ExprError;
 pub use expr::{Bound, Bounds, Crit, Crits, Expr, NameList, Order, Orders};
 pub use operator::Operator;
+pub use reading::parse_expr;

@@ -1,25 +1,70 @@
 //! Reading expressions.
 ghost use Rattle.std.specs.Prelude.{◌≡◌, ◌⊎◌, ◌++◌, ◌∷◌, [], suc, None, Some, IfOk, IfErr, OnOk};
 ghost use Rattle.mk_value.specs.Tokens.{word};
-ghost use Rattle.tokens.specs.Depths.{Offence};
 ghost use Rattle.tokens.specs.Fronts.{tokens_in};
 ghost use Rattle.tokens.specs.Meanings.{pieces_of};
-ghost use Rattle.expr_text.specs.Grammar.{IsFirstOffence, Reads, Spells};
+ghost use Rattle.expr_text.specs.Grammar.{IsRefusedAs, Reads, Spells};
 ghost use Rattle.expr_text.specs.Meanings.{query_of};
 ghost use Rattle.expr_text.specs.Operators.{takes, word_of};
 ghost use Rattle.expr_text.specs.Queries.{IsQuery, max_operators};
 ghost use Rattle.expr_text.specs.Spelling.{closing, comma, opening, tokens_of};
 ghost use Rattle.expr_text.specs.Walk.{a_query, a_sign, run, table_goals};
+ghost use Rattle.expr_text.specs.Readers.{flawed_as};
 ghost use Rattle.expr_text.specs.declared.error.ExprError.TheVariants.{Memory as want_of_memory};
 
 use crate::reader::Reader;
 use crate::{Expr, ExprError, Operator};
 use mk_value::Memory;
 use std::alloc::Global;
-use tokens::{Piece, Sign};
+use tokens::{Piece, Sign, cut};
 
 /// How many operators may stand inside one another around a path.
 const MAX_OPERATORS: usize = 15;
+
+/// Reads a text that is one expression.
+///
+/// # Errors
+///
+/// The first offence of the text: `TooDeep` where the name of a 16th operator inside one another stands left of all else that is wrong, else `Syntax`.
+/// `Memory`.
+pub fn parse_expr(alloc: Global, text: &str) -> Result<Expr, ExprError>
+    ensures reads { IfOk result (λ e. Reads text.now (query_of e)) }
+    ensures refused { IfErr result (λ error. (error ≡ want_of_memory) ⊎ IsRefusedAs text.now error) }
+{
+    let cutting = cut(alloc, text)?;
+    let read = read_pieces(alloc, cutting.pieces.as_slice(), text.len());
+    match cutting.flaw {
+        None => read,
+        Some(flaw) => Err(flawed(read, flaw)),
+    }
+}
+
+/// Reads the expression that the pieces of a text of `end` bytes are.
+fn read_pieces(alloc: Global, pieces: &[Piece<'_>], end: usize) -> Result<Expr, ExprError>
+    ensures reads { IfOk result (λ e. Spells max_operators (tokens_in (pieces_of pieces.now)) (query_of e)) }
+    ensures met { OnOk result (run (pieces_of pieces.now) end (a_query max_operators ∷ []) ≡ None) }
+    ensures fails { IfErr result (λ error. (error ≡ want_of_memory) ⊎ (run (pieces_of pieces.now) end (a_query max_operators ∷ []) ≡ Some error)) }
+{
+    let mut reader = Reader {
+        alloc,
+        rest: pieces,
+        end,
+    };
+    let expr = reader.expr(MAX_OPERATORS)?;
+    reader.over()?;
+    Ok(expr)
+}
+
+/// How a text with a piece that is no token is refused, where its pieces up to that one were read so.
+fn flawed(read: Result<Expr, ExprError>, flaw: usize) -> ExprError
+    ensures { result ≡ flawed_as read flaw }
+{
+    match read {
+        Err(ExprError::TooDeep(place)) => ExprError::TooDeep(place),
+        Err(ExprError::Memory) => ExprError::Memory,
+        _ => ExprError::Syntax(flaw),
+    }
+}
 
 impl<'a> Reader<'a> {
     ghost use Rattle.expr_text.specs.Readers.{Fails, Meets, rest_of, tokens_left};
