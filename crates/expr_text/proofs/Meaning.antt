@@ -122,7 +122,7 @@ criterion_sound ts m =
       record { prop = name.0; value = literal.0 },
       (name.1, literal.1),
       joined ts m.0 m.1 (word name.0 ∷ []) (sign 61 ∷ literals.tokens_of literal.0) m.4 name.2
-      (joined m.1 m.3.0 m.3.1 (sign 61 ∷ []) (literals.tokens_of literal.0) m.3.4 m.3.2 (m.3.3.4 ∙ ap (λ t. m.3.3.0 ++ t) last ∙ append-nil m.3.3.0 ∙ literal.2)),
+          (joined m.1 m.3.0 m.3.1 (sign 61 ∷ []) (literals.tokens_of literal.0) m.3.4 m.3.2 (m.3.3.4 ∙ ap (λ t. m.3.3.0 ++ t) last ∙ append-nil m.3.3.0 ∙ literal.2)),
     )
 
 range_sound : (ts : List Token) → Meant (member_goals items.Range) ts → (r : Range) × IsRange r × (ts ≡ range_tokens r)
@@ -134,9 +134,9 @@ range_sound ts m =
       record { prop = name.0; low = low.0; high = high.0 },
       (name.1, (low.1, high.1)),
       joined ts m.0 m.1 (word name.0 ∷ []) (sign 61 ∷ (literals.tokens_of low.0 ++ (sign 58 ∷ literals.tokens_of high.0))) m.4 name.2
-      (joined m.1 m.3.0 m.3.1 (sign 61 ∷ []) (literals.tokens_of low.0 ++ (sign 58 ∷ literals.tokens_of high.0)) m.3.4 m.3.2
-      (joined m.3.1 m.3.3.0 m.3.3.1 (literals.tokens_of low.0) (sign 58 ∷ literals.tokens_of high.0) m.3.3.4 low.2
-      (joined m.3.3.1 m.3.3.3.0 m.3.3.3.1 (sign 58 ∷ []) (literals.tokens_of high.0) m.3.3.3.4 m.3.3.3.2 (m.3.3.3.3.4 ∙ ap (λ t. m.3.3.3.3.0 ++ t) last ∙ append-nil m.3.3.3.3.0 ∙ high.2)))),
+          (joined m.1 m.3.0 m.3.1 (sign 61 ∷ []) (literals.tokens_of low.0 ++ (sign 58 ∷ literals.tokens_of high.0)) m.3.4 m.3.2
+          (joined m.3.1 m.3.3.0 m.3.3.1 (literals.tokens_of low.0) (sign 58 ∷ literals.tokens_of high.0) m.3.3.4 low.2
+          (joined m.3.3.1 m.3.3.3.0 m.3.3.3.1 (sign 58 ∷ []) (literals.tokens_of high.0) m.3.3.3.4 m.3.3.3.2 (m.3.3.3.3.4 ∙ ap (λ t. m.3.3.3.3.0 ++ t) last ∙ append-nil m.3.3.3.3.0 ∙ high.2)))),
     )
 
 -- one member more at the front of a list
@@ -215,7 +215,7 @@ some_named ts m =
       record { some = not_empty x.0 xs.0; whole = All-cons IsName x.0 xs.0 x.1 xs.1 },
       xs.2.1,
       c.2 ∙ list_more (λ n. word n ∷ []) x.0 xs.0 c.0 parts.first parts.second (sign 58 ∷ word xs.2.0 ∷ sign 41 ∷ []) parts.is x.2 xs.2.2
-      ∙ sym (append_assoc (names_tokens (x.0 ∷ xs.0)) (sign 58 ∷ word xs.2.0 ∷ []) (sign 41 ∷ [])),
+          ∙ sym (append_assoc (names_tokens (x.0 ∷ xs.0)) (sign 58 ∷ word xs.2.0 ∷ []) (sign 41 ∷ [])),
     )
 
 -- what stands behind the tables
@@ -354,8 +354,8 @@ sound steps (sign c) follows new e held ts m = elim (sign_split c 47 (a_count �
           record { row = n.0; prop = l.0 } ∷ s.0,
           All-cons IsStep (record { row = n.0; prop = l.0 }) s.0 (n.1, l.1) s.1,
           ap (λ x. sign x ∷ ts) e ∙ ap (λ r. sign 47 ∷ r) (joined ts m.0 m.1 (number (pos n.0) ∷ []) (sign 47 ∷ word l.0 ∷ flat_map step_tokens s.0) m.4 n.2
-          (joined m.1 m.3.0 m.3.1 (sign 47 ∷ []) (word l.0 ∷ flat_map step_tokens s.0) m.3.4 m.3.2
-          (joined m.3.1 m.3.3.0 m.3.3.1 (word l.0 ∷ []) (flat_map step_tokens s.0) m.3.3.4 l.2 s.2))),
+              (joined m.1 m.3.0 m.3.1 (sign 47 ∷ []) (word l.0 ∷ flat_map step_tokens s.0) m.3.4 m.3.2
+              (joined m.3.1 m.3.3.0 m.3.3.1 (word l.0 ∷ []) (flat_map step_tokens s.0) m.3.3.4 l.2 s.2))),
         )
 sound (a_literal depth) (number z) follows new e held ts m = (long z, fits_held z held, ap (λ r. number z ∷ r) (pushed [] new ts e m))
 sound (a_literal depth) (text content) follows new e held ts m = (data_.text content, text_held content held, ap (λ r. text content ∷ r) (pushed [] new ts e m))
@@ -368,6 +368,7 @@ sound (a_literal depth) (sign c) follows new e held ts m = braced (c == 123) ref
         let inside = single (rows d) ts (pushed (rows d ∷ []) new ts is m) in
         let less : d ≡ suc d - 1 = omega arith in
         (relation inside.0, (omega arith, subst (λ x. AreLiteralRows x inside.0) less inside.1), ap (λ x. sign x ∷ ts) same ∙ inside.2)
+
     braced : (b : Bool) → (c == 123) ≡ b → (if b then brace depth else wrong) ≡ push new → LiteralIn depth (sign c ∷ ts)
     braced true same is = opened_brace depth (grind (arith, nat_tests)) is
     braced false same is = absurd (cc)
@@ -388,10 +389,10 @@ sound (rows depth) (sign c) follows new e held ts m =
           tuple (value d.0 vs.0) r.0,
           ((d.1, vs.1), r.1),
           ap (λ x. sign 123 ∷ sign x ∷ ts) e ∙ ap (λ z. sign 123 ∷ sign 40 ∷ z) (
-            joined ts m.0 m.1 (literals.tokens_of d.0) ((more_values vs.0 ++ (sign 41 ∷ [])) ++ (more_rows r.0 ++ (sign 125 ∷ []))) m.4 d.2
-            (joined m.1 m.3.0 m.3.1 (more_values vs.0 ++ (sign 41 ∷ [])) (more_rows r.0 ++ (sign 125 ∷ [])) m.3.4 vs.2 r.2)
-            ∙ sym (append_assoc (literals.tokens_of d.0) (more_values vs.0 ++ (sign 41 ∷ [])) (more_rows r.0 ++ (sign 125 ∷ [])))
-            ∙ sym (append_assoc (literals.tokens_of d.0 ++ (more_values vs.0 ++ (sign 41 ∷ []))) (more_rows r.0) (sign 125 ∷ []))),
+              joined ts m.0 m.1 (literals.tokens_of d.0) ((more_values vs.0 ++ (sign 41 ∷ [])) ++ (more_rows r.0 ++ (sign 125 ∷ []))) m.4 d.2
+              (joined m.1 m.3.0 m.3.1 (more_values vs.0 ++ (sign 41 ∷ [])) (more_rows r.0 ++ (sign 125 ∷ [])) m.3.4 vs.2 r.2)
+              ∙ sym (append_assoc (literals.tokens_of d.0) (more_values vs.0 ++ (sign 41 ∷ [])) (more_rows r.0 ++ (sign 125 ∷ [])))
+              ∙ sym (append_assoc (literals.tokens_of d.0 ++ (more_values vs.0 ++ (sign 41 ∷ []))) (more_rows r.0) (sign 125 ∷ []))),
         )
 sound (after_row depth) (sign c) follows new e held ts m =
     elim (sign_split c 125 [] (if c == 44 then push (a_row depth ∷ after_row depth ∷ []) else wrong) new e) [

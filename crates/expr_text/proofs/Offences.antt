@@ -80,11 +80,14 @@ found_more p pieces end goals further held moves (Some (Syntax place)) (inl s) =
   wrong = s.wrong;
   at = s.at;
 })
-found_more p pieces end goals further held moves (Some (Syntax place)) (inr f) = inr (record {
-  left = f.0.left;
-  walks = walk-goes p.token (tokens_in pieces) false goals further held (ap (λ b. step goals p.token b) (sym (opens_of pieces)) ∙ moves) ∙ f.0.walks;
-  met = f.0.met;
-}, f.1)
+found_more p pieces end goals further held moves (Some (Syntax place)) (inr f) = inr (
+  record {
+    left = f.0.left;
+    walks = walk-goes p.token (tokens_in pieces) false goals further held (ap (λ b. step goals p.token b) (sym (opens_of pieces)) ∙ moves) ∙ f.0.walks;
+    met = f.0.met;
+  },
+  f.1,
+)
 found_more p pieces end goals further held moves (Some (TooDeep place)) s = record {
   front = p ∷ s.front;
   piece = s.piece;
@@ -108,6 +111,7 @@ found (p ∷ pieces) end goals = first (λ further. found pieces end further) (i
   where
     here : (is_held p.token ≡ false) ⊎ (step goals p.token (opens pieces) ≡ stops) → Found (p ∷ pieces) end goals (run (p ∷ pieces) end goals)
     here w = subst (Found (p ∷ pieces) end goals) (sym (run-stops p pieces end goals w)) (inl (record { front = []; piece = p; rest = pieces; split = refl; left = goals; walks = refl; wrong = w; at = refl }))
+
     first : ((further : List Goal) → Found pieces end further (run pieces end further)) → (b : Bool) → is_held p.token ≡ b → (n : Next) → step goals p.token (opens pieces) ≡ n → Found (p ∷ pieces) end goals (run (p ∷ pieces) end goals)
     first others false held n is = here (inl held)
     first others true held stops is = here (inr is)
@@ -306,7 +310,7 @@ too_deep_found pieces end place o = ap (λ ps. run ps end start) o.split ∙ run
     over_opening g h e f =
         subst (IsFront QueryTokens) (append_assoc (tokens_in o.front) (o.name.token ∷ []) (o.opening.token ∷ []))
         (query_front max_operators ((tokens_in o.front ++ (o.name.token ∷ [])) ++ (o.opening.token ∷ [])) false h (
-            walk_behind (tokens_in o.front ++ (o.name.token ∷ [])) (o.opening.token ∷ []) false start g (over_name g e) ∙ walk-goes o.opening.token [] false g h loose_next.held f))
+        walk_behind (tokens_in o.front ++ (o.name.token ∷ [])) (o.opening.token ∷ []) false start g (over_name g e) ∙ walk-goes o.opening.token [] false g h loose_next.held f))
 
     next_same : (g : List Goal) → step strict.left o.name.token (is_opening o.opening.token) ≡ goes g → loose_next.left ≡ raised_by depth g
     next_same g e =

@@ -72,8 +72,10 @@ step_plain (g ∷ goals) t follows plain e = chosen (step_plain goals t follows)
   where
     first : raise g ≡ g
     first = cc
+
     others : raised goals ≡ goals
     others = cc
+
     chosen : (raised goals ≡ goals → step goals t follows ≡ deepens → ⊥) → (m : Move) → moved g t follows ≡ m → followed m goals (step goals t follows) ≡ deepens → ⊥
     chosen inner wrong is e = cc
     chosen inner walk_.deep is e =
@@ -199,7 +201,7 @@ literal_meets pieces end n d spells = record {
   same = λ others.
       let after = opens (drop n (pieces_of pieces)) in
       front_goes pieces end n (a_literal max_braces ∷ others) others (
-          ap (λ ts. walk ts after (a_literal max_braces ∷ others)) (spells.is ∙ sym (append-nil (literals.tokens_of d))) ∙ literal_walks d max_braces spells.whole [] after others)
+      ap (λ ts. walk ts after (a_literal max_braces ∷ others)) (spells.is ∙ sym (append-nil (literals.tokens_of d))) ∙ literal_walks d max_braces spells.whole [] after others)
       ∙ ap (λ ps. run ps end others) (pieces_dropped n pieces);
 }
 
@@ -231,7 +233,7 @@ path_meets pieces end n route spells ends = record {
   same = λ others.
       let after = opens (drop n (pieces_of pieces)) in
       front_goes pieces end n (a_path ∷ others) (steps ∷ others) (
-          ap (λ ts. walk ts after (a_path ∷ others)) (spells.is ∙ sym (append-nil (path_tokens route))) ∙ path_walks route spells.whole [] after others)
+      ap (λ ts. walk ts after (a_path ∷ others)) (spells.is ∙ sym (append-nil (path_tokens route))) ∙ path_walks route spells.whole [] after others)
       ∙ steps_over (drop n (pieces_of pieces)) end others (λ slash. ends (subst GoesOnWithSlash (tokens_dropped n pieces) slash))
       ∙ ap (λ ps. run ps end others) (pieces_dropped n pieces);
 }

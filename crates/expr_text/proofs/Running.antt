@@ -339,11 +339,11 @@ pub opens_too_deep : (all : List Piece) (p q : Piece) (end depth : ℕ) (o : Ope
 opens_too_deep all p q end depth o e is opening h =
     subst (λ d. Fails (a_query d ∷ []) (rest_at end all) (TooDeep p.place)) (sym h)
     (inr (λ others.
-      let rest = pieces_of (drop 2 all) in
-      ap (λ ps. run (pieces_of ps) end (a_query 0 ∷ others)) e
-      ∙ run-deepens (piece_of p) (piece_of q ∷ rest) end (a_query 0 ∷ others) (ap is_held is ∙ word_is_name o)
-      (ap (λ b. followed (moved (a_query 0) (token_of p.token) b) others (step others (token_of p.token) b)) (at_opening (token_of q.token) opening)
-      ∙ ap (λ m. followed m others (step others (token_of p.token) true)) (ap (λ t. moved (a_query 0) t true) is ∙ operator_moves o 0))))
+    let rest = pieces_of (drop 2 all) in
+    ap (λ ps. run (pieces_of ps) end (a_query 0 ∷ others)) e
+    ∙ run-deepens (piece_of p) (piece_of q ∷ rest) end (a_query 0 ∷ others) (ap is_held is ∙ word_is_name o)
+    (ap (λ b. followed (moved (a_query 0) (token_of p.token) b) others (step others (token_of p.token) b)) (at_opening (token_of q.token) opening)
+    ∙ ap (λ m. followed m others (step others (token_of p.token) true)) (ap (λ t. moved (a_query 0) t true) is ∙ operator_moves o 0))))
 
 -- nothing may stand behind the whole
 pub nothing_more : (all : List Piece) (p : Piece) (end : ℕ) → all ≡ p ∷ drop 1 all → run (pieces_of all) end [] ≡ Some (Syntax p.place)

@@ -12,7 +12,6 @@ ghost use Rattle.expr_text.specs.Arguments.{IsCount, IsOrder};
 ghost use Rattle.expr_text.specs.Operators.{takes, word_of};
 ghost use Rattle.expr_text.specs.Spelling.{comma, count as count_token, minus, opening, order_tokens};
 ghost use Rattle.expr_text.specs.Walk.{a_count, a_key, a_literal, a_name, a_number, a_path, a_query, a_sign, end_goals, end_sign, member_goals, more, offence_of, table_goals};
-
 ghost use Rattle.expr_text.specs.declared.operator.Operator.{Operator as TheOperator};
 
 use crate::list::Item;
