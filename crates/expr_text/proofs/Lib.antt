@@ -3,6 +3,7 @@ pub mod Held
 pub mod Lists
 pub mod Meaning
 pub mod Offences
+pub mod Outcomes
 pub mod Pieces
 pub mod Refusing
 pub mod Running

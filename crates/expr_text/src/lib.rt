@@ -9,6 +9,7 @@
 mod arguments;
 mod error;
 mod expr;
+mod laws;
 mod list;
 mod operator;
 mod reader;
@@ -16,5 +17,6 @@ mod reading;
 
 pub use error::ExprError;
 pub use expr::{Bound, Bounds, Crit, Crits, Expr, NameList, Order, Orders};
+pub use laws::{one_offence, some_reading};
 pub use operator::Operator;
 pub use reading::parse_expr;

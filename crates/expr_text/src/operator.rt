@@ -63,4 +63,35 @@ impl Operator {
             _ => return None,
         })
     }
+
+    /// The word of the operator.
+    pub fn word(self) -> &'static str
+        ensures { result.now ≡ word_of self }
+    {
+        match self {
+            Operator::Select => "select",
+            Operator::Range => "range",
+            Operator::Sort => "sort",
+            Operator::Project => "project",
+            Operator::Without => "without",
+            Operator::Rename => "rename",
+            Operator::Slice => "slice",
+            Operator::Concat => "concat",
+            Operator::Pair => "pair",
+            Operator::Product => "product",
+            Operator::Unique => "unique",
+            Operator::Union => "union",
+            Operator::Intersect => "intersect",
+            Operator::Minus => "minus",
+            Operator::Different => "different",
+            Operator::GroupBy => "groupby",
+            Operator::Counts => "counts",
+            Operator::Join => "join",
+            Operator::OuterJoin => "outerjoin",
+            Operator::JoinProp => "joinprop",
+            Operator::OuterJoinProp => "outerjoinprop",
+            Operator::Calc => "calc",
+            Operator::Keep => "keep",
+        }
+    }
 }
