@@ -6,6 +6,8 @@
 #[cfg(test)]
 mod commands;
 #[cfg(test)]
+mod expressions;
+#[cfg(test)]
 mod literals;
 #[cfg(test)]
 mod shown;

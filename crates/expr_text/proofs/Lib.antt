@@ -1,0 +1,11 @@
+pub mod Deeper
+pub mod Held
+pub mod Lists
+pub mod Meaning
+pub mod Offences
+pub mod Outcomes
+pub mod Pieces
+pub mod Refusing
+pub mod Running
+pub mod Walking
+pub mod Whole

@@ -1,0 +1,13 @@
+use Rattle.std.proofs.Common.{length}
+use Rattle.expr_text.specs.Arguments.{IsCriterion}
+use Rattle.expr_text.specs.Readers.{rest_of}
+use Rattle.expr_text.specs.Spelling.{criterion_tokens}
+use Rattle.expr_text.specs.declared.list.Item.TheVariants as items
+use Rattle.expr_text.proofs.Lists.{ListRead}
+use Rattle.expr_text.proofs.reader.Reader.criteria.Given as goal
+
+abbrev pub invariant-members : goal.invariant-members
+invariant-members l = ListRead items.Criterion IsCriterion criterion_tokens (rest_of l.fn.self) l.list (rest_of l.self)
+
+abbrev pub decreases-members : goal.decreases-members
+decreases-members l = length l.self.rest.now

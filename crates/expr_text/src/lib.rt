@@ -1,0 +1,22 @@
+//! Expressions: which view a text asks for, from paths by operators.
+//!
+//! `parse_expr` reads a text as the one expression that it spells, or names its first offence; `print_expr` appends the one spelling of an
+//! expression. Contracts see an expression as a `Query`, which is plain data.
+//!
+//! It stands on the tokens, literals and paths of tokens. It knows nothing of views or of what an operator gives.
+#![tactic(auto)]
+
+mod arguments;
+mod error;
+mod expr;
+mod laws;
+mod list;
+mod operator;
+mod reader;
+mod reading;
+
+pub use error::ExprError;
+pub use expr::{Bound, Bounds, Crit, Crits, Expr, NameList, Order, Orders};
+pub use laws::{one_offence, some_reading};
+pub use operator::Operator;
+pub use reading::parse_expr;

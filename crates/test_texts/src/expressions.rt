@@ -1,0 +1,155 @@
+//! Expressions, read or refused.
+use expr_text::{ExprError, parse_expr};
+use std::alloc::Global;
+use std::process::Abort;
+use std::test::Fail;
+
+/// How a text reads: as an expression, or refused at a place.
+fn reading(alloc: Global, text: &str) -> Result<String, Fail> {
+    match parse_expr(alloc, text) {
+        Ok(_) => Ok(String::from_str(alloc, "ok")?),
+        Err(ExprError::Syntax(place)) => Ok(format!(in alloc; "syntax {place}")?),
+        Err(ExprError::TooDeep(place)) => Ok(format!(in alloc; "deep {place}")?),
+        Err(ExprError::Memory) => Err(Fail::new("out of memory")),
+    }
+}
+
+/// Each text reads, or is refused, as is said beside it.
+fn all_read(rt: &impl Abort, alloc: Global, table: &[(&str, &str)]) -> Result<(), Fail> {
+    for (text, want) in table {
+        assert_eq!(rt; reading(alloc, text)?.as_str(), *want, "{text}");
+    }
+    Ok(())
+}
+
+const EXPRESSIONS: [(&str, &str); 32] = [
+    ("people", "ok"),
+    ("  people ", "ok"),
+    ("t/0/a/12/b", "ok"),
+    ("select(t,a=1)", "ok"),
+    ("select(t,a=\"x\",b=x\"00ff\",c={(1,2),(3)})", "ok"),
+    ("range(t,a=1:2,b=\"a\":\"b\")", "ok"),
+    ("sort(t)", "ok"),
+    ("sort( a , -b )", "ok"),
+    ("sort(t,-a,b)", "ok"),
+    ("project(t,a,a)", "ok"),
+    ("without(t,a)", "ok"),
+    ("rename(t,a,b)", "ok"),
+    ("slice(t,0,9,-2)", "ok"),
+    ("slice(t,0,9,0)", "ok"),
+    ("concat(t,u)", "ok"),
+    ("pair(t,u)", "ok"),
+    ("product(t,u)", "ok"),
+    ("unique(t)", "ok"),
+    ("union(t,u)", "ok"),
+    ("intersect(t,u)", "ok"),
+    ("minus(t,u)", "ok"),
+    ("different(t,u)", "ok"),
+    ("groupby(t,a,b:c)", "ok"),
+    ("counts(t,a:n)", "ok"),
+    ("join(t,u,a,b)", "ok"),
+    ("outerjoin(t,u,a)", "ok"),
+    ("joinprop(t,a)", "ok"),
+    ("outerjoinprop(t,a)", "ok"),
+    ("calc(t,v,a,b:c)", "ok"),
+    ("keep(t,v,a,b)", "ok"),
+    ("select", "ok"),
+    ("select(select,select=1)", "ok"),
+];
+
+#[test]
+fn each_expression_reads(rt: HostRuntime) -> Result<(), Fail> {
+    all_read(&rt, rt.alloc(), &EXPRESSIONS)
+}
+
+const PLACES: [(&str, &str); 40] = [
+    ("", "syntax 0"),
+    ("   ", "syntax 3"),
+    ("sort(a", "syntax 6"),
+    ("sort(", "syntax 5"),
+    ("sort()", "syntax 5"),
+    ("foo(a)", "syntax 3"),
+    ("SORT(t)", "syntax 4"),
+    ("a b", "syntax 2"),
+    ("t/0", "syntax 3"),
+    ("t/0/", "syntax 4"),
+    ("t/-1/a", "syntax 2"),
+    ("sort(t))", "syntax 7"),
+    ("sort(t,)", "syntax 7"),
+    ("sort(t,a,)", "syntax 9"),
+    ("select(t)", "syntax 8"),
+    ("select(t,a)", "syntax 10"),
+    ("select(t,a=1,)", "syntax 13"),
+    ("select(t,a=b)", "syntax 11"),
+    ("select(t,a=-b)", "syntax 11"),
+    ("range(t,a=1)", "syntax 11"),
+    ("project(t)", "syntax 9"),
+    ("project(t a)", "syntax 10"),
+    ("rename(t,a)", "syntax 10"),
+    ("rename(t,a b)", "syntax 11"),
+    ("slice(t,-1,9,1)", "syntax 8"),
+    ("slice(t,0,9)", "syntax 11"),
+    ("slice(t,0,9,1,1)", "syntax 13"),
+    ("concat(t)", "syntax 8"),
+    ("unique(t,a)", "syntax 8"),
+    ("groupby(t,a)", "syntax 11"),
+    ("counts(t:n)", "syntax 8"),
+    ("join(t,u)", "syntax 8"),
+    ("calc(t,v:b)", "syntax 8"),
+    ("keep(t,v)", "syntax 8"),
+    ("select(t,a={({({({({({({({1}", "syntax 26"),
+    ("t %", "syntax 2"),
+    ("sort(%", "syntax 5"),
+    ("foo(a %", "syntax 6"),
+    ("minus(t,)", "syntax 8"),
+    ("sort(t,--a)", "syntax 8"),
+];
+
+#[test]
+fn each_offence_has_its_place(rt: HostRuntime) -> Result<(), Fail> {
+    all_read(&rt, rt.alloc(), &PLACES)
+}
+
+/// A text between so many operators inside one another.
+fn nested(
+    alloc: Global,
+    before: &str,
+    count: usize,
+    inner: &str,
+    behind: &str,
+) -> Result<String, Fail> {
+    let mut text = String::from_str(alloc, before)?;
+    for _ in 0..count {
+        text.push_str("sort(")?;
+    }
+    text.push_str(inner)?;
+    for _ in 0..count {
+        text.push_str(")")?;
+    }
+    text.push_str(behind)?;
+    Ok(text)
+}
+
+/// What stands before, how many operators inside one another, what in them, what behind, and how it reads.
+const DEPTHS: [(&str, usize, &str, &str, &str); 10] = [
+    ("", 15, "t", "", "ok"),
+    ("", 16, "t", "", "deep 75"),
+    ("", 17, "t", "", "deep 75"),
+    ("", 15, "sort", "", "ok"),
+    ("", 15, "concat(t,u)", "", "deep 75"),
+    ("", 16, "t", " %", "deep 75"),
+    ("% ", 16, "t", "", "syntax 0"),
+    (") ", 16, "t", "", "syntax 0"),
+    (") ", 16, "t", "%", "syntax 99"),
+    ("minus(t,", 15, "t", ")", "deep 78"),
+];
+
+#[test]
+fn depth_decides_by_place(rt: HostRuntime) -> Result<(), Fail> {
+    let alloc = rt.alloc();
+    for (before, count, inner, behind, want) in &DEPTHS {
+        let text = nested(alloc, before, *count, inner, behind)?;
+        assert_eq!(rt; reading(alloc, text.as_str())?.as_str(), *want, "{text}");
+    }
+    Ok(())
+}
