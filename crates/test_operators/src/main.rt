@@ -15,6 +15,7 @@
 mod asked;
 mod indexed;
 mod shown;
+mod sought;
 mod steps;
 mod tables;
 
@@ -27,6 +28,9 @@ fn answer(alloc: Global, line: &str) -> Result<String> {
     let mut table = tables::table(alloc, source)?;
     for step in steps.split(" | ") {
         if let Some(said) = indexed::said(alloc, &table, step)? {
+            return Ok(said);
+        }
+        if let Some(said) = sought::said(alloc, &table, step)? {
             return Ok(said);
         }
         match steps::step(alloc, table, step)? {
