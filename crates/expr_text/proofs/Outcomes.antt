@@ -23,8 +23,11 @@ no_wrong : (pieces : List Piece) (place : ℕ) → DeepTokens (tokens_in pieces)
 no_wrong pieces place whole w = w.wrong (tokens_in w.rest, subst DeepTokens (ap tokens_in w.split ∙ tokens_split w.front w.piece w.rest ∙ sym (append_assoc (tokens_in w.front) (w.piece.token ∷ []) (tokens_in w.rest))) whole)
 
 no_deep : (pieces : List Piece) (place : ℕ) → QueryTokens (tokens_in pieces) → OpensTooDeep QueryTokens DeepTokens pieces place → ⊥
-no_deep pieces place whole o = o.wrong (tokens_in o.rest, subst QueryTokens (
-    ap tokens_in o.split ∙ tokens_split o.front o.name (o.opening ∷ o.rest) ∙ sym (append_assoc (tokens_in o.front) (o.name.token ∷ o.opening.token ∷ []) (tokens_in o.rest))) whole)
+no_deep pieces place whole o = o.wrong (
+  tokens_in o.rest,
+  subst QueryTokens (
+      ap tokens_in o.split ∙ tokens_split o.front o.name (o.opening ∷ o.rest) ∙ sym (append_assoc (tokens_in o.front) (o.name.token ∷ o.opening.token ∷ []) (tokens_in o.rest))) whole,
+)
 
 -- offences of the same pieces
 whole_no_offence : (pieces : List Piece) (size : ℕ) (offence : Offence) → QueryTokens (tokens_in pieces) → Offends QueryTokens DeepTokens pieces None size offence → ⊥
@@ -51,15 +54,21 @@ wrong_once pieces None size one two (inl p) (inl q) = offending.wrong_once DeepT
 wrong_once pieces None size one two (inl p) (inr q) = absurd (early_wrong pieces size one two p q)
   where
     early_wrong : (pieces : List Piece) (size one two : ℕ) → IsFirstWrong DeepTokens pieces one → EndsEarly DeepTokens pieces size two → ⊥
-    early_wrong pieces size one two w e = w.wrong (tokens_in w.rest ++ e.goes_on.0, subst DeepTokens (
-        ap (λ ts. ts ++ e.goes_on.0) (ap tokens_in w.split ∙ tokens_split w.front w.piece w.rest) ∙ append_assoc (tokens_in w.front) (w.piece.token ∷ tokens_in w.rest) e.goes_on.0
-        ∙ sym (append_assoc (tokens_in w.front) (w.piece.token ∷ []) (tokens_in w.rest ++ e.goes_on.0))) e.goes_on.1)
+    early_wrong pieces size one two w e = w.wrong (
+      tokens_in w.rest ++ e.goes_on.0,
+      subst DeepTokens (
+          ap (λ ts. ts ++ e.goes_on.0) (ap tokens_in w.split ∙ tokens_split w.front w.piece w.rest) ∙ append_assoc (tokens_in w.front) (w.piece.token ∷ tokens_in w.rest) e.goes_on.0
+          ∙ sym (append_assoc (tokens_in w.front) (w.piece.token ∷ []) (tokens_in w.rest ++ e.goes_on.0))) e.goes_on.1,
+    )
 wrong_once pieces None size one two (inr p) (inl q) = absurd (early_wrong pieces size two one q p)
   where
     early_wrong : (pieces : List Piece) (size one two : ℕ) → IsFirstWrong DeepTokens pieces one → EndsEarly DeepTokens pieces size two → ⊥
-    early_wrong pieces size one two w e = w.wrong (tokens_in w.rest ++ e.goes_on.0, subst DeepTokens (
-        ap (λ ts. ts ++ e.goes_on.0) (ap tokens_in w.split ∙ tokens_split w.front w.piece w.rest) ∙ append_assoc (tokens_in w.front) (w.piece.token ∷ tokens_in w.rest) e.goes_on.0
-        ∙ sym (append_assoc (tokens_in w.front) (w.piece.token ∷ []) (tokens_in w.rest ++ e.goes_on.0))) e.goes_on.1)
+    early_wrong pieces size one two w e = w.wrong (
+      tokens_in w.rest ++ e.goes_on.0,
+      subst DeepTokens (
+          ap (λ ts. ts ++ e.goes_on.0) (ap tokens_in w.split ∙ tokens_split w.front w.piece w.rest) ∙ append_assoc (tokens_in w.front) (w.piece.token ∷ tokens_in w.rest) e.goes_on.0
+          ∙ sym (append_assoc (tokens_in w.front) (w.piece.token ∷ []) (tokens_in w.rest ++ e.goes_on.0))) e.goes_on.1,
+    )
 wrong_once pieces None size one two (inr p) (inr q) = p.at ∙ sym q.at
 
 offends_once : (pieces : List Piece) (flaw : Option ℕ) (size : ℕ) (one two : Offence) → Offends QueryTokens DeepTokens pieces flaw size one → Offends QueryTokens DeepTokens pieces flaw size two → one ≡ two
