@@ -5,7 +5,9 @@ pub mod Meaning
 pub mod Offences
 pub mod Outcomes
 pub mod Pieces
+pub mod Printed
 pub mod Refusing
 pub mod Running
+pub mod Unique
 pub mod Walking
 pub mod Whole

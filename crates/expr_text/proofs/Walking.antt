@@ -248,7 +248,7 @@ pub record Parted (tokens : List Token) : Type 0 where
   pub no_slash : (first == 47) ≡ false
   pub no_opening : (first == 40) ≡ false
 
-comma_parts : (rest : List Token) → Parted (sign 44 ∷ rest)
+pub comma_parts : (rest : List Token) → Parted (sign 44 ∷ rest)
 comma_parts rest = record { first = 44; rest = rest; is = refl; no_slash = refl; no_opening = refl }
 
 list_parts : {X : Type 0} (f : X → List Token) (xs : List X) (rest : List Token) → Parted rest → Parted (listed f xs ++ rest)

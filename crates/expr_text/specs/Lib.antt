@@ -5,4 +5,5 @@ pub mod Operators
 pub mod Queries
 pub mod Readers
 pub mod Spelling
+pub mod Texts
 pub mod Walk

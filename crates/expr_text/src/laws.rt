@@ -3,8 +3,9 @@ ghost use Rattle.tokens.specs.Depths.{Offence};
 ghost use Rattle.expr_text.specs.Grammar.{IsFirstOffence, Reads};
 ghost use Rattle.expr_text.specs.Queries.{Query};
 
-/// A law of expressions: no text has two first offences, and none that reads as an expression has one.
-pub fn one_offence()
+/// A law of expressions: a text reads as one expression, or has one first offence, and never both.
+pub fn one_reading()
+    ensures one_expression { (content : List ℕ) → (one two : Query) → Reads content one → Reads content two → one ≡ two }
     ensures one_offence { (content : List ℕ) → (one two : Offence) → IsFirstOffence content one → IsFirstOffence content two → one ≡ two }
     ensures not_both { (content : List ℕ) → (q : Query) → (offence : Offence) → Reads content q → IsFirstOffence content offence → ⊥ }
 {}

@@ -11,12 +11,16 @@ mod error;
 mod expr;
 mod laws;
 mod list;
+mod literals;
 mod operator;
+mod printing;
 mod reader;
 mod reading;
+mod tails;
 
 pub use error::ExprError;
 pub use expr::{Bound, Bounds, Crit, Crits, Expr, NameList, Order, Orders};
-pub use laws::{one_offence, some_reading};
+pub use laws::{one_reading, some_reading};
 pub use operator::Operator;
+pub use printing::print_expr;
 pub use reading::parse_expr;

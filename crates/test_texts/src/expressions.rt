@@ -1,13 +1,18 @@
 //! Expressions, read or refused.
-use expr_text::{ExprError, parse_expr};
+use expr_text::{ExprError, parse_expr, print_expr};
+use mk_value::Text;
 use std::alloc::Global;
 use std::process::Abort;
 use std::test::Fail;
 
-/// How a text reads: as an expression, or refused at a place.
+/// How a text reads: the one spelling of its expression, or where it is refused.
 fn reading(alloc: Global, text: &str) -> Result<String, Fail> {
     match parse_expr(alloc, text) {
-        Ok(_) => Ok(String::from_str(alloc, "ok")?),
+        Ok(expr) => {
+            let mut out = Text::new(alloc);
+            print_expr(&expr, &mut out)?;
+            Ok(String::from_str(alloc, out.as_str())?)
+        }
         Err(ExprError::Syntax(place)) => Ok(format!(in alloc; "syntax {place}")?),
         Err(ExprError::TooDeep(place)) => Ok(format!(in alloc; "deep {place}")?),
         Err(ExprError::Memory) => Err(Fail::new("out of memory")),
@@ -22,39 +27,49 @@ fn all_read(rt: &impl Abort, alloc: Global, table: &[(&str, &str)]) -> Result<()
     Ok(())
 }
 
-const EXPRESSIONS: [(&str, &str); 32] = [
-    ("people", "ok"),
-    ("  people ", "ok"),
-    ("t/0/a/12/b", "ok"),
-    ("select(t,a=1)", "ok"),
-    ("select(t,a=\"x\",b=x\"00ff\",c={(1,2),(3)})", "ok"),
-    ("range(t,a=1:2,b=\"a\":\"b\")", "ok"),
-    ("sort(t)", "ok"),
-    ("sort( a , -b )", "ok"),
-    ("sort(t,-a,b)", "ok"),
-    ("project(t,a,a)", "ok"),
-    ("without(t,a)", "ok"),
-    ("rename(t,a,b)", "ok"),
-    ("slice(t,0,9,-2)", "ok"),
-    ("slice(t,0,9,0)", "ok"),
-    ("concat(t,u)", "ok"),
-    ("pair(t,u)", "ok"),
-    ("product(t,u)", "ok"),
-    ("unique(t)", "ok"),
-    ("union(t,u)", "ok"),
-    ("intersect(t,u)", "ok"),
-    ("minus(t,u)", "ok"),
-    ("different(t,u)", "ok"),
-    ("groupby(t,a,b:c)", "ok"),
-    ("counts(t,a:n)", "ok"),
-    ("join(t,u,a,b)", "ok"),
-    ("outerjoin(t,u,a)", "ok"),
-    ("joinprop(t,a)", "ok"),
-    ("outerjoinprop(t,a)", "ok"),
-    ("calc(t,v,a,b:c)", "ok"),
-    ("keep(t,v,a,b)", "ok"),
-    ("select", "ok"),
-    ("select(select,select=1)", "ok"),
+const EXPRESSIONS: [(&str, &str); 33] = [
+    ("people", "people"),
+    ("  people ", "people"),
+    ("t/0/a/12/b", "t/0/a/12/b"),
+    ("select(t,a=1)", "select(t,a=1)"),
+    (
+        "select(t,a=\"x\",b=x\"00ff\",c={(1,2),(3)})",
+        "select(t,a=\"x\",b=x\"00ff\",c={(1,2),(3)})",
+    ),
+    (
+        "range(t,a=1:2,b=\"a\":\"b\")",
+        "range(t,a=1:2,b=\"a\":\"b\")",
+    ),
+    ("sort(t)", "sort(t)"),
+    ("sort( a , -b )", "sort(a,-b)"),
+    ("sort(t,-a,b)", "sort(t,-a,b)"),
+    ("project(t,a,a)", "project(t,a,a)"),
+    ("without(t,a)", "without(t,a)"),
+    ("rename(t,a,b)", "rename(t,a,b)"),
+    ("slice(t,0,9,-2)", "slice(t,0,9,-2)"),
+    ("slice(t,0,9,0)", "slice(t,0,9,0)"),
+    ("concat(t,u)", "concat(t,u)"),
+    ("pair(t,u)", "pair(t,u)"),
+    ("product(t,u)", "product(t,u)"),
+    ("unique(t)", "unique(t)"),
+    ("union(t,u)", "union(t,u)"),
+    ("intersect(t,u)", "intersect(t,u)"),
+    ("minus(t,u)", "minus(t,u)"),
+    ("different(t,u)", "different(t,u)"),
+    ("groupby(t,a,b:c)", "groupby(t,a,b:c)"),
+    ("counts(t,a:n)", "counts(t,a:n)"),
+    ("join(t,u,a,b)", "join(t,u,a,b)"),
+    ("outerjoin(t,u,a)", "outerjoin(t,u,a)"),
+    ("joinprop(t,a)", "joinprop(t,a)"),
+    ("outerjoinprop(t,a)", "outerjoinprop(t,a)"),
+    ("calc(t,v,a,b:c)", "calc(t,v,a,b:c)"),
+    ("keep(t,v,a,b)", "keep(t,v,a,b)"),
+    ("select", "select"),
+    ("select(select,select=1)", "select(select,select=1)"),
+    (
+        " select ( t , a = \"x \\n\\\"\" , b = x\"0aff\" , c = { ( 1 , -2 ) , ( 3 ) , ( { } ) } ) ",
+        "select(t,a=\"x \\n\\\"\",b=x\"0aff\",c={(1,-2),(3),({})})",
+    ),
 ];
 
 #[test]
@@ -131,11 +146,9 @@ fn nested(
 }
 
 /// What stands before, how many operators inside one another, what in them, what behind, and how it reads.
-const DEPTHS: [(&str, usize, &str, &str, &str); 10] = [
-    ("", 15, "t", "", "ok"),
+const DEPTHS: [(&str, usize, &str, &str, &str); 8] = [
     ("", 16, "t", "", "deep 75"),
     ("", 17, "t", "", "deep 75"),
-    ("", 15, "sort", "", "ok"),
     ("", 15, "concat(t,u)", "", "deep 75"),
     ("", 16, "t", " %", "deep 75"),
     ("% ", 16, "t", "", "syntax 0"),
@@ -150,6 +163,16 @@ fn depth_decides_by_place(rt: HostRuntime) -> Result<(), Fail> {
     for (before, count, inner, behind, want) in &DEPTHS {
         let text = nested(alloc, before, *count, inner, behind)?;
         assert_eq!(rt; reading(alloc, text.as_str())?.as_str(), *want, "{text}");
+    }
+    Ok(())
+}
+
+#[test]
+fn fifteen_operators_read(rt: HostRuntime) -> Result<(), Fail> {
+    let alloc = rt.alloc();
+    for inner in ["t", "sort", "t/0/a"] {
+        let text = nested(alloc, "", 15, inner, "")?;
+        assert_eq!(rt; reading(alloc, text.as_str())?.as_str(), text.as_str());
     }
     Ok(())
 }

@@ -1,5 +1,0 @@
-use Rattle.expr_text.proofs.Outcomes.{offence_once, reads_no_offence}
-use Rattle.expr_text.proofs.laws.one_offence.Goals as goal
-
-pub returns : goal.returns
-returns c = record { one_offence = offence_once; not_both = reads_no_offence }

@@ -1,0 +1,8 @@
+use Rattle.std.proofs.Common.{take}
+use Rattle.mk_value.specs.Appending.{Appends}
+use Rattle.expr_text.specs.Spelling.{range_tokens}
+use Rattle.expr_text.specs.Texts.{listed_text}
+use Rattle.expr_text.proofs.tails.append_bounds.Given as goal
+
+abbrev pub invariant-loop-member : goal.invariant-loop-member
+invariant-loop-member l = Appends l.fn.out (listed_text range_tokens (take l.member-index l.list)) l.out
