@@ -8,7 +8,7 @@
 mod columns;
 mod operators;
 mod packing;
-mod tables;
+mod table_edits;
 
 use anyhow::{Result, bail};
 use std::env;
@@ -19,7 +19,7 @@ fn main(rt: HostRuntime) -> Result<()> {
         None => operators::list_all(&rt),
         Some("packing") => packing::measure_all(&rt),
         Some("columns") => columns::measure_all(&rt),
-        Some("tables") => tables::measure_all(&rt),
+        Some("tables") => table_edits::measure_all(&rt),
         Some("operators") => operators::measure_all(&rt),
         Some(_) => bail!("the words are packing, columns, tables or operators"),
     }

@@ -6,7 +6,7 @@ use std::alloc::Global;
 use std::rt::Clock;
 use std::time::Instant;
 use struct_text::parse;
-use ::tables::{Table, empty_table};
+use tables::{Table, empty_table};
 
 /// How many rows there are before the edits that are timed.
 const SIZES: [usize; 3] = [25_000, 200_000, 1_000_000];
