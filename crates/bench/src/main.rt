@@ -6,9 +6,9 @@
 #![tactic(auto)]
 
 mod columns;
-mod edits;
 mod operators;
 mod packing;
+mod table_edits;
 
 use anyhow::{Result, bail};
 use std::env;
@@ -19,7 +19,7 @@ fn main(rt: HostRuntime) -> Result<()> {
         None => operators::list_all(&rt),
         Some("packing") => packing::measure_all(&rt),
         Some("columns") => columns::measure_all(&rt),
-        Some("tables") => edits::measure_all(&rt),
+        Some("tables") => table_edits::measure_all(&rt),
         Some("operators") => operators::measure_all(&rt),
         Some(_) => bail!("the words are packing, columns, tables or operators"),
     }
