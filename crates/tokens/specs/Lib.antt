@@ -1,4 +1,5 @@
 pub mod Cutting
+pub mod Depths
 pub mod Finding
 pub mod Fronts
 pub mod Literals
