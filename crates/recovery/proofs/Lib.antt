@@ -28,3 +28,4 @@ pub mod ReadSoFar
 pub mod ViewsSoFar
 pub mod Refused
 pub mod Starts
+pub mod PlainTexts

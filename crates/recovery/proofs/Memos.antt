@@ -1,5 +1,5 @@
 -- The memos of a column: their rows ascend, and each has its block.
-use Rattle.std.proofs.Common.{◌≡◌, ℕ, suc, ◌+◌, ◌<◌, ◌≤◌, ⊎_elim, List, [], ◌∷◌, length, get_or, drop, Bool, true, false, cond, All, refl, ap, sym, subst, ◌∙◌, arith}
+use Rattle.std.proofs.Common.{◌≡◌, ℕ, suc, ◌+◌, ◌<◌, ◌≤◌, ⊎_elim, List, [], ◌∷◌, length, get_or, drop, map, Bool, true, false, cond, All, refl, ap, sym, subst, ◌∙◌, arith}
 use Rattle.std.specs.Prelude.{not}
 use Rattle.std.specs.List.{filter, range_with_len}
 use Rattle.std.proofs.lemmas.Bool.{leb-false}
@@ -35,6 +35,27 @@ rows_behind all (v ∷ values) k e =
 
 pub memo_rows-from : (values : List (List ℕ)) → memo_rows values ≡ rows_from 0 values
 memo_rows-from values = rows_behind values values 0 refl
+
+-- the long values are those of their rows
+values_behind : (all values : List (List ℕ)) (k : ℕ) → drop k all ≡ values → map (λ row. get_or all row []) (rows_from k values) ≡ long_values values
+unfolding rows_from
+values_behind all [] k e = refl
+values_behind all (v ∷ values) k e =
+    let found = drop_at all k v values [] e in
+    by_size (is_short v) refl found.here (values_behind all values (k + 1) found.next)
+  where
+    by_size : (b : Bool) → is_short v ≡ b → get_or all k [] ≡ v → map (λ row. get_or all row []) (rows_from (k + 1) values) ≡ long_values values
+        → map (λ row. get_or all row []) (cond (is_short v) (rows_from (k + 1) values) (k ∷ rows_from (k + 1) values)) ≡ cond (not (is_short v)) (v ∷ long_values values) (long_values values)
+    by_size true f here rest =
+        ap (λ (t : Bool). map (λ row. get_or all row []) (cond t (rows_from (k + 1) values) (k ∷ rows_from (k + 1) values))) f ∙ rest
+        ∙ sym (ap (λ (t : Bool). cond (not t) (v ∷ long_values values) (long_values values)) f)
+    by_size false f here rest =
+        ap (λ (t : Bool). map (λ row. get_or all row []) (cond t (rows_from (k + 1) values) (k ∷ rows_from (k + 1) values))) f
+        ∙ ap (λ w. w ∷ map (λ row. get_or all row []) (rows_from (k + 1) values)) here ∙ ap (λ vs. v ∷ vs) rest
+        ∙ sym (ap (λ (t : Bool). cond (not t) (v ∷ long_values values) (long_values values)) f)
+
+pub rows_are_long : (values : List (List ℕ)) → map (λ row. get_or values row []) (memo_rows values) ≡ long_values values
+rows_are_long values = ap (map (λ row. get_or values row [])) (memo_rows-from values) ∙ values_behind values values 0 refl
 
 less : (end rows least low : ℕ) (memos : List Memo) → low ≤ least → AreMemos end rows least memos → AreMemos end rows low memos
 less end rows least low [] p h = tt

@@ -1,14 +1,14 @@
 -- The commit that is read under a mark stands under it.
-use Rattle.std.proofs.Common.{◌≡◌, ℕ, suc, ◌+◌, ◌<◌, ◌≤◌, ⊎_elim, inl, inr, List, [], ◌∷◌, ◌++◌, length, get_or, drop, map, All, refl, ap, sym, subst, ◌∙◌, arith, length-drop}
+use Rattle.std.proofs.Common.{◌≡◌, ℕ, suc, ◌+◌, ◌<◌, ◌≤◌, ⊎_elim, inl, inr, List, [], ◌∷◌, ◌++◌, length, get_or, map, All, refl, ap, sym, subst, ◌∙◌, arith}
 use Rattle.std.specs.List.{flat_map}
-use Rattle.std.proofs.lemmas.List.{length-take-le, map-append}
+use Rattle.std.proofs.lemmas.List.{map-append}
 use Rattle.std.proofs.lemmas.List.Elements.{All-append, All-cons, All-head, All-nil, All-tail}
 use Rattle.std.proofs.lemmas.List.Kept.{AllPairs-cons}
 use Rattle.mk_value.specs.declared.span.Span.{Span}
 use Rattle.host_io.specs.Ranges.{bytes_in}
 use Rattle.free_space.specs.Extents.{AreApart, Covers, IsAligned, Meets, extent_len}
 use Rattle.free_space.specs.Sites.{IsSite, first_place, no_span}
-use Rattle.free_space.proofs.ExtentLemmas.{extent_len-least, le-extent_len}
+use Rattle.free_space.proofs.ExtentLemmas.{extent_len-least}
 use Rattle.commit_marks.specs.declared.mark.Mark.{Mark}
 use Rattle.commit_marks.specs.Marks.{IsMark, dir_span}
 use Rattle.commit_writes.specs.Blocks.{Block, IsSited, StandsAt, span_range, spans_of}
@@ -21,7 +21,6 @@ use Rattle.view_store.specs.Views.{AreViews, NamedTable}
 use Rattle.recovery.specs.Commits.{IsCommit, IsHomed, column_blocks, directory, plain_views, version_of, view_entry}
 use Rattle.recovery.specs.Found.{AreViewsFormed, AreViewsFound, HasLength, IsFound, IsTableFound, IsViewFormed}
 use Rattle.recovery.specs.Reading.{all_spans, spans_in}
-use Rattle.recovery.specs.Refusals.{HasDir}
 use Rattle.recovery.specs.Spans.{dir_spans, some_spans}
 use Rattle.recovery.specs.Standing.{Stands}
 use Rattle.recovery.proofs.DirSpans.{all_met, none_kept, some_kept, views_met, views_placed}

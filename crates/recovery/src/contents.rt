@@ -2,7 +2,8 @@
 ghost use Rattle.std.specs.Prelude.{◌≡◌, ◌≢◌, ◌↔◌, ℕ, ◌<◌, length, map, All, IsTrue};
 ghost use Rattle.std.specs.Bool.{OnTrue, OnFalse};
 ghost use Rattle.mk_value.specs.Data.{IsText};
-ghost use Rattle.recovery.specs.Contents.{FitsContent};
+ghost use Rattle.bytes_col.specs.Strings.{long_values, memo_rows, short_bytes};
+ghost use Rattle.recovery.specs.Contents.{FitWhereverCut, FitsContent, IsPlainByte};
 
 use bytes_col::BytesCol;
 use dir_codec::Memo;
@@ -17,8 +18,57 @@ pub(crate) enum Content {
     Strings,
 }
 
+/// Whether each value of a column is one of its kind, whose short values are joined in these bytes, and whose long ones stand in these
+/// rows. Where the short bytes tell at once that they fit, only the long values are looked at one by one.
+pub(crate) fn all_fit(column: &BytesCol, short: &[u8], rows: &[u32], content: Content) -> bool
+    requires short { short.now ≡ short_bytes column.now.values }
+    requires rows { rows.now ≡ memo_rows column.now.values }
+    ensures fit { OnTrue result (All (FitsContent content) column.now.values) }
+    ensures unfit { OnFalse result (¬ All (FitsContent content) column.now.values) }
+{
+    if fit_at_once(short, content) {
+        return long_values_fit(column, rows, content);
+    }
+    each_fits(column, content)
+}
+
+/// Whether values joined in these bytes are of the kind wherever they are cut, if none has more than 512 bytes.
+fn fit_at_once(short: &[u8], content: Content) -> bool
+    ensures { OnTrue result (FitWhereverCut content short.now) }
+{
+    match content {
+        Content::Texts => are_plain(short),
+        Content::Strings => true,
+    }
+}
+
+/// Whether each of these bytes is a character by itself, and none is zero. It looks at all of them, many at once.
+fn are_plain(bytes: &[u8]) -> bool
+    ensures { OnTrue result (All IsPlainByte bytes.now) }
+{
+    let mut plain = true;
+    for byte in bytes {
+        plain &= (0 < *byte) & (*byte < 128);
+    }
+    plain
+}
+
+/// Whether the values of these rows, which are the long ones of a column, are of its kind.
+fn long_values_fit(column: &BytesCol, rows: &[u32], content: Content) -> bool
+    requires { rows.now ≡ memo_rows column.now.values }
+    ensures fit { OnTrue result (All (FitsContent content) (long_values column.now.values)) }
+    ensures unfit { OnFalse result (¬ All (FitsContent content) (long_values column.now.values)) }
+{
+    for row in rows {
+        if !fits(content, column.value(*row as usize)) {
+            return false;
+        }
+    }
+    true
+}
+
 /// Whether each value of a column is one of its kind. The values are looked at where they lie.
-pub(crate) fn all_fit(column: &BytesCol, content: Content) -> bool
+fn each_fits(column: &BytesCol, content: Content) -> bool
     ensures fit { OnTrue result (All (FitsContent content) column.now.values) }
     ensures unfit { OnFalse result (¬ All (FitsContent content) column.now.values) }
 {

@@ -1,6 +1,7 @@
 // Columns of texts and byte strings.
 ghost use Rattle.std.specs.Prelude.{◌≡◌, ◌≢◌, ℕ, ◌+◌, ◌-◌, ◌^◌, ◌<◌, ◌≤◌, List, All, length, map, Some, IfOk, IsErrOf};
 ghost use Rattle.host_io.specs.Calls.{CountsFaults, Looks};
+ghost use Rattle.bytes_col.specs.Strings.{short_bytes};
 ghost use Rattle.recovery.specs.Blobs.{parts_of};
 ghost use Rattle.recovery.specs.Memos.{EndWithin};
 ghost use Rattle.dir_codec.specs.Columns.{PlainEntry};
@@ -18,7 +19,7 @@ use block_io::read_block;
 use bytes_col::{BytesCol, BytesHome};
 use dir_codec::Memo;
 use host_io::Disk;
-use mk_value::{Memory, Span, Spans};
+use mk_value::{Bytes, Memory, Span, Spans};
 use std::alloc::Global;
 
 /// What a directory has of a column of texts or byte strings beside its memos: the width of the sizes, their block, and that of the
@@ -78,15 +79,23 @@ pub(crate) fn read_strings<D: Disk>(
     ensures unreadable { D.tells → IsErrOf result ReadError.Unreadable → (e : PlainEntry)
         → IsStringEntry rows content (parts_of blocks memos.now) e → ¬ IsReadable (D.outside disk.old).now.disk.seen e }
 {
-    let column = read_values(alloc, disk, blocks, memos, rows)?;
-    let memo_rows = column.memo_rows(alloc)?;
+    let found = read_values(alloc, disk, blocks, memos, rows)?;
+    let memo_rows = found.column.memo_rows(alloc)?;
     if !are_rows_of(memo_rows.as_slice(), memos) {
         return Err(ReadError::Unreadable);
     }
-    if !all_fit(&column, content) {
+    let short = found.short.as_slice();
+    if !all_fit(&found.column, short, memo_rows.as_slice(), content) {
         return Err(ReadError::Unreadable);
     }
-    Ok(column)
+    Ok(found.column)
+}
+
+/// The values that were read, and the bytes of the short ones, joined.
+#[derive(Drop)]
+pub(crate) struct StringValues {
+    pub(crate) column: BytesCol,
+    pub(crate) short: Bytes,
 }
 
 /// Reads the values that have these blocks, whatever they are and whichever rows the memos are of.
@@ -96,7 +105,7 @@ fn read_values<D: Disk>(
     blocks: StringBlocks,
     memos: &[Memo],
     rows: u32,
-) -> Result<BytesCol, ReadError>
+) -> Result<StringValues, ReadError>
     requires few { rows ≤ 16777216 }
     requires sizes_end { blocks.sizes.place + blocks.sizes.len < 2 ^ 64 }
     requires short_ends { blocks.short.place + blocks.short.len < 2 ^ 64 }
@@ -106,10 +115,11 @@ fn read_values<D: Disk>(
     requires memos_within { D.tells → EndWithin (length (D.outside disk.old).now.disk.seen) memos.now }
     ensures counts { CountsFaults (IsErrOf result ReadError.Failed) (D.outside disk.old) (D.outside disk.new) }
     ensures same { D.tells → Looks (D.outside disk.old) (D.outside disk.new) }
-    ensures home { IfOk result (λ column. column.home ≡ Some (home_at (parts_of blocks memos.now))) }
-    ensures counted { IfOk result (λ column. AreCounted rows (parts_of blocks memos.now) column.values) }
-    ensures long { IfOk result (λ column. AreAsLong (parts_of blocks memos.now) rows column.values) }
-    ensures values { D.tells → IfOk result (λ column. AreStringsAt (D.outside disk.old).now.disk.seen (parts_of blocks memos.now) rows column.values) }
+    ensures home { IfOk result (λ found. found.column.home ≡ Some (home_at (parts_of blocks memos.now))) }
+    ensures counted { IfOk result (λ found. AreCounted rows (parts_of blocks memos.now) found.column.values) }
+    ensures long { IfOk result (λ found. AreAsLong (parts_of blocks memos.now) rows found.column.values) }
+    ensures short { IfOk result (λ found. found.short.bytes ≡ short_bytes found.column.values) }
+    ensures values { D.tells → IfOk result (λ found. AreStringsAt (D.outside disk.old).now.disk.seen (parts_of blocks memos.now) rows found.column.values) }
     ensures unreadable { D.tells → IsErrOf result ReadError.Unreadable → (values : List (List ℕ))
         → ¬ AreStringsAt (D.outside disk.old).now.disk.seen (parts_of blocks memos.now) rows values }
 {
@@ -118,5 +128,5 @@ fn read_values<D: Disk>(
     let held = read_memos(alloc, disk, memos)?;
     let home = home_of(alloc, blocks, memos)?;
     let column = BytesCol::from_blocks(alloc, &sizes, short.as_slice(), &held, Some(home))?;
-    Ok(column)
+    Ok(StringValues { column, short })
 }

@@ -1,0 +1,6 @@
+use Rattle.std.proofs.Common.{ℕ, ◌<◌, get_or, []}
+use Rattle.recovery.specs.Contents.{FitsContent}
+use Rattle.recovery.proofs.contents.long_values_fit.Given as goal
+
+abbrev pub invariant-loop-row : goal.invariant-loop-row
+invariant-loop-row l = (k : ℕ) → k < l.row-index → FitsContent l.content (get_or l.column.values (get_or l.rows k 0) [])
