@@ -13,13 +13,14 @@ use Rattle.mk_value.specs.Heading.{Domain, Attribute, heading_of, domain_depth, 
 use Rattle.mk_value.specs.Data.{Datum, integer, AreRowsOf, IsRowOf}
 use Rattle.mk_value.specs.Tables.{Table, domain_at}
 use Rattle.mk_value.proofs.Relations.{row_fits_length}
-use Rattle.derived.specs.declared.error.DerivedError.{DerivedError}
-use Rattle.derived.specs.Nodes.{numbers, values_at, AreColumns}
+use Rattle.relations.specs.declared.error.DerivedError.{DerivedError}
+use Rattle.relations.specs.Positions.{numbers}
+use Rattle.relations.specs.Columns.{values_at, AreColumns}
 use Rattle.derived.specs.Operators.{rename, renamed}
 use Rattle.derived.specs.Refusals.{rename_due}
-use Rattle.derived.specs.Rows.{is_named}
-use Rattle.derived.proofs.Faults.{cases}
-use Rattle.derived.proofs.Numbers.{places, all_places, numbers_below}
+use Rattle.relations.specs.Rows.{is_named}
+use Rattle.relations.proofs.Faults.{cases}
+use Rattle.relations.proofs.Numbers.{places, all_places, numbers_below}
 
 same_true : (xs ys : List ℕ) → xs ≡ ys → same_bytes xs ys ≡ true
 same_true xs ys e = subst (λ zs. same_bytes xs zs ≡ true) e (nat_list_eq_equiv.refl xs)

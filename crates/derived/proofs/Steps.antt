@@ -3,12 +3,12 @@ use Rattle.std.proofs.Common.{◌≡◌, ℕ, zero, suc, ◌+◌, ◌-◌, ◌<�
 use Rattle.std.proofs.lemmas.List.{drop-drop, drop_all, drop_more, append-nil, append_assoc, take_min, map-append, reverse-append, length-reverse}
 use Rattle.std.proofs.lemmas.List.Sorted.{All-permutation, IsPermutation-reverse}
 use Rattle.std.proofs.lemmas.List.Elements.{All-cons, All-head, All-tail, All-weaker}
-use Rattle.derived.specs.Nodes.{numbers}
+use Rattle.relations.specs.Positions.{numbers}
 use Rattle.derived.specs.Operators.{every, turned_if}
 use Rattle.derived.specs.Refusals.{is_zero}
-use Rattle.derived.specs.Rows.{rows_at}
+use Rattle.relations.specs.Rows.{rows_at}
 use Rattle.mk_value.specs.Data.{Datum}
-use Rattle.derived.proofs.Numbers.{numbers_at, numbers_below, length-numbers, all_places}
+use Rattle.relations.proofs.Numbers.{numbers_at, numbers_below, length-numbers, all_places}
 
 -- skipping the first n is dropping them
 pub every_from : {X : Type 0} (s n : ℕ) (xs : List X) → every s n xs ≡ every s 0 (drop n xs)

@@ -7,16 +7,11 @@ use Rattle.mk_value.specs.Heading.{Domain, Attribute, IsHeading}
 use Rattle.mk_value.specs.Data.{Datum, integer, AreRowsOf, IsRowOf, IsOf}
 use Rattle.mk_value.specs.Tables.{domain_at}
 use Rattle.derived.specs.Layers.{Layered}
-use Rattle.derived.specs.Nodes.{AreColumns, IsWhole, values_at}
-use Rattle.derived.specs.Rows.{rows_at}
-use Rattle.derived.proofs.Cells.{value_fits}
-
-pub rows_at_fit : (rows : List (List Datum)) (schema : List Attribute) (positions : List ℕ) → AreRowsOf rows schema → All (λ i. i < length rows) positions → length positions ≤ max_rows → AreRowsOf (rows_at rows positions) schema
-rows_at_fit rows schema positions whole within few = record {
-  few = let e = length-map positions (λ i. get_or rows i []) in omega arith;
-  whole = All-map (λ row. IsRowOf row schema) (λ i. get_or rows i []) positions
-      (All-weaker (λ i. i < length rows) (λ i. IsRowOf (get_or rows i []) schema) (λ i p. whole.whole i [] p) positions within);
-}
+use Rattle.relations.specs.Columns.{AreColumns, values_at}
+use Rattle.derived.specs.Nodes.{IsWhole}
+use Rattle.relations.specs.Rows.{rows_at}
+use Rattle.relations.proofs.Cells.{value_fits}
+use Rattle.relations.proofs.Wholes.{rows_at_fit, columns_fit}
 
 -- a table is whole where the rows at these positions of a whole table are its rows
 pub gathered_whole : (base b : Layered) (positions : List ℕ) (l : ℕ) → b ≡ base → IsHeading base.schema → AreRowsOf base.rows base.schema → length positions ≤ max_rows
@@ -25,25 +20,6 @@ gathered_whole base b positions l e heading whole few within =
     let P : Layered → Type 0 = λ t. IsWhole (record { schema = t.schema; rows = rows_at t.rows positions; layers = l }) × All (λ i. i < length t.rows) positions in
     let at : P base = (record { schema = heading; rows = rows_at_fit base.rows base.schema positions whole within few }, within) in
     subst P (sym e) at
-
-values_at_fit : (row : List Datum) (schema : List Attribute) (columns : List ℕ) (properties : List Attribute) → IsRowOf row schema → All (λ j. j < length schema) columns
-    → map (λ (a : Attribute). a.domain) properties ≡ map (λ j. domain_at schema j) columns → IsRowOf (values_at columns row) properties
-values_at_fit row schema [] [] h within e = tt
-values_at_fit row schema [] (a ∷ properties) h within e = absurd (let n = ap length e in omega arith)
-values_at_fit row schema (j ∷ columns) [] h within e = absurd (let n = ap length e in omega arith)
-values_at_fit row schema (j ∷ columns) (a ∷ properties) h within e =
-    let first : a.domain ≡ domain_at schema j = ap (λ (ds : List Domain). get_or ds 0 Domain.integer) e in
-    let rest : map (λ (a : Attribute). a.domain) properties ≡ map (λ j. domain_at schema j) columns = ap (λ (ds : List Domain). drop 1 ds) e in (
-      subst (λ (d : Domain). IsOf (get_or row j (integer (pos 0))) d) (sym first) (value_fits row schema j h (All-head (λ j. j < length schema) j columns within)),
-      values_at_fit row schema columns properties h (All-tail (λ j. j < length schema) j columns within) rest,
-    )
-
-pub columns_fit : (rows : List (List Datum)) (schema : List Attribute) (columns : List ℕ) (properties : List Attribute) → AreRowsOf rows schema → AreColumns schema columns properties → AreRowsOf (map (values_at columns) rows) properties
-columns_fit rows schema columns properties whole h = record {
-  few = let e = length-map rows (values_at columns) in let f = whole.few in omega arith;
-  whole = All-map (λ row. IsRowOf row properties) (values_at columns) rows
-      (All-weaker (λ row. IsRowOf row schema) (λ row. IsRowOf (values_at columns row) properties) (λ row p. values_at_fit row schema columns properties p h.in_range h.kinds) rows whole.whole);
-}
 
 pub columns_whole : (base b : Layered) (columns : List ℕ) (properties : List Attribute) (l : ℕ) → b ≡ base → IsHeading properties → AreRowsOf base.rows base.schema → AreColumns base.schema columns properties
     → IsWhole (record { schema = properties; rows = map (values_at columns) b.rows; layers = l }) × AreColumns b.schema columns properties

@@ -3,10 +3,10 @@ use Rattle.std.specs.Prelude.{ℕ, pos, false, List, [], ◌∷◌, ◌++◌, le
 use Rattle.mk_value.specs.Heading.{Domain, heading_of}
 use Rattle.mk_value.specs.Data.{Datum, integer, relation, relation_of}
 use Rattle.mk_value.specs.Tables.{Table}
-use Rattle.derived.specs.Equality.{same_row}
+use Rattle.relations.specs.Equality.{same_row}
 use Rattle.derived.specs.Operators.{distinct}
-use Rattle.derived.specs.Rows.{once, others, properties_of, values_of}
-use Rattle.derived.specs.Sorting.{sorted, row_cmp}
+use Rattle.relations.specs.Rows.{once, others, properties_of, values_of}
+use Rattle.relations.specs.Sorting.{sorted, row_cmp}
 
 -- each distinct row of values for these names, ascending
 abbrev pub distinct_keys : List (List ℕ) → Table → List (List Datum)

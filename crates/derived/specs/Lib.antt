@@ -1,13 +1,8 @@
-pub mod Criteria
-pub mod Equality
-pub mod Fitting
 pub mod Grouping
 pub mod Joining
-pub mod Keys
 pub mod Layers
 pub mod NodeFalls
 pub mod Nodes
 pub mod Operators
 pub mod Refusals
-pub mod Rows
-pub mod Sorting
+pub mod Viewing

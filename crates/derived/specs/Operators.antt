@@ -3,31 +3,27 @@ use Rattle.std.specs.Prelude.{ℕ, suc, zero, ◌-◌, ℤ, pos, negsuc, unsigne
 use Rattle.mk_value.specs.Heading.{Attribute}
 use Rattle.mk_value.specs.Data.{Datum}
 use Rattle.mk_value.specs.Tables.{Table}
-use Rattle.derived.specs.declared.criteria.Key.{Key}
-use Rattle.derived.specs.Criteria.{Bounds, is_in_range, has_values}
-use Rattle.derived.specs.Equality.{same_row, is_row_among}
-use Rattle.derived.specs.Rows.{is_named, once, others, properties_of, values_of}
-use Rattle.derived.specs.Sorting.{sorted, row_cmp, keys_or_all}
+use Rattle.relations.specs.declared.criteria.Key.{Key}
+use Rattle.relations.specs.Criteria.{Interval, is_in_range, has_values}
+use Rattle.relations.specs.Equality.{same_row, is_row_among}
+use Rattle.relations.specs.Rows.{is_named, once, only, others}
+use Rattle.relations.specs.Sorting.{sorted, row_cmp, keys_or_all}
 
 -- other rows under the schema
 abbrev pub with_rows : Table → List (List Datum) → Table
 with_rows t rows = record { schema = t.schema; rows = rows }
 
 -- the rows with these values, in base order
-abbrev pub select : List Bounds → Table → Table
+abbrev pub select : List Interval → Table → Table
 select criteria t = with_rows t (filter (has_values t.schema criteria) t.rows)
 
 -- the rows with each value at or between its bounds, in base order
-abbrev pub range : List Bounds → Table → Table
+abbrev pub range : List Interval → Table → Table
 range bounds t = with_rows t (filter (is_in_range t.schema bounds) t.rows)
 
 -- the rows ordered by the keys, ties in base order; without keys by all properties that are no views, upwards
 abbrev pub sort : List Key → Table → Table
 sort keys t = with_rows t (sorted (row_cmp t.schema (keys_or_all t.schema keys)) t.rows)
-
--- each row with the properties of these names alone, in the names' order
-abbrev pub only : List (List ℕ) → Table → Table
-only names t = record { schema = properties_of t.schema names; rows = map (values_of t.schema names) t.rows }
 
 -- the named properties in this order, a repeated name once
 abbrev pub project : List (List ℕ) → Table → Table

@@ -5,20 +5,17 @@ ghost use Rattle.mk_value.specs.Limits.{max_rows};
 ghost use Rattle.mk_value.specs.Tables.{domain_at};
 ghost use Rattle.mk_value.specs.Values.{datum_of};
 ghost use Rattle.derived.specs.Layers.{table_of};
-ghost use Rattle.derived.specs.Nodes.{AreColumns, values_at};
+ghost use Rattle.relations.specs.Columns.{AreColumns, values_at};
 ghost use Rattle.derived.specs.Operators.{with_rows};
-ghost use Rattle.derived.specs.Rows.{rows_at};
+ghost use Rattle.relations.specs.Rows.{rows_at};
 
 use mk_value::{
-    HeldRows, Lent, Memory, Positions, Rows, Same, Schema, Sequence, TableRead, Value, cmp_value,
-    lend,
+    HeldRows, Lent, Memory, Positions, Rows, Same, Schema, TableRead, Value, cmp_value, lend,
 };
+use relations::Columns;
 use std::alloc::Global;
 use std::cmp::Ordering;
 use std::marker::Model;
-
-/// Columns of a table by their places.
-pub(crate) type Columns = Sequence<usize>;
 
 /// A table made of others: a schema and rows, at most 16,777,216.
 #[cycle(derived)]

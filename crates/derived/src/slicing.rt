@@ -2,13 +2,15 @@
 ghost use Rattle.std.specs.Prelude.{◌≡◌, ◌<◌, ◌≤◌, ◌^◌, false, min, unsigned_abs, IfOk};
 ghost use Rattle.mk_value.specs.Limits.{max_rows};
 ghost use Rattle.derived.specs.Layers.{table_of};
-ghost use Rattle.derived.specs.Nodes.{numbers};
+ghost use Rattle.relations.specs.Positions.{numbers};
 ghost use Rattle.derived.specs.Operators.{every, is_backwards, slice, turned_if};
-ghost use Rattle.derived.specs.Refusals.{AnswersDue, is_zero, slice_due};
+ghost use Rattle.relations.specs.Answers.{AnswersDue};
+ghost use Rattle.derived.specs.Refusals.{is_zero, slice_due};
 
+use crate::Derived;
 use crate::derived::gather;
-use crate::{Derived, DerivedError};
 use mk_value::{Memory, Positions, Same, TableRead};
+use relations::DerivedError;
 use std::alloc::Global;
 
 /// With s the step without its sign: the rows FIRST, FIRST + s and so on below LIMIT and the size; reversed where the step is

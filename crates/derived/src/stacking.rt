@@ -4,11 +4,13 @@ ghost use Rattle.std.specs.Result.{result_err};
 ghost use Rattle.mk_value.specs.Data.{AreRowsOf};
 ghost use Rattle.derived.specs.Layers.{table_of};
 ghost use Rattle.derived.specs.Operators.{concat};
-ghost use Rattle.derived.specs.Refusals.{AnswersDue, concat_due};
+ghost use Rattle.relations.specs.Answers.{AnswersDue};
+ghost use Rattle.derived.specs.Refusals.{concat_due};
 
 use crate::derived::extend;
-use crate::{Derived, DerivedError};
-use mk_value::{MAX_ROWS, Memory, Row, Rows, Same, TableRead};
+use crate::Derived;
+use mk_value::{MAX_ROWS, Same, TableRead};
+use relations::{DerivedError, copy_rows};
 use std::alloc::Global;
 
 /// The first's rows, then the second's, which are copied.
@@ -43,36 +45,4 @@ fn check_concat<T: TableRead + Same + Drop>(
         return Err(DerivedError::TooManyRows);
     }
     Ok(())
-}
-
-/// The rows of a table, as rows of their own.
-pub fn copy_rows<T: TableRead + Same + Drop>(
-    alloc: Global,
-    table: &Derived<T>,
-) -> Result<Rows, Memory>
-    ensures value { IfOk result (λ rows. rows ≡ table.now.rows) }
-    ensures whole { IfOk result (λ rows. AreRowsOf rows table.now.schema) }
-{
-    let mut rows = Rows::new(alloc);
-    for row in 0..table.size() {
-        rows.push(copy_row(alloc, table, row)?)?;
-    }
-    Ok(rows)
-}
-
-/// A row of a table, as one of its own.
-pub fn copy_row<T: TableRead + Same + Drop>(
-    alloc: Global,
-    table: &Derived<T>,
-    row: usize,
-) -> Result<Row, Memory>
-    requires { row < length table.now.rows }
-    ensures { IfOk result (λ copy. copy ≡ slice_index_or table.now.rows row []) }
-{
-    let _size = table.size();
-    let mut copy = Row::new(alloc);
-    for col in 0..table.schema().len() {
-        copy.push(table.get(row, col)?)?;
-    }
-    Ok(copy)
 }

@@ -11,17 +11,17 @@ use Rattle.mk_value.specs.Heading.{Domain, Attribute}
 use Rattle.mk_value.specs.Data.{Datum, integer, long, text, bytes, relation, IsOf, IsRowOf}
 use Rattle.mk_value.specs.Order.{value_cmp, IsPlain}
 use Rattle.mk_value.specs.Tables.{Table}
-use Rattle.derived.specs.declared.criteria.Key.{Key}
-use Rattle.derived.specs.Fitting.{is_view}
+use Rattle.relations.specs.declared.criteria.Key.{Key}
+use Rattle.relations.specs.Fitting.{is_view}
 use Rattle.derived.specs.Grouping.{distinct_keys}
 use Rattle.derived.specs.Operators.{distinct as first_rows}
-use Rattle.derived.specs.Rows.{is_named, domain_of, value_of, properties_of, values_of}
-use Rattle.derived.specs.Sorting.{put, sorted, row_cmp}
-use Rattle.grouping.specs.WholeOrder.{whole_cmp, whole_row_cmp}
+use Rattle.relations.specs.Rows.{is_named, domain_of, value_of, properties_of, values_of}
+use Rattle.relations.specs.Sorting.{put, sorted, row_cmp}
+use Rattle.relations.specs.WholeOrder.{whole_cmp, whole_row_cmp}
 use Rattle.grouping.specs.Index.{keys_of}
-use Rattle.derived.proofs.Ascending.{IsIn}
+use Rattle.relations.proofs.Ascending.{IsIn}
 use Rattle.grouping.proofs.Ascending.{in_map_back}
-use Rattle.derived.proofs.Ascending.{in_sorted_back}
+use Rattle.relations.proofs.Ascending.{in_sorted_back}
 use Rattle.grouping.proofs.DistinctRows.{in_distinct_back}
 
 -- two orders that agree on the elements sort them alike

@@ -4,7 +4,7 @@ use Rattle.std.specs.List.{AllByRecursion as Each, AllPairs}
 use Rattle.std.specs.declared.cmp.Ordering.{Ordering}
 use Rattle.std.specs.declared.cmp.Ordering.TheVariants.{Less, Greater}
 use Rattle.std.specs.Ordering.{ordering_reverse}
-use Rattle.derived.proofs.Ascending.{IsIn, each_in, each_from_in, in_at, Ascends}
+use Rattle.relations.proofs.Ascending.{IsIn, each_in, each_from_in, in_at, Ascends}
 
 pub in_left : {X : Type 0} (xs ys : List X) (x : X) → IsIn x xs → IsIn x (xs ++ ys)
 in_left [] ys x h = absurd h

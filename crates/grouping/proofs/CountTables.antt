@@ -8,18 +8,19 @@ use Rattle.mk_value.specs.Limits.{max_rows, max_properties}
 use Rattle.mk_value.specs.Heading.{Domain, Attribute, IsHeading, IsWithinLimits}
 use Rattle.mk_value.specs.Data.{Datum, integer, IsOf, IsRowOf, AreRowsOf}
 use Rattle.mk_value.specs.Tables.{Table}
-use Rattle.derived.specs.declared.error.DerivedError.TheVariants.{NameTaken, TooWide}
-use Rattle.derived.specs.Equality.{same_row}
+use Rattle.relations.specs.declared.error.DerivedError.TheVariants.{NameTaken, TooWide}
+use Rattle.relations.specs.Equality.{same_row}
 use Rattle.derived.specs.Grouping.{counts, group}
 use Rattle.derived.specs.Operators.{distinct}
-use Rattle.derived.specs.Refusals.{where_so, absent, a_view, counts_due, too_wide, first_of}
-use Rattle.derived.specs.Rows.{domain_of, is_among, once, properties_of, values_of}
-use Rattle.derived.specs.Sorting.{put, sorted}
-use Rattle.derived.proofs.Headings.{heading_of_names, once_distinct, once_some}
+use Rattle.relations.specs.Refusals.{where_so, absent, a_view, too_wide, first_of}
+use Rattle.derived.specs.Refusals.{counts_due}
+use Rattle.relations.specs.Rows.{domain_of, is_among, once, properties_of, values_of}
+use Rattle.relations.specs.Sorting.{put, sorted}
+use Rattle.relations.proofs.Headings.{heading_of_names, once_distinct, once_some}
 use Rattle.grouping.specs.Groups.{counted_keys}
 use Rattle.grouping.specs.Index.{keys_of, positions_of}
-use Rattle.grouping.specs.WholeOrder.{whole_row_cmp}
-use Rattle.derived.proofs.Ascending.{IsIn, in_at, place_of}
+use Rattle.relations.specs.WholeOrder.{whole_row_cmp}
+use Rattle.relations.proofs.Ascending.{IsIn, in_at, place_of}
 use Rattle.grouping.proofs.Ascending.{in_map_back}
 use Rattle.grouping.proofs.KeyColumns.{keys_here, keys_plain, keyed_whole, index_keys}
 use Rattle.grouping.proofs.DistinctRows.{in_keys_back, less_few}

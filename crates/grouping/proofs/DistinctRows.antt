@@ -7,14 +7,14 @@ use Rattle.std.specs.Ordering.{is_lt}
 use Rattle.std.specs.Cmp.{IsTotalOrder}
 use Rattle.std.proofs.lemmas.Bool.{false≢true, cases_Bool}
 use Rattle.mk_value.specs.Data.{Datum}
-use Rattle.derived.specs.Equality.{same_row}
+use Rattle.relations.specs.Equality.{same_row}
 use Rattle.derived.specs.Operators.{distinct}
-use Rattle.grouping.specs.WholeOrder.{whole_row_cmp}
-use Rattle.grouping.specs.OrderLaws.{whole_row_cmp_total, whole_row_ties}
+use Rattle.relations.specs.WholeOrder.{whole_row_cmp}
+use Rattle.relations.specs.OrderLaws.{whole_row_cmp_total, whole_row_ties}
 use Rattle.grouping.specs.Index.{keys_of, keys_less}
-use Rattle.derived.proofs.Ascending.{in_sorted, in_sorted_back, AreApart, sorted_up, IsIn, each_in, each_from_in, in_at, Ascends, ascends_same}
+use Rattle.relations.proofs.Ascending.{in_sorted, in_sorted_back, AreApart, sorted_up, IsIn, each_in, each_from_in, in_at, Ascends, ascends_same}
 use Rattle.grouping.proofs.Ascending.{in_filter, in_filter_back}
-use Rattle.grouping.proofs.Equal.{rows_equal, same_from_equal}
+use Rattle.relations.proofs.Equal.{rows_equal, same_from_equal}
 
 -- the elements of an ascending list that are less than another
 module _ {X : Type 0} (cmp : X → X → Ordering) where

@@ -9,7 +9,7 @@ use Rattle.std.specs.Cmp.{IsTotalOrder}
 use Rattle.std.proofs.lemmas.Bool.{false≢true}
 use Rattle.std.proofs.lemmas.List.Sums.{sum_by-cons}
 use Rattle.std.proofs.lemmas.List.Sorted.{sum_by-IsPermutation, sorted_far, ranks_by}
-use Rattle.derived.proofs.Ascending.{IsIn, each_in, each_from_in, place_of, only_less, Ascends}
+use Rattle.relations.proofs.Ascending.{IsIn, each_in, each_from_in, place_of, only_less, Ascends}
 use Rattle.grouping.proofs.Ascending.{in_map, reverse_greater}
 
 abbrev pub AreDistinct : List ℕ → Type 0

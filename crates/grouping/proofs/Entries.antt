@@ -10,10 +10,10 @@ use Rattle.std.proofs.lemmas.Cmp.{ranked}
 use Rattle.std.proofs.lemmas.List.{map-append, length-map, take_more}
 use Rattle.std.proofs.lemmas.List.Sorted.{IsPermutation-map, IsPermutation-sym, Contains-permutation, All-permutation}
 use Rattle.mk_value.specs.Data.{Datum}
-use Rattle.grouping.specs.WholeOrder.{whole_row_cmp}
-use Rattle.grouping.specs.OrderLaws.{whole_row_cmp_total}
+use Rattle.relations.specs.WholeOrder.{whole_row_cmp}
+use Rattle.relations.specs.OrderLaws.{whole_row_cmp_total}
 use Rattle.grouping.specs.Index.{numbers, entry_cmp, IsOrderOf}
-use Rattle.derived.proofs.Ascending.{IsIn, each_in, each_from_in, in_at, place_of, in_from_contains, contains_from_in, Ascends, nat_less}
+use Rattle.relations.proofs.Ascending.{IsIn, each_in, each_from_in, in_at, place_of, in_from_contains, contains_from_in, Ascends, nat_less}
 use Rattle.grouping.proofs.Ascending.{in_map, in_map_back, ascends_map, pairs_from_ascends}
 use Rattle.grouping.proofs.Duplicates.{AreDistinct, distinct_permutation, sorted_ascends}
 use Rattle.grouping.proofs.Positions.{later_up, zero_below}

@@ -14,17 +14,18 @@ use Rattle.mk_value.specs.Heading.{Domain, Attribute, heading_of, heading_depth,
 use Rattle.mk_value.specs.Data.{Datum, relation, relation_of, AreRowsOf}
 use Rattle.mk_value.specs.Tables.{Table}
 use Rattle.mk_value.proofs.Relations.{IsOf-relation}
-use Rattle.derived.specs.declared.error.DerivedError.TheVariants.{NameTaken, NoProp, TooDeep}
+use Rattle.relations.specs.declared.error.DerivedError.TheVariants.{NameTaken, NoProp, TooDeep}
 use Rattle.derived.specs.Grouping.{group_by, group}
-use Rattle.derived.specs.Nodes.{column_of, values_at}
-use Rattle.derived.specs.Refusals.{where_so, absent, a_view, none_left, group_by_due, too_deep, first_of}
-use Rattle.derived.specs.Rows.{has, domain_of, is_among, once, others, properties_of, values_of, rows_at}
-use Rattle.derived.proofs.Headings.{heading_of_names, once_distinct, once_some, others_here, others_distinct}
-use Rattle.derived.proofs.Projections.{none_left_is}
-use Rattle.derived.proofs.Wholes.{rows_at_fit}
+use Rattle.relations.specs.Columns.{column_of, values_at}
+use Rattle.relations.specs.Refusals.{where_so, absent, a_view, none_left, too_deep, first_of}
+use Rattle.derived.specs.Refusals.{group_by_due}
+use Rattle.relations.specs.Rows.{has, domain_of, is_among, once, others, properties_of, values_of, rows_at}
+use Rattle.relations.proofs.Headings.{heading_of_names, once_distinct, once_some, others_here, others_distinct}
+use Rattle.relations.proofs.Projections.{none_left_is}
+use Rattle.relations.proofs.Wholes.{rows_at_fit}
 use Rattle.grouping.specs.Groups.{grouped_keys}
 use Rattle.grouping.specs.Index.{keys_of, positions_of}
-use Rattle.derived.proofs.Ascending.{in_at}
+use Rattle.relations.proofs.Ascending.{in_at}
 use Rattle.grouping.proofs.CountTables.{keys_behind}
 use Rattle.grouping.proofs.KeyColumns.{keys_here, keys_plain, keyed_whole, index_keys, rows_are, columns_whole}
 use Rattle.grouping.proofs.Limits.{not_so, first_none, rest_none, once_apart, depth_behind, keys_depth, limits_behind}

@@ -8,13 +8,13 @@ use Rattle.std.proofs.lemmas.Cmp.{tied_itself}
 use Rattle.std.proofs.lemmas.List.{length-map, get_or-map, get_or_past}
 use Rattle.mk_value.specs.Data.{Datum}
 use Rattle.mk_value.proofs.Walks.{same_default}
-use Rattle.derived.specs.Equality.{same_row, is_row_among}
-use Rattle.grouping.specs.WholeOrder.{whole_row_cmp}
-use Rattle.grouping.specs.OrderLaws.{whole_row_cmp_total, whole_row_ties}
+use Rattle.relations.specs.Equality.{same_row, is_row_among}
+use Rattle.relations.specs.WholeOrder.{whole_row_cmp}
+use Rattle.relations.specs.OrderLaws.{whole_row_cmp_total, whole_row_ties}
 use Rattle.grouping.specs.Index.{positions_of, keys_of, keys_less, IsIndexOf, is_start, starts_below}
-use Rattle.derived.proofs.Ascending.{IsIn, in_at, place_of}
+use Rattle.relations.proofs.Ascending.{IsIn, in_at, place_of}
 use Rattle.grouping.proofs.Ascending.{ascends_at}
-use Rattle.grouping.proofs.Equal.{rows_equal, same_from_equal, same_row_is}
+use Rattle.relations.proofs.Equal.{rows_equal, same_from_equal, same_row_is}
 use Rattle.grouping.proofs.DistinctRows.{in_keys, in_keys_back, keys_ascend, key_less, key_not_less}
 use Rattle.grouping.proofs.Orders.{keys_at_starts, start_in, group_positions}
 use Rattle.grouping.proofs.Positions.{positions_none, some_positions}

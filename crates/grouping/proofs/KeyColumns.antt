@@ -4,20 +4,20 @@ use Rattle.std.proofs.lemmas.List.Elements.{recursion_from_All}
 use Rattle.mk_value.specs.Heading.{Attribute}
 use Rattle.mk_value.specs.Data.{Datum, AreRowsOf, IsRowOf}
 use Rattle.mk_value.specs.Tables.{Table}
-use Rattle.derived.specs.declared.error.DerivedError.TheVariants.{KeyIsView}
-use Rattle.derived.specs.Fitting.{is_view}
+use Rattle.relations.specs.declared.error.DerivedError.TheVariants.{KeyIsView}
+use Rattle.relations.specs.Fitting.{is_view}
 use Rattle.derived.specs.Grouping.{distinct_keys}
-use Rattle.derived.specs.Nodes.{column_of, properties_at, values_at}
-use Rattle.derived.specs.Refusals.{absent, a_view}
-use Rattle.derived.specs.Rows.{has, domain_of, once, properties_of, values_of}
-use Rattle.derived.proofs.Faults.{none_refused}
-use Rattle.derived.proofs.Headings.{once_all, once_distinct}
-use Rattle.derived.proofs.Names.{all_present}
-use Rattle.derived.proofs.Projections.{columns_in, properties_here, only_here, are_columns}
-use Rattle.derived.proofs.Wholes.{columns_fit}
+use Rattle.relations.specs.Columns.{column_of, properties_at, values_at}
+use Rattle.relations.specs.Refusals.{absent, a_view}
+use Rattle.relations.specs.Rows.{has, domain_of, once, properties_of, values_of}
+use Rattle.relations.proofs.Faults.{none_refused}
+use Rattle.relations.proofs.Headings.{once_all, once_distinct}
+use Rattle.relations.proofs.Names.{all_present}
+use Rattle.relations.proofs.Projections.{columns_in, properties_here, only_here, are_columns}
+use Rattle.relations.proofs.Wholes.{columns_fit}
 use Rattle.grouping.specs.Index.{keys_of}
 use Rattle.grouping.proofs.Agreeing.{distinct_keys_are}
-use Rattle.derived.proofs.Ascending.{IsIn, place_of}
+use Rattle.relations.proofs.Ascending.{IsIn, place_of}
 
 -- the keys are there, each once
 pub keys_here : (schema : List Attribute) (keys : List (List ℕ)) → absent schema keys ≡ None → All (λ name. has schema name ≡ true) (once keys)

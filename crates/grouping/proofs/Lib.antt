@@ -4,7 +4,6 @@ pub mod CountTables
 pub mod DistinctRows
 pub mod Duplicates
 pub mod Entries
-pub mod Equal
 pub mod GroupTables
 pub mod Indexes
 pub mod KeyColumns
@@ -12,4 +11,3 @@ pub mod Limits
 pub mod Orders
 pub mod Others
 pub mod Positions
-pub mod Walked

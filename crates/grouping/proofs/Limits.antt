@@ -15,12 +15,12 @@ use Rattle.mk_value.proofs.Walks.{drop_read}
 use Rattle.mk_value.specs.Limits.{max_depth, max_properties}
 use Rattle.mk_value.specs.Names.{same_bytes}
 use Rattle.mk_value.specs.Heading.{Domain, Attribute, heading_of, heading_depth, domain_depth, depth_of, IsHeading, IsWithinLimits}
-use Rattle.derived.specs.declared.error.DerivedError.{DerivedError}
-use Rattle.derived.specs.Fitting.{is_view}
-use Rattle.derived.specs.Refusals.{where_so}
-use Rattle.derived.specs.Rows.{domain_of, is_among, once, properties_of}
-use Rattle.derived.proofs.Faults.{cases}
-use Rattle.derived.proofs.Headings.{once_all}
+use Rattle.relations.specs.declared.error.DerivedError.{DerivedError}
+use Rattle.relations.specs.Fitting.{is_view}
+use Rattle.relations.specs.Refusals.{where_so}
+use Rattle.relations.specs.Rows.{domain_of, is_among, once, properties_of}
+use Rattle.relations.proofs.Faults.{cases}
+use Rattle.relations.proofs.Headings.{once_all}
 
 -- a refusal that is not due, and those behind it
 pub not_so : (b : Bool) (e : DerivedError) → where_so b e ≡ None → b ≡ false

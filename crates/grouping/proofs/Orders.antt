@@ -8,13 +8,13 @@ use Rattle.std.proofs.lemmas.Bool.{false≢true, cases_Bool, cases_lt}
 use Rattle.std.proofs.lemmas.Cmp.{tied_itself}
 use Rattle.std.proofs.lemmas.List.{map-append, length-append, get_or_append_left, get_or-append_right, get_or_past}
 use Rattle.mk_value.specs.Data.{Datum}
-use Rattle.derived.specs.Equality.{same_row}
-use Rattle.grouping.specs.WholeOrder.{whole_row_cmp}
-use Rattle.grouping.specs.OrderLaws.{whole_row_cmp_total, whole_row_ties}
+use Rattle.relations.specs.Equality.{same_row}
+use Rattle.relations.specs.WholeOrder.{whole_row_cmp}
+use Rattle.relations.specs.OrderLaws.{whole_row_cmp_total, whole_row_ties}
 use Rattle.grouping.specs.Index.{positions_of, keys_of, entry_cmp, IsOrderOf, is_start, starts_below}
-use Rattle.derived.proofs.Ascending.{IsIn, each_from_in, in_at, place_of, in_from_contains, Ascends, ascends_same, ascends_from_pairs}
+use Rattle.relations.proofs.Ascending.{IsIn, each_from_in, in_at, place_of, in_from_contains, Ascends, ascends_same, ascends_from_pairs}
 use Rattle.grouping.proofs.Ascending.{in_map_back, in_left, in_right, in_either, in_filter, in_filter_back, ascends_push, ascends_filter, ascends_weaker}
-use Rattle.grouping.proofs.Equal.{rows_equal, same_from_equal, same_row_is, same_row_symm}
+use Rattle.relations.proofs.Equal.{rows_equal, same_from_equal, same_row_is, same_row_symm}
 use Rattle.mk_value.proofs.Walks.{same_default}
 use Rattle.grouping.proofs.DistinctRows.{keys_are}
 use Rattle.grouping.proofs.Positions.{in_positions, in_positions_back, positions_up}

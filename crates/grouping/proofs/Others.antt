@@ -4,12 +4,12 @@ use Rattle.std.specs.Cmp.Lexicographic.{same_text, nat_list_eq_equiv}
 use Rattle.std.proofs.lemmas.List.Folds.{list_any_at}
 use Rattle.mk_value.specs.Names.{same_bytes}
 use Rattle.mk_value.specs.Heading.{Attribute, names_of, HaveDistinctNames}
-use Rattle.derived.specs.Nodes.{column_of}
-use Rattle.derived.specs.Rows.{is_named, has, domain_of, is_among, once, others, properties_of}
-use Rattle.derived.proofs.Faults.{cases}
-use Rattle.derived.proofs.Headings.{column_here}
-use Rattle.derived.proofs.Names.{property_at_column}
-use Rattle.derived.proofs.Ascending.{IsIn, place_of}
+use Rattle.relations.specs.Columns.{column_of}
+use Rattle.relations.specs.Rows.{is_named, has, domain_of, is_among, once, others, properties_of}
+use Rattle.relations.proofs.Faults.{cases}
+use Rattle.relations.proofs.Headings.{column_here}
+use Rattle.relations.proofs.Names.{property_at_column}
+use Rattle.relations.proofs.Ascending.{IsIn, place_of}
 
 -- a name is one of some names where it is one of them once
 apart_among : (first name : List ℕ) (names : List (List ℕ)) → same_bytes first name ≡ false → is_among (filter (λ other. not (same_bytes first other)) names) name ≡ is_among names name

@@ -11,16 +11,16 @@ use Rattle.std.proofs.lemmas.Cmp.{ranked}
 use Rattle.std.proofs.lemmas.List.{length-map}
 use Rattle.std.proofs.lemmas.List.Sorted.{Contains-permutation, IsPermutation-sym}
 use Rattle.mk_value.specs.Data.{Datum}
-use Rattle.derived.specs.Equality.{same_row}
+use Rattle.relations.specs.Equality.{same_row}
 use Rattle.derived.specs.Operators.{distinct}
-use Rattle.derived.specs.Rows.{rows_at}
-use Rattle.grouping.specs.WholeOrder.{whole_row_cmp}
-use Rattle.grouping.specs.OrderLaws.{whole_row_cmp_total}
+use Rattle.relations.specs.Rows.{rows_at}
+use Rattle.relations.specs.WholeOrder.{whole_row_cmp}
+use Rattle.relations.specs.OrderLaws.{whole_row_cmp_total}
 use Rattle.grouping.specs.Index.{positions_of, keys_of, first_positions}
-use Rattle.derived.proofs.Ascending.{IsIn, each_in, each_from_in, in_at, place_of, in_from_contains, contains_from_in, Ascends, ascends_same, nat_less, less_nat, not_less}
+use Rattle.relations.proofs.Ascending.{IsIn, each_in, each_from_in, in_at, place_of, in_from_contains, contains_from_in, Ascends, ascends_same, nat_less, less_nat, not_less}
 use Rattle.grouping.proofs.Ascending.{in_map, in_map_back, in_filter, in_filter_back, ascends_cond, ascends_map, ascends_filter}
 use Rattle.grouping.proofs.Duplicates.{AreDistinct, distinct_permutation, sorted_ascends}
-use Rattle.grouping.proofs.Equal.{rows_equal, same_itself, same_from_equal}
+use Rattle.relations.proofs.Equal.{rows_equal, same_itself, same_from_equal}
 use Rattle.grouping.proofs.DistinctRows.{in_keys, in_keys_back, keys_ascend, less_few}
 
 in_either_way : (b : Bool) (i : ℕ) (ps : List ℕ) → IsIn i ps → IsIn i (cond b (0 ∷ ps) ps)

@@ -1,7 +1,7 @@
 -- Each key of an index with what is made of its rows: a form in which the code has counts and groups.
 use Rattle.std.specs.Prelude.{ℕ, pos, List, [], ◌∷◌, ◌++◌, length, map, slice_index_or}
 use Rattle.mk_value.specs.Data.{Datum, integer, relation, relation_of}
-use Rattle.derived.specs.Nodes.{values_at}
+use Rattle.relations.specs.Columns.{values_at}
 use Rattle.grouping.specs.Index.{keys_of, positions_of}
 
 -- a key and the number of its rows

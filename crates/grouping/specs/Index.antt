@@ -5,10 +5,10 @@ use Rattle.std.specs.declared.cmp.Ordering.TheVariants.{Less}
 use Rattle.std.specs.Ordering.{nat_cmp, ordering_then, is_lt}
 use Rattle.std.specs.List.{AllPairs}
 use Rattle.mk_value.specs.Data.{Datum}
-use Rattle.derived.specs.Equality.{same_row}
+use Rattle.relations.specs.Equality.{same_row}
 use Rattle.derived.specs.Operators.{distinct}
-use Rattle.derived.specs.Sorting.{sorted}
-use Rattle.grouping.specs.WholeOrder.{whole_row_cmp}
+use Rattle.relations.specs.Sorting.{sorted}
+use Rattle.relations.specs.WholeOrder.{whole_row_cmp}
 
 -- the positions of the rows that are the same as this one, ascending
 abbrev pub positions_of : List (List Datum) → List Datum → List ℕ

@@ -1,4 +1,2 @@
 pub mod Groups
 pub mod Index
-pub mod OrderLaws
-pub mod WholeOrder

@@ -5,16 +5,17 @@ ghost use Rattle.mk_value.specs.Heading.{Domain};
 ghost use Rattle.mk_value.specs.Limits.{max_rows};
 ghost use Rattle.derived.specs.Grouping.{counts};
 ghost use Rattle.derived.specs.Layers.{table_of};
-ghost use Rattle.derived.specs.Refusals.{AnswersDue, counts_due};
-ghost use Rattle.derived.specs.Rows.{once, properties_of};
+ghost use Rattle.relations.specs.Answers.{AnswersDue};
+ghost use Rattle.derived.specs.Refusals.{counts_due};
+ghost use Rattle.relations.specs.Rows.{once, properties_of};
 ghost use Rattle.grouping.specs.Groups.{counted_keys};
 
 use crate::RowIndex;
 use crate::keyed::{key_index, key_properties};
-use crate::keys::{check_named, check_plain, count_distinct};
-use derived::lookup::is_among;
-use derived::{Derived, DerivedError, held};
+use derived::{Derived, held};
 use mk_value::{Kind, MAX_PROPERTIES, Memory, Name, Prop, Rows, Same, Schema, TableRead, Value};
+use relations::lookup::is_among;
+use relations::{DerivedError, check_named, check_plain, count_distinct};
 use std::alloc::Global;
 
 /// A row for each distinct key, ascending by key: the key, and under the name COUNT, as a value of kind I, the number of rows

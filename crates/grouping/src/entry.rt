@@ -1,8 +1,8 @@
 //! A row with its position, in an order that no two rows of a list share.
 ghost use Rattle.std.specs.Prelude.{◌≡◌};
 
-use crate::order::cmp_whole_row;
 use mk_value::Row;
+use relations::cmp_whole_row;
 use std::cmp::Ordering;
 
 /// A row of a list, and its position, which decides between equal rows.
@@ -13,8 +13,8 @@ pub(crate) struct Entry<'a> {
 }
 
 impl Ord for Entry<'_> {
-    ghost use Rattle.grouping.specs.WholeOrder.{whole_row_cmp};
-    ghost use Rattle.grouping.specs.OrderLaws.{whole_row_cmp_total};
+    ghost use Rattle.relations.specs.WholeOrder.{whole_row_cmp};
+    ghost use Rattle.relations.specs.OrderLaws.{whole_row_cmp_total};
     ghost use Rattle.std.specs.Ordering.{nat_cmp, on, then_cmp};
     ghost use Rattle.std.proofs.Common.{rules};
     ghost use Rattle.std.specs.Cmp.Rules.{comparing};
@@ -34,8 +34,8 @@ impl Ord for Entry<'_> {
 }
 
 impl PartialOrd for Entry<'_> {
-    ghost use Rattle.grouping.specs.WholeOrder.{whole_row_cmp};
-    ghost use Rattle.grouping.specs.OrderLaws.{whole_row_cmp_total};
+    ghost use Rattle.relations.specs.WholeOrder.{whole_row_cmp};
+    ghost use Rattle.relations.specs.OrderLaws.{whole_row_cmp_total};
     ghost use Rattle.std.specs.Ordering.{as_partial_cmp, nat_cmp, on, then_cmp};
     ghost use Rattle.std.specs.Cmp.{nat_cmp_total, on_total, partial_order_from_total, then_total};
 
@@ -49,8 +49,8 @@ impl PartialOrd for Entry<'_> {
 }
 
 impl PartialEq for Entry<'_> {
-    ghost use Rattle.grouping.specs.WholeOrder.{whole_row_cmp};
-    ghost use Rattle.grouping.specs.OrderLaws.{whole_row_cmp_total};
+    ghost use Rattle.relations.specs.WholeOrder.{whole_row_cmp};
+    ghost use Rattle.relations.specs.OrderLaws.{whole_row_cmp_total};
     ghost use Rattle.std.specs.Ordering.{eq_by_cmp, nat_cmp, on, then_cmp};
     ghost use Rattle.std.specs.Cmp.{eq_by_cmp_equiv, nat_cmp_total, on_total, partial_equiv_from_equiv, then_total};
 
@@ -64,7 +64,7 @@ impl PartialEq for Entry<'_> {
 }
 
 impl Eq for Entry<'_> {
-    ghost use Rattle.grouping.specs.OrderLaws.{whole_row_cmp_total};
+    ghost use Rattle.relations.specs.OrderLaws.{whole_row_cmp_total};
     ghost use Rattle.std.specs.Ordering.{nat_cmp};
     ghost use Rattle.std.specs.Cmp.{eq_by_cmp_equiv, nat_cmp_total, on_total, then_total};
 

@@ -6,18 +6,19 @@ ghost use Rattle.mk_value.specs.Heading.{Domain, heading_depth, heading_of};
 ghost use Rattle.mk_value.specs.Limits.{max_depth};
 ghost use Rattle.derived.specs.Grouping.{group_by};
 ghost use Rattle.derived.specs.Layers.{table_of};
-ghost use Rattle.derived.specs.Nodes.{values_at};
-ghost use Rattle.derived.specs.Refusals.{AnswersDue, group_by_due, none_left};
-ghost use Rattle.derived.specs.Rows.{is_among as is_name_among, once, others, properties_of};
+ghost use Rattle.relations.specs.Columns.{values_at};
+ghost use Rattle.relations.specs.Answers.{AnswersDue};
+ghost use Rattle.relations.specs.Refusals.{none_left};
+ghost use Rattle.derived.specs.Refusals.{group_by_due};
+ghost use Rattle.relations.specs.Rows.{is_among as is_name_among, once, others, properties_of};
 ghost use Rattle.grouping.specs.Groups.{grouped_keys};
 
 use crate::RowIndex;
-use crate::columns::{Columns, other_columns, values_in};
 use crate::keyed::{key_index, key_properties, other_properties};
-use crate::keys::{check_named, check_plain};
-use derived::lookup::is_among;
-use derived::{Derived, DerivedError, held};
+use derived::{Derived, held};
 use mk_value::{Kind, MAX_DEPTH, Memory, Name, Prop, Rows, Same, Schema, TableRead, Value};
+use relations::lookup::is_among;
+use relations::{Columns, DerivedError, check_named, check_plain, other_columns, values_in};
 use std::alloc::Global;
 
 /// A row for each distinct key, ascending by key: the key, and under the name SUB the view of the other properties of the rows

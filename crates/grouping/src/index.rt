@@ -1,12 +1,12 @@
 //! An index of rows by their whole values.
 ghost use Rattle.std.specs.Prelude.{◌≡◌, ◌+◌, ◌<◌, ◌≤◌, [], All, length, map, slice_index_or, slice_range, IfOk};
 ghost use Rattle.mk_value.specs.Limits.{max_rows};
-ghost use Rattle.derived.specs.Equality.{is_row_among};
+ghost use Rattle.relations.specs.Equality.{is_row_among};
 ghost use Rattle.grouping.specs.Index.{IsOrderOf, first_positions, is_start, keys_less, keys_of, numbers, positions_of, starts_below};
 
 use crate::entry::Entry;
-use crate::order::cmp_whole_row;
 use mk_value::{Memory, Positions, Row, Rows};
+use relations::cmp_whole_row;
 use std::alloc::Global;
 use std::marker::Model;
 

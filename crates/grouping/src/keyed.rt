@@ -1,12 +1,12 @@
 //! What the key of a table is made of: its properties, the others, and the index of the keys of all rows.
 ghost use Rattle.std.specs.Prelude.{◌≡◌, map, None, IfOk};
-ghost use Rattle.derived.specs.Refusals.{absent};
-ghost use Rattle.derived.specs.Rows.{once, others, properties_of, values_of};
+ghost use Rattle.relations.specs.Refusals.{absent};
+ghost use Rattle.relations.specs.Rows.{once, others, properties_of, values_of};
 
 use crate::RowIndex;
-use crate::columns::{named_columns, other_columns, properties_in, rows_in};
 use derived::Derived;
 use mk_value::{Memory, Name, Props, Same, Schema, TableRead};
+use relations::{named_columns, other_columns, properties_in, rows_in};
 use std::alloc::Global;
 
 /// The properties of these names, a repeated name once.

@@ -8,18 +8,15 @@
 //! is made. This crate knows nothing of expressions, files or columns in memory.
 #![tactic(auto)]
 
-mod columns;
 mod counting;
 mod entry;
 mod grouped;
 mod index;
 mod keyed;
-mod keys;
-mod order;
 mod uniqueness;
 
 pub use counting::counts;
 pub use grouped::group_by;
 pub use index::RowIndex;
-pub use order::{cmp_whole_row, cmp_whole_value};
+pub use relations::{cmp_whole_row, cmp_whole_value};
 pub use uniqueness::unique;

@@ -2,11 +2,12 @@
 ghost use Rattle.std.specs.Prelude.{◌≡◌, None, IfOk};
 ghost use Rattle.derived.specs.Layers.{table_of};
 ghost use Rattle.derived.specs.Operators.{unique};
-ghost use Rattle.derived.specs.Refusals.{AnswersDue};
+ghost use Rattle.relations.specs.Answers.{AnswersDue};
 
 use crate::RowIndex;
-use derived::{Derived, DerivedError, copy_rows, gather};
+use derived::{Derived, gather};
 use mk_value::{Same, TableRead};
+use relations::{DerivedError, copy_rows};
 use std::alloc::Global;
 
 /// The first of equal rows, in base order. Two rows are equal where all their values are, views row by row.

@@ -4,11 +4,11 @@ use Rattle.std.specs.List.{filter}
 use Rattle.std.proofs.lemmas.Bool.{false≢true}
 use Rattle.std.proofs.lemmas.List.Elements.{filter-append, filter_agree}
 use Rattle.mk_value.specs.Data.{Datum}
-use Rattle.derived.specs.Equality.{same_row, is_row_among}
+use Rattle.relations.specs.Equality.{same_row, is_row_among}
 use Rattle.derived.specs.Operators.{distinct}
 use Rattle.joins.specs.Sets.{is_kept}
-use Rattle.grouping.proofs.Equal.{rows_equal}
-use Rattle.derived.proofs.Faults.{cases}
+use Rattle.relations.proofs.Equal.{rows_equal}
+use Rattle.relations.proofs.Faults.{cases}
 
 filter_twice : {X : Type 0} (p q : X → Bool) (xs : List X) → filter p (filter q xs) ≡ filter (λ x. q x && p x) xs
 filter_twice p q [] = refl

@@ -1,7 +1,7 @@
 -- Rows that other rows have or have not.
 use Rattle.std.specs.Prelude.{Bool, true, false, not, List}
 use Rattle.mk_value.specs.Data.{Datum}
-use Rattle.derived.specs.Equality.{is_row_among}
+use Rattle.relations.specs.Equality.{is_row_among}
 
 -- whether a row is kept: where it is one of these, or where it is none of them
 abbrev pub is_kept : Bool → List (List Datum) → List Datum → Bool

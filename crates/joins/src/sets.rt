@@ -1,18 +1,22 @@
 //! Two tables of one schema as sets of rows: two rows are the same where all their values are, views row by row.
-ghost use Rattle.std.specs.Prelude.{◌≡◌, ◌≤◌, length, None, IfErr, IfOk, OnOk};
+ghost use Rattle.std.specs.Prelude.{◌≡◌, ◌≤◌, [], length, None, IfErr, IfOk, OnOk};
 ghost use Rattle.std.specs.List.{filter};
 ghost use Rattle.std.specs.Result.{result_err};
 ghost use Rattle.mk_value.specs.Limits.{max_rows};
 ghost use Rattle.derived.specs.Layers.{table_of};
-ghost use Rattle.derived.specs.Nodes.{ArePositions};
+ghost use Rattle.relations.specs.Positions.{passing};
 ghost use Rattle.derived.specs.Operators.{different, intersect, minus, union, unique, with_rows};
-ghost use Rattle.derived.specs.Refusals.{AnswersDue, different_due, other_schema, union_due};
-ghost use Rattle.joins.specs.Counted.{AnswersCounted, IsRefusedAt};
+ghost use Rattle.relations.specs.Answers.{AnswersDue};
+ghost use Rattle.relations.specs.Refusals.{other_schema};
+ghost use Rattle.derived.specs.Refusals.{different_due, union_due};
+ghost use Rattle.relations.specs.Answers.{AnswersCounted};
+ghost use Rattle.joins.specs.Counted.{IsRefusedAt};
 ghost use Rattle.joins.specs.Sets.{is_kept};
 
-use derived::{Derived, DerivedError, concat, copy_row, copy_rows, gather};
+use derived::{Derived, concat, gather};
 use grouping::{RowIndex, unique};
 use mk_value::{Memory, Positions, Row, Same, TableRead};
+use relations::{DerivedError, copy_row, copy_rows};
 use std::alloc::Global;
 
 /// The first's rows that the second has, in the first's order; equal rows of the first as often as they stand there.
@@ -176,7 +180,7 @@ fn kept_positions<T: TableRead + Same + Drop>(
     b: &Derived<T>,
     among: bool,
 ) -> Result<Positions, Memory>
-    ensures kept { IfOk result (ArePositions (is_kept among b.now.rows) a.now.rows (length a.now.rows)) }
+    ensures kept { IfOk result (λ positions. positions ≡ passing (is_kept among b.now.rows) [] a.now.rows) }
     ensures few { IfOk result (λ positions. length positions ≤ max_rows) }
 {
     let rows = copy_rows(alloc, b)?;
@@ -191,7 +195,7 @@ fn positions_by<T: TableRead + Same + Drop>(
     index: &RowIndex,
     among: bool,
 ) -> Result<Positions, Memory>
-    ensures kept { IfOk result (ArePositions (is_kept among index.now) table.now.rows (length table.now.rows)) }
+    ensures kept { IfOk result (λ positions. positions ≡ passing (is_kept among index.now) [] table.now.rows) }
     ensures few { IfOk result (λ positions. length positions ≤ max_rows) }
 {
     let mut positions = Positions::new(alloc);

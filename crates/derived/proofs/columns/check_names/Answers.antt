@@ -1,6 +1,6 @@
 use Rattle.std.proofs.Common.{ap, ◌∙◌}
 use Rattle.std.proofs.lemmas.List.{map-id}
-use Rattle.derived.specs.Refusals.{absent}
+use Rattle.relations.specs.Refusals.{absent}
 use Rattle.derived.proofs.columns.check_names.Goals as goal
 
 pub returns : goal.returns

@@ -1,9 +1,10 @@
 use Rattle.std.proofs.Common.{None, Some, cond, get_or, [], ap, sym, ◌∙◌}
-use Rattle.derived.specs.declared.error.DerivedError.TheVariants.{NoProp}
-use Rattle.derived.specs.Refusals.{absent, none_left}
-use Rattle.derived.specs.Rows.{others}
-use Rattle.derived.proofs.Projections.{none_left_is, given_some, first_none, first_some}
-use Rattle.derived.proofs.Faults.{both_none, second_is}
+use Rattle.relations.specs.declared.error.DerivedError.TheVariants.{NoProp}
+use Rattle.relations.specs.Refusals.{absent, none_left}
+use Rattle.relations.specs.Rows.{others}
+use Rattle.relations.proofs.Projections.{none_left_is}
+use Rattle.derived.proofs.Projections.{given_some, first_none, first_some}
+use Rattle.relations.proofs.Faults.{both_none, second_is}
 use Rattle.derived.proofs.columns.check_without.Goals as goal
 
 pub returns-then-has_others : goal.returns-then-has_others

@@ -1,12 +1,12 @@
 use Rattle.std.proofs.Common.{◌≡◌, true, map, refl, ap, sym, ◌∙◌}
 use Rattle.derived.specs.Layers.{table_of}
-use Rattle.derived.specs.Nodes.{column_of, properties_at}
-use Rattle.derived.specs.Refusals.{absent}
-use Rattle.derived.specs.Rows.{has, once}
-use Rattle.derived.proofs.Headings.{once_all}
-use Rattle.derived.proofs.Names.{all_present}
-use Rattle.derived.proofs.Projections.{named_whole, are_columns, only_here}
-use Rattle.derived.proofs.Faults.{done_due}
+use Rattle.relations.specs.Columns.{column_of, properties_at}
+use Rattle.relations.specs.Refusals.{absent}
+use Rattle.relations.specs.Rows.{has, once}
+use Rattle.relations.proofs.Headings.{once_all}
+use Rattle.relations.proofs.Names.{all_present}
+use Rattle.relations.proofs.Projections.{named_whole, are_columns, only_here}
+use Rattle.relations.proofs.Faults.{done_due}
 use Rattle.derived.proofs.columns.project.Goals as goal
 
 pub schema_of_columns-requires : goal.schema_of_columns-requires

@@ -1,10 +1,10 @@
 use Rattle.std.proofs.Common.{map, ap, sym, ◌∙◌}
 use Rattle.derived.specs.Layers.{table_of}
-use Rattle.derived.specs.Nodes.{numbers}
+use Rattle.relations.specs.Positions.{numbers}
 use Rattle.derived.specs.Operators.{renamed}
 use Rattle.derived.specs.Refusals.{rename_due}
 use Rattle.derived.proofs.Renaming.{all_columns_fit, rename_here}
-use Rattle.derived.proofs.Faults.{done_due}
+use Rattle.relations.proofs.Faults.{done_due}
 use Rattle.derived.proofs.columns.rename.Goals as goal
 
 pub with_columns-requires : goal.with_columns-requires

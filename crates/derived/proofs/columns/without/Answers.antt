@@ -1,11 +1,12 @@
 use Rattle.std.proofs.Common.{map, refl, ap, sym, ◌∙◌}
 use Rattle.derived.specs.Layers.{table_of}
-use Rattle.derived.specs.Nodes.{column_of, properties_at}
+use Rattle.relations.specs.Columns.{column_of, properties_at}
 use Rattle.derived.specs.Refusals.{without_due}
-use Rattle.derived.specs.Rows.{others}
-use Rattle.derived.proofs.Headings.{others_here}
-use Rattle.derived.proofs.Projections.{others_whole, are_columns, only_here}
-use Rattle.derived.proofs.Faults.{done_due}
+use Rattle.relations.specs.Rows.{others}
+use Rattle.relations.proofs.Headings.{others_here}
+use Rattle.derived.proofs.Projections.{others_whole}
+use Rattle.relations.proofs.Projections.{are_columns, only_here}
+use Rattle.relations.proofs.Faults.{done_due}
 use Rattle.derived.proofs.columns.without.Goals as goal
 
 pub schema_of_columns-requires : goal.schema_of_columns-requires

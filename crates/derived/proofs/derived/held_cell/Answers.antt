@@ -5,7 +5,7 @@ use Rattle.mk_value.specs.Tables.{domain_at}
 use Rattle.mk_value.specs.Values.{datum_of}
 use Rattle.mk_value.proofs.Cells.{column_in, cell_read}
 use Rattle.mk_value.proofs.Walks.{map_read}
-use Rattle.derived.proofs.Cells.{cell_fits}
+use Rattle.relations.proofs.Cells.{cell_fits}
 use Rattle.derived.proofs.derived.held_cell.Goals as goal
 
 pub bounds-as_slice-col : goal.bounds-as_slice-col

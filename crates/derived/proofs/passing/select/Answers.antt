@@ -1,7 +1,7 @@
 use Rattle.std.proofs.Common.{◌≡◌, IfOk, subst}
 use Rattle.mk_value.specs.Tables.{Table}
 use Rattle.derived.specs.Layers.{table_of}
-use Rattle.derived.proofs.Asking.{select_is}
+use Rattle.derived.proofs.Selecting.{select_is}
 use Rattle.derived.proofs.passing.select.Goals as goal
 
 pub returns : goal.returns

@@ -3,13 +3,13 @@ use Rattle.std.specs.Int.{w64, cast_unsigned}
 use Rattle.std.specs.Prelude.{unsigned_abs}
 use Rattle.std.proofs.lemmas.Int.{to_z-of_z}
 use Rattle.mk_value.specs.Data.{Datum}
-use Rattle.derived.specs.declared.error.DerivedError.TheVariants.{ZeroStep}
-use Rattle.derived.specs.Nodes.{numbers}
+use Rattle.relations.specs.declared.error.DerivedError.TheVariants.{ZeroStep}
+use Rattle.relations.specs.Positions.{numbers}
 use Rattle.derived.specs.Operators.{every, is_backwards, turned_if}
 use Rattle.derived.specs.Refusals.{is_zero, slice_due}
-use Rattle.derived.specs.Rows.{rows_at}
+use Rattle.relations.specs.Rows.{rows_at}
 use Rattle.derived.proofs.Steps.{not_zero, slice_rows, slice_in, slice_few}
-use Rattle.derived.proofs.Faults.{done_due}
+use Rattle.relations.proofs.Faults.{done_due}
 use Rattle.derived.proofs.slicing.slice.Goals as goal
 
 pub positions_at_steps-requires : goal.positions_at_steps-requires

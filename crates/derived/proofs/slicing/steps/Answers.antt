@@ -1,5 +1,5 @@
 use Rattle.std.proofs.Common.{ℕ, List, ◌++◌, ◌+◌, drop, ap, sym, ◌∙◌}
-use Rattle.derived.specs.Nodes.{numbers}
+use Rattle.relations.specs.Positions.{numbers}
 use Rattle.derived.specs.Operators.{every}
 use Rattle.derived.proofs.Steps.{every_from, steps_more, steps_done}
 use Rattle.derived.proofs.slicing.steps.Goals as goal

@@ -1,5 +1,5 @@
 use Rattle.std.proofs.Common.{◌≡◌, ◌++◌, ◌-◌, drop}
-use Rattle.derived.specs.Nodes.{numbers}
+use Rattle.relations.specs.Positions.{numbers}
 use Rattle.derived.specs.Operators.{every}
 use Rattle.derived.proofs.slicing.steps.Given as goal
 

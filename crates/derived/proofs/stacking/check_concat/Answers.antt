@@ -1,5 +1,5 @@
 use Rattle.derived.specs.Layers.{table_of}
-use Rattle.derived.proofs.SameSchemas.{other_due, many_due, none_due}
+use Rattle.derived.proofs.Stacks.{other_due, many_due, none_due}
 use Rattle.derived.proofs.stacking.check_concat.Goals as goal
 
 pub returns-then-not-is_same : goal.returns-then-not-is_same

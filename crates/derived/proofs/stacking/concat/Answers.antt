@@ -3,8 +3,8 @@ use Rattle.mk_value.specs.Data.{Datum, AreRowsOf}
 use Rattle.mk_value.specs.Heading.{Attribute}
 use Rattle.derived.specs.Layers.{table_of}
 use Rattle.derived.specs.Refusals.{concat_due}
-use Rattle.derived.proofs.SameSchemas.{concat_none}
-use Rattle.derived.proofs.Faults.{done_due}
+use Rattle.derived.proofs.Stacks.{concat_none}
+use Rattle.relations.proofs.Faults.{done_due}
 use Rattle.derived.proofs.stacking.concat.Goals as goal
 
 pub extend-requires : goal.extend-requires

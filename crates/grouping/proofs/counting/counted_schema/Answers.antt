@@ -1,6 +1,6 @@
 use Rattle.std.proofs.Common.{List, ℕ, [], ◌++◌, ◌∷◌, ap, subst, sym, ◌∙◌}
 use Rattle.mk_value.specs.Heading.{Domain, Attribute, IsWithinLimits}
-use Rattle.derived.specs.Rows.{once, properties_of}
+use Rattle.relations.specs.Rows.{once, properties_of}
 use Rattle.grouping.proofs.CountTables.{countable, counted_limits}
 use Rattle.grouping.proofs.counting.counted_schema.Goals as goal
 

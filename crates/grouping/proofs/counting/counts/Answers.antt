@@ -4,8 +4,8 @@ use Rattle.mk_value.specs.Data.{Datum, AreRowsOf}
 use Rattle.mk_value.specs.Heading.{Domain, Attribute}
 use Rattle.derived.specs.Layers.{table_of}
 use Rattle.derived.specs.Refusals.{counts_due}
-use Rattle.derived.specs.Rows.{once, properties_of, values_of}
-use Rattle.derived.proofs.Faults.{done_due}
+use Rattle.relations.specs.Rows.{once, properties_of, values_of}
+use Rattle.relations.proofs.Faults.{done_due}
 use Rattle.grouping.specs.Groups.{counted_keys}
 use Rattle.grouping.proofs.CountTables.{countable, counted_whole, counted_table}
 use Rattle.grouping.proofs.counting.counts.Goals as goal

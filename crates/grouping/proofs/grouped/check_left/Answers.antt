@@ -1,5 +1,5 @@
 use Rattle.std.proofs.Common.{true, false, Some, ap, sym, ◌∙◌}
-use Rattle.derived.specs.declared.error.DerivedError.TheVariants.{NoProp}
+use Rattle.relations.specs.declared.error.DerivedError.TheVariants.{NoProp}
 use Rattle.grouping.proofs.GroupTables.{left_is}
 use Rattle.grouping.proofs.grouped.check_left.Goals as goal
 

@@ -1,6 +1,6 @@
 use Rattle.std.proofs.Common.{◌≡◌, ◌<◌, List, filter, length, get_or, max, not, ap, sym, ◌∙◌, arith}
 use Rattle.mk_value.specs.Heading.{Attribute, domain_depth, heading_depth, heading_of}
-use Rattle.derived.specs.Rows.{is_among}
+use Rattle.relations.specs.Rows.{is_among}
 use Rattle.grouping.proofs.Limits.{max_is, filter_depth, depth_skipped, depth_taken}
 use Rattle.grouping.proofs.grouped.depth_of_others.Goals as goal
 use Rattle.grouping.proofs.grouped.depth_of_others.Goals.{then-not-is_among, else-not-is_among}

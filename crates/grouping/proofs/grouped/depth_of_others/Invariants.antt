@@ -1,6 +1,6 @@
 use Rattle.std.proofs.Common.{◌≡◌, drop, filter, max, not}
 use Rattle.mk_value.specs.Heading.{heading_depth, heading_of}
-use Rattle.derived.specs.Rows.{is_among}
+use Rattle.relations.specs.Rows.{is_among}
 use Rattle.grouping.proofs.grouped.depth_of_others.Given as goal
 
 abbrev pub invariant-loop-prop : goal.invariant-loop-prop

@@ -3,11 +3,11 @@ use Rattle.std.proofs.lemmas.List.{length-map}
 use Rattle.mk_value.specs.Data.{Datum, AreRowsOf}
 use Rattle.mk_value.specs.Heading.{Domain, Attribute, heading_of}
 use Rattle.derived.specs.Layers.{table_of}
-use Rattle.derived.specs.Nodes.{column_of}
+use Rattle.relations.specs.Columns.{column_of}
 use Rattle.derived.specs.Refusals.{group_by_due}
-use Rattle.derived.specs.Rows.{once, others, properties_of, values_of}
-use Rattle.derived.proofs.Faults.{done_due}
-use Rattle.derived.proofs.Headings.{others_here}
+use Rattle.relations.specs.Rows.{once, others, properties_of, values_of}
+use Rattle.relations.proofs.Faults.{done_due}
+use Rattle.relations.proofs.Headings.{others_here}
 use Rattle.grouping.specs.Groups.{grouped_keys}
 use Rattle.grouping.proofs.GroupTables.{groupable, grouped_whole, grouped_table}
 use Rattle.grouping.proofs.KeyColumns.{in_range}

@@ -1,6 +1,6 @@
 use Rattle.std.proofs.Common.{◌<◌, ℕ, All, List, [], ◌++◌, ◌∷◌, length, get_or, map, ap, subst, sym, ◌∙◌, arith}
 use Rattle.mk_value.specs.Data.{relation, relation_of}
-use Rattle.derived.specs.Nodes.{values_at}
+use Rattle.relations.specs.Columns.{values_at}
 use Rattle.grouping.specs.Groups.{grouped_key}
 use Rattle.grouping.specs.Index.{keys_of}
 use Rattle.grouping.proofs.Entries.{map_take_more}

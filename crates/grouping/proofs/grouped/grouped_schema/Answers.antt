@@ -2,7 +2,7 @@ use Rattle.std.proofs.Common.{List, ℕ, [], ◌++◌, ◌∷◌, ap, subst, sym
 use Rattle.mk_value.specs.Heading.{Domain, Attribute, IsWithinLimits, heading_of}
 use Rattle.mk_value.specs.Names.{IsName}
 use Rattle.mk_value.proofs.Headings.{view_is_domain}
-use Rattle.derived.specs.Rows.{once, properties_of}
+use Rattle.relations.specs.Rows.{once, properties_of}
 use Rattle.grouping.proofs.GroupTables.{groupable, grouped_limits, others_whole}
 use Rattle.grouping.proofs.grouped.grouped_schema.Goals as goal
 

@@ -1,5 +1,5 @@
 use Rattle.std.proofs.Common.{◌≡◌, [], get_or, map, take}
-use Rattle.derived.specs.Nodes.{values_at}
+use Rattle.relations.specs.Columns.{values_at}
 use Rattle.grouping.proofs.grouped.rows_at.Given as goal
 
 abbrev pub invariant-loop-position : goal.invariant-loop-position

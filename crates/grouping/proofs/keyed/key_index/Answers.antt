@@ -2,9 +2,9 @@ use Rattle.std.proofs.Common.{◌≡◌, List, length, map, ap, subst, ◌∙◌
 use Rattle.std.specs.Prelude.{IfOk}
 use Rattle.std.proofs.lemmas.List.{length-map}
 use Rattle.mk_value.specs.Data.{Datum}
-use Rattle.derived.specs.Nodes.{column_of, values_at}
-use Rattle.derived.specs.Refusals.{absent}
-use Rattle.derived.specs.Rows.{once}
+use Rattle.relations.specs.Columns.{column_of, values_at}
+use Rattle.relations.specs.Refusals.{absent}
+use Rattle.relations.specs.Rows.{once}
 use Rattle.grouping.proofs.KeyColumns.{keys_here, in_range, rows_are}
 use Rattle.grouping.proofs.keyed.key_index.Goals as goal
 

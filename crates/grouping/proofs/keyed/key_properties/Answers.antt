@@ -1,7 +1,7 @@
 use Rattle.std.proofs.Common.{◌≡◌, List, subst}
 use Rattle.std.specs.Prelude.{IfOk}
 use Rattle.mk_value.specs.Heading.{Attribute}
-use Rattle.derived.specs.Rows.{once}
+use Rattle.relations.specs.Rows.{once}
 use Rattle.grouping.proofs.KeyColumns.{keys_here, in_range, properties_are}
 use Rattle.grouping.proofs.keyed.key_properties.Goals as goal
 

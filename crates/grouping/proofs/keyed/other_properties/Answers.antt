@@ -1,8 +1,8 @@
 use Rattle.std.proofs.Common.{◌≡◌, List, subst}
 use Rattle.std.specs.Prelude.{IfOk}
 use Rattle.mk_value.specs.Heading.{Attribute}
-use Rattle.derived.specs.Rows.{others}
-use Rattle.derived.proofs.Headings.{others_here}
+use Rattle.relations.specs.Rows.{others}
+use Rattle.relations.proofs.Headings.{others_here}
 use Rattle.grouping.proofs.KeyColumns.{in_range, properties_are}
 use Rattle.grouping.proofs.keyed.other_properties.Goals as goal
 

@@ -1,6 +1,6 @@
 use Rattle.std.proofs.Common.{◌≡◌, ◌<◌, ℕ, All, List, length, ap, sym, subst, ◌∙◌, arith}
 use Rattle.mk_value.specs.Data.{Datum}
-use Rattle.derived.specs.Rows.{rows_at}
+use Rattle.relations.specs.Rows.{rows_at}
 use Rattle.grouping.specs.Index.{first_positions}
 use Rattle.grouping.proofs.Positions.{firsts_few, firsts_in, rows_at_firsts}
 use Rattle.grouping.proofs.uniqueness.unique.Goals as goal

@@ -1,8 +1,8 @@
 use Rattle.std.proofs.Common.{not, ap, sym, ◌∙◌}
-use Rattle.derived.specs.declared.error.DerivedError.TheVariants.{OtherSchema}
-use Rattle.derived.specs.Equality.{same_schema}
-use Rattle.derived.specs.Refusals.{where_so}
-use Rattle.derived.proofs.SameSchemas.{same_schema_is}
+use Rattle.relations.specs.declared.error.DerivedError.TheVariants.{OtherSchema}
+use Rattle.relations.specs.Equality.{same_schema}
+use Rattle.relations.specs.Refusals.{where_so}
+use Rattle.relations.proofs.SameSchemas.{same_schema_is}
 use Rattle.joins.proofs.sets.check_same.Goals as goal
 
 pub returns-then-not-is_same : goal.returns-then-not-is_same

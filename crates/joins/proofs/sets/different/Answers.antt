@@ -2,7 +2,8 @@ use Rattle.std.proofs.Common.{None, length, refl, sym, ◌∙◌}
 use Rattle.std.proofs.lemmas.Result.{err_from_is_err_and}
 use Rattle.derived.specs.Layers.{table_of}
 use Rattle.derived.specs.Operators.{different}
-use Rattle.derived.specs.Refusals.{other_schema, different_due}
+use Rattle.relations.specs.Refusals.{other_schema}
+use Rattle.derived.specs.Refusals.{different_due}
 use Rattle.joins.proofs.Counting.{refused_due, result_due, alone}
 use Rattle.joins.proofs.sets.different.Goals as goal
 

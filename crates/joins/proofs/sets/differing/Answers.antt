@@ -1,20 +1,26 @@
-use Rattle.std.proofs.Common.{◌≡◌, false, None, length, ap, subst, ◌∙◌}
+use Rattle.std.proofs.Common.{◌≡◌, ◌<◌, [], All, false, None, length, ap, sym, subst, ◌∙◌}
 use Rattle.std.specs.Option.{option_or}
 use Rattle.std.specs.Prelude.{nat_lt}
 use Rattle.std.proofs.lemmas.Result.{IfOk-weaker}
 use Rattle.mk_value.specs.Limits.{max_rows}
 use Rattle.mk_value.specs.Tables.{Table}
-use Rattle.derived.specs.declared.error.DerivedError.TheVariants.{TooManyRows}
+use Rattle.relations.specs.declared.error.DerivedError.TheVariants.{TooManyRows}
 use Rattle.derived.specs.Layers.{table_of}
 use Rattle.derived.specs.Operators.{concat, different, minus, with_rows}
-use Rattle.derived.specs.Refusals.{AnswersDue, concat_due, where_so}
-use Rattle.derived.proofs.Filtering.{passed_rows}
+use Rattle.relations.specs.Answers.{AnswersDue}
+use Rattle.relations.specs.Refusals.{where_so}
+use Rattle.derived.specs.Refusals.{concat_due}
+use Rattle.relations.specs.Rows.{rows_at}
+use Rattle.relations.proofs.Filtering.{passing_in, rows_passing}
 use Rattle.joins.specs.Sets.{is_kept}
 use Rattle.joins.proofs.Counting.{due_counts}
 use Rattle.joins.proofs.sets.differing.Goals as goal
 
 pub gather-requires : goal.gather-requires
-gather-requires g c = record { few = c.in_ok-of_second.ensures.few; in_range = c.in_ok-of_second.ensures.kept.in_range }
+gather-requires g c = record {
+  few = c.in_ok-of_second.ensures.few;
+  in_range = subst (λ ps. All (λ i. i < length c.args.b.rows) ps) (sym c.in_ok-of_second.ensures.kept) (passing_in (is_kept false c.args.a.rows) [] c.args.b.rows);
+}
 
 pub returns : goal.returns
 returns g c =
@@ -23,7 +29,7 @@ returns g c =
     let first = table_of c.in_ok-first.first in
     let second = table_of c.in_ok-second.second in
     let one : first ≡ minus a b = c.in_ok-first.ensures in
-    let two : second ≡ minus b a = c.in_ok-second.ensures ∙ ap (with_rows b) (passed_rows (is_kept false a.rows) b.rows c.in_ok-of_second.of_second c.in_ok-of_second.ensures.kept) in
+    let two : second ≡ minus b a = c.in_ok-second.ensures ∙ ap (with_rows b) (ap (rows_at b.rows) c.in_ok-of_second.ensures.kept ∙ rows_passing (is_kept false a.rows) [] b.rows) in
     let all : concat first second ≡ different a b = ap (λ (x : Table). concat x second) one ∙ ap (concat (minus a b)) two in
     let refused : concat_due first second ≡ option_or (where_so (nat_lt max_rows (length (different a b).rows)) TooManyRows) None =
     ap (λ (x : Table). concat_due x second) one ∙ ap (concat_due (minus a b)) two

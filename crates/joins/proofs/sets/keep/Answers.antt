@@ -1,7 +1,7 @@
 use Rattle.std.proofs.Common.{sym}
 use Rattle.derived.specs.Layers.{table_of}
-use Rattle.derived.specs.Refusals.{other_schema}
-use Rattle.derived.proofs.Faults.{done_due}
+use Rattle.relations.specs.Refusals.{other_schema}
+use Rattle.relations.proofs.Faults.{done_due}
 use Rattle.joins.proofs.sets.keep.Goals as goal
 
 pub returns : goal.returns

@@ -5,10 +5,12 @@ use Rattle.std.proofs.lemmas.Result.{IfOk-weaker}
 use Rattle.mk_value.specs.Data.{Datum}
 use Rattle.mk_value.specs.Limits.{max_rows}
 use Rattle.mk_value.specs.Tables.{Table}
-use Rattle.derived.specs.declared.error.DerivedError.TheVariants.{TooManyRows}
+use Rattle.relations.specs.declared.error.DerivedError.TheVariants.{TooManyRows}
 use Rattle.derived.specs.Layers.{table_of}
 use Rattle.derived.specs.Operators.{concat, minus, union, unique, with_rows}
-use Rattle.derived.specs.Refusals.{AnswersDue, concat_due, other_schema, where_so}
+use Rattle.relations.specs.Answers.{AnswersDue}
+use Rattle.relations.specs.Refusals.{other_schema, where_so}
+use Rattle.derived.specs.Refusals.{concat_due}
 use Rattle.joins.proofs.Counting.{due_counts}
 use Rattle.joins.proofs.Rows.{distinct_append}
 use Rattle.joins.proofs.sets.united.Goals as goal

@@ -1,8 +1,8 @@
 use Rattle.std.proofs.Common.{[], get_or, ap, sym, ◌∙◌, inl, inr, arith}
 use Rattle.grouping.specs.Index.{keys_of}
-use Rattle.grouping.specs.WholeOrder.{whole_row_cmp}
+use Rattle.relations.specs.WholeOrder.{whole_row_cmp}
 use Rattle.grouping.proofs.Indexes.{missed_positions, found_positions}
-use Rattle.grouping.proofs.Walked.{ne_true, ne_false}
+use Rattle.relations.proofs.Walked.{ne_true, ne_false}
 use Rattle.grouping.proofs.index.RowIndex.positions.Goals as goal
 
 pub returns-then-group-groups : goal.returns-then-group-groups

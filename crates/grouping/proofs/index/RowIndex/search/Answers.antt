@@ -1,6 +1,6 @@
 use Rattle.std.proofs.Common.{[], ◌+◌, ◌-◌, ◌/◌, ◌<◌, length, ap, sym, ◌∙◌, arith}
 use Rattle.std.specs.Ordering.{is_lt}
-use Rattle.grouping.specs.WholeOrder.{whole_row_cmp}
+use Rattle.relations.specs.WholeOrder.{whole_row_cmp}
 use Rattle.grouping.specs.Index.{keys_of}
 use Rattle.grouping.proofs.DistinctRows.{key_less, key_not_less, keys_less_few}
 use Rattle.grouping.proofs.index.RowIndex.search.Goals as goal

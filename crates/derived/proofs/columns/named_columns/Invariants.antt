@@ -1,7 +1,0 @@
-use Rattle.std.proofs.Common.{◌≡◌, map, take}
-use Rattle.derived.specs.Nodes.{column_of}
-use Rattle.derived.specs.Rows.{once}
-use Rattle.derived.proofs.columns.named_columns.Given as goal
-
-abbrev pub invariant-loop-at : goal.invariant-loop-at
-invariant-loop-at l = l.columns ≡ map (column_of l.schema) (once (take l.at l.props))

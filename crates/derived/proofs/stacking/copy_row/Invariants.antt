@@ -1,5 +1,0 @@
-use Rattle.std.proofs.Common.{◌≡◌, [], take, get_or}
-use Rattle.derived.proofs.stacking.copy_row.Given as goal
-
-abbrev pub invariant-loop-col : goal.invariant-loop-col
-invariant-loop-col g l = l.copy ≡ take l.col (get_or l.table.rows l.row [])

@@ -1,6 +1,0 @@
-use Rattle.std.proofs.Common.{◌≡◌, [], take, get_or}
-use Rattle.derived.specs.Nodes.{values_at}
-use Rattle.grouping.proofs.columns.values_in.Given as goal
-
-abbrev pub invariant-loop-col : goal.invariant-loop-col
-invariant-loop-col g l = l.values ≡ values_at (take l.col-index l.columns) (get_or l.table.rows l.row [])

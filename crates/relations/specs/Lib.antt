@@ -1,0 +1,13 @@
+pub mod Answers
+pub mod Columns
+pub mod Criteria
+pub mod Equality
+pub mod Fitting
+pub mod Keys
+pub mod OrderLaws
+pub mod Positions
+pub mod Refusals
+pub mod Rows
+pub mod Searching
+pub mod Sorting
+pub mod WholeOrder

@@ -1,0 +1,143 @@
+//! The rows of a table whose values lie within bounds.
+ghost use Rattle.std.specs.Prelude.{◌≡◌, ◌<◌, [], length, slice_index_or, None, IfOk};
+ghost use Rattle.mk_value.specs.Data.{cell};
+ghost use Rattle.mk_value.specs.Tables.{IsComparable, domain_at};
+ghost use Rattle.relations.specs.Criteria.{is_in_range as is_row_in_range, is_within as is_value_within};
+ghost use Rattle.relations.specs.Positions.{AreResolved, first_passing, passing};
+ghost use Rattle.relations.specs.Refusals.{range_due};
+
+use crate::columns::Columns;
+use crate::criteria::Criterion;
+use crate::lookup::column;
+use mk_value::{Memory, Positions, Schema, TableRead};
+use std::alloc::Global;
+
+/// The positions of the rows whose values lie at or between the bounds of the criteria, ascending. With no criteria all positions.
+pub fn positions_in_range<T: TableRead>(
+    alloc: Global,
+    table: &T,
+    criteria: &[Criterion],
+) -> Result<Positions, Memory>
+    requires { range_due criteria.now (T.schema table.now) ≡ None }
+    ensures { IfOk result (λ positions. positions ≡ passing (is_row_in_range (T.schema table.now) criteria.now) [] (T.rows table.now)) }
+{
+    let columns = columns_of(alloc, table.schema(), criteria)?;
+    passing_positions(alloc, table, &columns, criteria)
+}
+
+/// The first position, not before a start, of a row whose values lie at or between the bounds of the criteria, if there is one.
+pub fn find<T: TableRead>(
+    alloc: Global,
+    table: &T,
+    criteria: &[Criterion],
+    start: usize,
+) -> Result<Option<usize>, Memory>
+    requires { range_due criteria.now (T.schema table.now) ≡ None }
+    ensures { IfOk result (λ found. found ≡ first_passing (is_row_in_range (T.schema table.now) criteria.now) (T.rows table.now) start) }
+{
+    let columns = columns_of(alloc, table.schema(), criteria)?;
+    Ok(first_from(table, &columns, criteria, start))
+}
+
+/// Whether the values of a row lie at or between the bounds of the criteria. It takes no memory, and looks each name up.
+pub fn is_in_range<T: TableRead>(table: &T, row: usize, criteria: &[Criterion]) -> bool
+    requires asked { range_due criteria.now (T.schema table.now) ≡ None }
+    requires row_in { row < length (T.rows table.now) }
+    ensures { result ≡ is_row_in_range (T.schema table.now) criteria.now (slice_index_or (T.rows table.now) row []) }
+{
+    for at in 0..criteria.len() {
+        let criterion = &criteria[at];
+        let col = column(table.schema(), &criterion.prop);
+        if !is_within(table, row, col, criterion) {
+            return false;
+        }
+    }
+    true
+}
+
+/// The columns of the criteria.
+pub(crate) fn columns_of(
+    alloc: Global,
+    schema: &Schema,
+    criteria: &[Criterion],
+) -> Result<Columns, Memory>
+    requires { range_due criteria.now schema.now ≡ None }
+    ensures { IfOk result (AreResolved schema.now criteria.now) }
+{
+    let mut columns = Columns::new(alloc);
+    for criterion in criteria {
+        columns.push(column(schema, &criterion.prop))?;
+    }
+    Ok(columns)
+}
+
+/// The positions of the rows that lie within the bounds.
+fn passing_positions<T: TableRead>(
+    alloc: Global,
+    table: &T,
+    columns: &Columns,
+    criteria: &[Criterion],
+) -> Result<Positions, Memory>
+    requires { AreResolved (T.schema table.now) criteria.now columns.now }
+    ensures { IfOk result (λ positions. positions ≡ passing (is_row_in_range (T.schema table.now) criteria.now) [] (T.rows table.now)) }
+{
+    let mut positions = Positions::new(alloc);
+    for row in 0..table.size() {
+        if !passes(table, columns, criteria, row) {
+            continue;
+        }
+        positions.push(row as u32)?;
+    }
+    Ok(positions)
+}
+
+/// The first row from a start on that lies within the bounds.
+fn first_from<T: TableRead>(
+    table: &T,
+    columns: &Columns,
+    criteria: &[Criterion],
+    start: usize,
+) -> Option<usize>
+    requires { AreResolved (T.schema table.now) criteria.now columns.now }
+    ensures { result ≡ first_passing (is_row_in_range (T.schema table.now) criteria.now) (T.rows table.now) start }
+{
+    for row in start..table.size() {
+        if passes(table, columns, criteria, row) {
+            return Some(row);
+        }
+    }
+    None
+}
+
+/// Whether a row lies within the bounds.
+pub(crate) fn passes<T: TableRead>(
+    table: &T,
+    columns: &Columns,
+    criteria: &[Criterion],
+    row: usize,
+) -> bool
+    requires resolved { AreResolved (T.schema table.now) criteria.now columns.now }
+    requires row_in { row < length (T.rows table.now) }
+    ensures { result ≡ is_row_in_range (T.schema table.now) criteria.now (slice_index_or (T.rows table.now) row []) }
+{
+    let columns = columns.as_slice();
+    for at in 0..criteria.len() {
+        let criterion = &criteria[at];
+        if !is_within(table, row, columns[at], criterion) {
+            return false;
+        }
+    }
+    true
+}
+
+/// Whether a value lies within the bounds of a criterion.
+fn is_within<T: TableRead>(table: &T, row: usize, col: usize, criterion: &Criterion) -> bool
+    requires row_in { row < length (T.rows table.now) }
+    requires col_in { col < length (T.schema table.now) }
+    requires low { IsComparable criterion.now.low (domain_at (T.schema table.now) col) }
+    requires high { IsComparable criterion.now.high (domain_at (T.schema table.now) col) }
+    ensures { result ≡ is_value_within criterion.now (cell (T.rows table.now) row col) }
+{
+    table.cmp_cell(row, col, &criterion.low).is_ge()
+        && table.cmp_cell(row, col, &criterion.high).is_le()
+}
