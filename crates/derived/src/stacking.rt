@@ -7,8 +7,8 @@ ghost use Rattle.derived.specs.Operators.{concat};
 ghost use Rattle.relations.specs.Answers.{AnswersDue};
 ghost use Rattle.derived.specs.Refusals.{concat_due};
 
-use crate::derived::extend;
 use crate::Derived;
+use crate::derived::extend;
 use mk_value::{MAX_ROWS, Same, TableRead};
 use relations::{DerivedError, copy_rows};
 use std::alloc::Global;
