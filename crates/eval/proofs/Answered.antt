@@ -1,5 +1,5 @@
 -- From what an operator answers to what an expression tells of it.
-use Rattle.std.proofs.Common.{◌≡◌, ◌⊎◌, inl, inr, ℕ, length, refl, ap, sym, subst, ◌∙◌}
+use Rattle.std.proofs.Common.{◌≡◌, ◌⊎◌, inl, inr, ℕ, length, ap, sym, subst}
 use Rattle.std.specs.Prelude.{Option, Some, None, Result, Ok, Err, IfOk}
 use Rattle.mk_value.specs.Tables.{Table}
 use Rattle.relations.specs.declared.error.DerivedError.{DerivedError}
@@ -7,10 +7,10 @@ use Rattle.relations.specs.declared.error.DerivedError.TheVariants as derived_er
 use Rattle.relations.specs.Answers.{AnswersCounted, AnswersDue, outcome}
 use Rattle.eval.specs.declared.error.EvalError.{EvalError}
 use Rattle.eval.specs.declared.error.EvalError.TheVariants.{Op}
-use Rattle.eval.specs.Answers.{AsAnswered, Gives}
-use Rattle.eval.specs.Values.{Evaluates, IsMemory, at_size}
+use Rattle.eval.specs.Answers.{AsAnswered, Gives, IsMemory}
+use Rattle.eval.specs.Values.{Evaluates, at_size}
 
-error_of : {D : Type 0} → DerivedError → Result D DerivedError → DerivedError
+abbrev error_of : {D : Type 0} → DerivedError → Result D DerivedError → DerivedError
 error_of e (Ok d) = e
 error_of e (Err f) = f
 
@@ -55,8 +55,8 @@ module _ {D : Type 0} (see : D → Table) (t u : Table) where
   answered due (Ok d) result given told = subst (Evaluates see (at_size t due)) (sym told) (ap (at_size t) given)
   answered due (Err e) result given told =
       elim given [
-        inl is ↦ of_memory (at_size t due) e result is told
-      | inr is ↦ subst (Evaluates see (at_size t due)) (sym told) (inr (ap (at_size t) is))
+        | inl is ↦ of_memory (at_size t due) e result is told
+        | inr is ↦ subst (Evaluates see (at_size t due)) (sym told) (inr (ap (at_size t) is))
       ]
 
   -- what an operator answers is what is given of it, also where something was made before it that may find no memory
@@ -65,3 +65,7 @@ module _ {D : Type 0} (see : D → Table) (t u : Table) where
   given_due None (Err e) due ok = inl due
   given_due (Some x) (Ok d) due ok = absurd (let none : ◌≡◌ {A = Result D DerivedError} (Ok d) (Err x) = due in cc)
   given_due (Some x) (Err e) due ok = inr (ap Err (sym (same_error e x due)))
+
+-- the size that is told is that of the table
+pub told_size : {D : Type 0} (t : Table) (n : ℕ) (answer : Result D DerivedError) (result : Result D EvalError) → n ≡ length t.rows → AsAnswered n answer result → AsAnswered (length t.rows) answer result
+told_size t n answer result e told = subst (λ m. AsAnswered m answer result) e told

@@ -1,5 +1,5 @@
 -- What names stand for, and the table to which a path leads.
-use Rattle.std.specs.Prelude.{◌≡◌, ◌⊎◌, ℕ, Bool, true, false, if◌then◌else◌, nat_lt, List, [], ◌∷◌, length, Option, Some, None, Result, Ok, Err, find}
+use Rattle.std.specs.Prelude.{◌≡◌, ◌⊎◌, ℕ, Bool, true, if◌then◌else◌, nat_lt, List, [], ◌∷◌, length, Option, Some, None, Result, Ok, Err, find}
 use Rattle.mk_value.specs.declared.path.Step.{Step}
 use Rattle.mk_value.specs.Data.{Datum, cell, relation, rows_of}
 use Rattle.mk_value.specs.Heading.{Domain, Attribute, attributes_of}

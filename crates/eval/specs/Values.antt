@@ -1,10 +1,8 @@
 -- The value of an expression: what each operator gives of the values of its tables, from the left and from the inside.
-use Rattle.std.specs.Prelude.{ℕ, ◌⊎◌, ◌≡◌, true, false, List, [], ◌∷◌, length, map, Option, None, Result, Ok, Err}
-use Rattle.mk_value.specs.Paths.{Route}
+use Rattle.std.specs.Prelude.{◌⊎◌, ◌≡◌, true, false, List, length, map, Result, Ok, Err}
 use Rattle.mk_value.specs.Tables.{Table}
 use Rattle.relations.specs.declared.criteria.Key.{Key}
 use Rattle.relations.specs.declared.error.DerivedError.{DerivedError}
-use Rattle.relations.specs.declared.error.DerivedError.TheVariants as derived_error
 use Rattle.relations.specs.Answers.{outcome}
 use Rattle.relations.specs.Criteria.{Interval, valued}
 use Rattle.relations.specs.Refusals.{literals_due, other_schema, sort_due}
@@ -12,15 +10,15 @@ use Rattle.derived.specs.Grouping.{counts, group_by}
 use Rattle.derived.specs.Joining.{join, join_prop, pair, product}
 use Rattle.derived.specs.Operators.{concat, different, intersect, minus, project, range, rename, select, slice, sort, union, unique, without}
 use Rattle.derived.specs.Refusals.{concat_due, counts_due, different_due, group_by_due, join_due, join_prop_due, pair_due, product_due, project_due, rename_due, slice_due, union_due, without_due}
-use Rattle.expr_text.specs.Arguments.{Criterion, Range, Tail, nothing, criteria, bounds, orders, names, inner, renamed, rows, named}
+use Rattle.expr_text.specs.Arguments.{Criterion, Range, Tail, nothing, criteria, bounds, orders, names, inner, renamed, rows, named, viewed, viewed_as}
 use Rattle.expr_text.specs.Queries.{Query, path, one, two}
 use Rattle.expr_text.specs.declared.expr.Order.{Order}
 use Rattle.expr_text.specs.declared.operator.Operator.{Operator}
 use Rattle.expr_text.specs.declared.operator.Operator.TheVariants as operators
 use Rattle.eval.specs.declared.error.EvalError.{EvalError}
-use Rattle.eval.specs.declared.error.EvalError.TheVariants.{Name, Op}
+use Rattle.eval.specs.declared.error.EvalError.TheVariants.{Name, Op, Viewer}
 use Rattle.eval.specs.declared.error.NameError.{NameError}
-use Rattle.eval.specs.declared.error.NameError.TheVariants as name_error
+use Rattle.eval.specs.Answers.{IsMemory}
 use Rattle.eval.specs.Names.{Named, continued, view_at}
 
 -- criteria, bounds and keys as operators take them
@@ -59,6 +57,9 @@ of_one operators.GroupBy (named list name) t = at_size t (outcome (group_by_due 
 of_one operators.Counts (named list name) t = at_size t (outcome (counts_due list name t) (counts list name t))
 of_one operators.JoinProp (inner name) t = at_size t (outcome (join_prop_due false name t) (join_prop false name t))
 of_one operators.OuterJoinProp (inner name) t = at_size t (outcome (join_prop_due true name t) (join_prop true name t))
+-- no viewers are known, so the name of each is refused
+of_one operators.Calc (viewed_as viewer list new) t = Err (Viewer viewer)
+of_one operators.Keep (viewed viewer list) t = Err (Viewer viewer)
 of_one _ _ t = Ok t
 
 -- what an operator gives of two tables
@@ -79,12 +80,6 @@ abbrev pub value : List Named → Query → Result Table EvalError
 value ns (path route) = at_path (view_at ns route)
 value ns (one operator q tail) = continued (value ns q) (of_one operator tail)
 value ns (two operator p q tail) = continued (value ns p) (λ a. continued (value ns q) (λ b. of_two operator tail a b))
-
--- memory ran out
-abbrev pub IsMemory : EvalError → Type 0
-IsMemory (Name name_error.Memory) = Unit {0}
-IsMemory (Op derived_error.Memory size) = Unit {0}
-IsMemory _ = ⊥
 
 -- a call answers the value: a table that is seen as it, or its refusal; or memory was wanting
 abbrev pub Evaluates : {D : Type 0} → (D → Table) → Result Table EvalError → Result D EvalError → Type 0

@@ -1,8 +1,9 @@
 ghost use Rattle.std.specs.Prelude.{◌≡◌};
+ghost use Rattle.eval.specs.declared.error.EvalError.TheVariants as eval_error;
 ghost use Rattle.eval.specs.declared.error.NameError.TheVariants as name_error;
 
-use relations::DerivedError;
 use mk_value::{Memory, Name};
+use relations::DerivedError;
 use thiserror::Error;
 
 /// Why a path leads to no table. They are tested in this order over the whole path, the leftmost of a kind deciding.
@@ -45,4 +46,12 @@ pub enum EvalError {
     /// An operator was refused, or memory ran out; the number is the size of its first table.
     #[error("an operator was refused")]
     Op(DerivedError, u64),
+}
+
+impl From<Memory> for EvalError {
+    ghost from_gives = { λ _ e. e ≡ eval_error.Name name_error.Memory };
+
+    fn from(_error: Memory) -> EvalError {
+        EvalError::Name(NameError::Memory)
+    }
 }

@@ -6,7 +6,7 @@ ghost use Rattle.relations.specs.Answers.{outcome};
 ghost use Rattle.relations.specs.Criteria.{valued};
 ghost use Rattle.relations.specs.Refusals.{literals_due, sort_due};
 ghost use Rattle.expr_text.specs.Meanings.{query_of};
-ghost use Rattle.eval.specs.Answers.{AsAnswered, Gives};
+ghost use Rattle.eval.specs.Answers.{AsAnswered, Gives, IsRefused};
 ghost use Rattle.eval.specs.Parts.{IsOverOne, given_of_one};
 ghost use Rattle.eval.specs.Values.{Evaluates, asked as asked_by, bounded as bounded_by, key_of};
 
@@ -58,8 +58,16 @@ pub(crate) fn on_one<T: TableRead + Same + Drop>(
         Expr::Counts(_, keys, count) => at_size(counts(alloc, base, keys.as_slice(), count), size),
         Expr::JoinProp(_, sub) => at_size(join_prop(alloc, base, sub, false), size),
         Expr::OuterJoinProp(_, sub) => at_size(join_prop(alloc, base, sub, true), size),
+        Expr::Calc(_, viewer, _, _) | Expr::Keep(_, viewer, _) => no_viewer(viewer),
         _ => unreachable!(),
     }
+}
+
+/// The refusal of a viewer's name.
+fn no_viewer<T: TableRead + Same + Drop>(name: &Name) -> Result<Derived<T>, EvalError>
+    ensures { IsRefused name.now result }
+{
+    Err(EvalError::Viewer(name.copy()?))
 }
 
 /// The rows with these values.
@@ -108,11 +116,18 @@ fn keys_of(alloc: Global, orders: &[Order]) -> Result<Sequence<Key>, Memory>
 {
     let mut keys = Sequence::new(alloc);
     for order in orders {
-        let prop = order.prop.copy()?;
-        keys.push(Key {
-            prop,
-            down: order.down,
-        })?;
+        keys.push(key(order)?)?;
     }
     Ok(keys)
+}
+
+/// The key to sort by that this is.
+fn key(order: &Order) -> Result<Key, Memory>
+    ensures { IfOk result (λ key. key ≡ key_of order.now) }
+{
+    let prop = order.prop.copy()?;
+    Ok(Key {
+        prop,
+        down: order.down,
+    })
 }
