@@ -1,0 +1,5 @@
+pub mod Answers
+pub mod Literals
+pub mod Names
+pub mod Parts
+pub mod Values

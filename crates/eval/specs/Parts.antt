@@ -1,0 +1,40 @@
+-- What an expression is made of.
+use Rattle.std.specs.Prelude.{◌≡◌, ℕ, Result, Ok}
+use Rattle.mk_value.specs.Tables.{Table}
+use Rattle.expr_text.specs.Meanings.{query_of}
+use Rattle.expr_text.specs.Operators.{form_of, one_table, takes, two_tables}
+use Rattle.expr_text.specs.Arguments.{IsTail}
+use Rattle.expr_text.specs.Queries.{IsQuery, Query, path, one, two}
+use Rattle.eval.specs.declared.bases.Bases.{Bases}
+use Rattle.eval.specs.declared.bases.Bases.TheVariants.{Path, One, Two}
+use Rattle.eval.specs.declared.error.EvalError.{EvalError}
+use Rattle.eval.specs.Values.{of_one, of_two}
+
+-- it stands on this path, or on these expressions
+abbrev pub AreBases : Query → Bases → Type 0
+AreBases (path route) (Path p) = p.now ≡ route
+AreBases (one operator q tail) (One e) = query_of e.now ≡ q
+AreBases (two operator p q tail) (Two e f) = (query_of e.now ≡ p) × (query_of f.now ≡ q)
+AreBases _ _ = ⊥
+
+-- a text may hold the expression, if any number of operators may stand inside one another
+abbrev pub IsWhole : Query → Type 0
+IsWhole q = (deep : ℕ) × IsQuery q deep
+
+-- an operator stands before one table, or two, and behind them what it takes
+abbrev pub IsOverOne : Query → Type 0
+IsOverOne (one operator q tail) = (takes operator ≡ one_table (form_of tail)) × IsTail tail
+IsOverOne _ = ⊥
+
+abbrev pub IsOverTwo : Query → Type 0
+IsOverTwo (two operator p q tail) = (takes operator ≡ two_tables (form_of tail)) × IsTail tail
+IsOverTwo _ = ⊥
+
+-- what the outermost operator gives of the values of its tables
+abbrev pub given_of_one : Query → Table → Result Table EvalError
+given_of_one (one operator q tail) t = of_one operator tail t
+given_of_one _ t = Ok t
+
+abbrev pub given_of_two : Query → Table → Table → Result Table EvalError
+given_of_two (two operator p q tail) a b = of_two operator tail a b
+given_of_two _ a b = Ok a

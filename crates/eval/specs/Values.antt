@@ -1,0 +1,87 @@
+-- The value of an expression: what each operator gives of the values of its tables, from the left and from the inside.
+use Rattle.std.specs.Prelude.{◌⊎◌, ◌≡◌, true, false, List, length, map, Result, Ok, Err}
+use Rattle.mk_value.specs.Tables.{Table}
+use Rattle.relations.specs.declared.criteria.Key.{Key}
+use Rattle.relations.specs.declared.error.DerivedError.{DerivedError}
+use Rattle.relations.specs.Answers.{outcome}
+use Rattle.relations.specs.Criteria.{Interval, valued}
+use Rattle.relations.specs.Refusals.{literals_due, other_schema, sort_due}
+use Rattle.derived.specs.Grouping.{counts, group_by}
+use Rattle.derived.specs.Joining.{join, join_prop, pair, product}
+use Rattle.derived.specs.Operators.{concat, different, intersect, minus, project, range, rename, select, slice, sort, union, unique, without}
+use Rattle.derived.specs.Refusals.{concat_due, counts_due, different_due, group_by_due, join_due, join_prop_due, pair_due, product_due, project_due, rename_due, slice_due, union_due, without_due}
+use Rattle.expr_text.specs.Arguments.{Criterion, Range, Tail, nothing, criteria, bounds, orders, names, inner, renamed, rows, named, viewed, viewed_as}
+use Rattle.expr_text.specs.Queries.{Query, path, one, two}
+use Rattle.expr_text.specs.declared.expr.Order.{Order}
+use Rattle.expr_text.specs.declared.operator.Operator.{Operator}
+use Rattle.expr_text.specs.declared.operator.Operator.TheVariants as operators
+use Rattle.eval.specs.declared.error.EvalError.{EvalError}
+use Rattle.eval.specs.declared.error.EvalError.TheVariants.{Name, Op, Viewer}
+use Rattle.eval.specs.declared.error.NameError.{NameError}
+use Rattle.eval.specs.Answers.{IsMemory}
+use Rattle.eval.specs.Names.{Named, continued, view_at}
+
+-- criteria, bounds and keys as operators take them
+abbrev pub asked : Criterion → Interval
+asked c = record { prop = c.prop; low = c.value; high = c.value }
+
+abbrev pub bounded : Range → Interval
+bounded r = record { prop = r.prop; low = r.low; high = r.high }
+
+abbrev pub key_of : Order → Key
+key_of o = record { prop = o.prop; down = o.down }
+
+-- what an operator gives; a refusal tells the size of its first table
+abbrev pub at_size : Table → Result Table DerivedError → Result Table EvalError
+at_size t (Err e) = Err (Op e (length t.rows))
+at_size t (Ok given) = Ok given
+
+-- what a path leads to
+abbrev pub at_path : Result Table NameError → Result Table EvalError
+at_path (Err e) = Err (Name e)
+at_path (Ok t) = Ok t
+
+-- what an operator gives of one table; an operator that does not take what stands behind the table is in no expression
+abbrev pub of_one : Operator → Tail → Table → Result Table EvalError
+of_one operators.Select (criteria list) t =
+    at_size t (outcome (literals_due (map asked list) t.schema) (select (map (valued t.schema) (map asked list)) t))
+of_one operators.Range (bounds list) t =
+    at_size t (outcome (literals_due (map bounded list) t.schema) (range (map (valued t.schema) (map bounded list)) t))
+of_one operators.Sort (orders list) t = at_size t (outcome (sort_due (map key_of list) t.schema) (sort (map key_of list) t))
+of_one operators.Project (names list) t = at_size t (outcome (project_due list t.schema) (project list t))
+of_one operators.Without (names list) t = at_size t (outcome (without_due list t.schema) (without list t))
+of_one operators.Rename (renamed name new) t = at_size t (outcome (rename_due name new t.schema) (rename name new t))
+of_one operators.Slice (rows first limit step) t = at_size t (outcome (slice_due step) (slice first limit step t))
+of_one operators.Unique nothing t = Ok (unique t)
+of_one operators.GroupBy (named list name) t = at_size t (outcome (group_by_due list name t) (group_by list name t))
+of_one operators.Counts (named list name) t = at_size t (outcome (counts_due list name t) (counts list name t))
+of_one operators.JoinProp (inner name) t = at_size t (outcome (join_prop_due false name t) (join_prop false name t))
+of_one operators.OuterJoinProp (inner name) t = at_size t (outcome (join_prop_due true name t) (join_prop true name t))
+-- no viewers are known, so the name of each is refused
+of_one operators.Calc (viewed_as viewer list new) t = Err (Viewer viewer)
+of_one operators.Keep (viewed viewer list) t = Err (Viewer viewer)
+of_one _ _ t = Ok t
+
+-- what an operator gives of two tables
+abbrev pub of_two : Operator → Tail → Table → Table → Result Table EvalError
+of_two operators.Concat nothing a b = at_size a (outcome (concat_due a b) (concat a b))
+of_two operators.Pair nothing a b = at_size a (outcome (pair_due a b) (pair a b))
+of_two operators.Product nothing a b = at_size a (outcome (product_due a b) (product a b))
+of_two operators.Union nothing a b = at_size a (outcome (union_due a b) (union a b))
+of_two operators.Intersect nothing a b = at_size a (outcome (other_schema a b) (intersect a b))
+of_two operators.Minus nothing a b = at_size a (outcome (other_schema a b) (minus a b))
+of_two operators.Different nothing a b = at_size a (outcome (different_due a b) (different a b))
+of_two operators.Join (names list) a b = at_size a (outcome (join_due false list a b) (join false list a b))
+of_two operators.OuterJoin (names list) a b = at_size a (outcome (join_due true list a b) (join true list a b))
+of_two _ _ a b = Ok a
+
+-- the table that an expression asks for among these names, or the first refusal
+abbrev pub value : List Named → Query → Result Table EvalError
+value ns (path route) = at_path (view_at ns route)
+value ns (one operator q tail) = continued (value ns q) (of_one operator tail)
+value ns (two operator p q tail) = continued (value ns p) (λ a. continued (value ns q) (λ b. of_two operator tail a b))
+
+-- a call answers the value: a table that is seen as it, or its refusal; or memory was wanting
+abbrev pub Evaluates : {D : Type 0} → (D → Table) → Result Table EvalError → Result D EvalError → Type 0
+Evaluates see value (Ok d) = value ≡ Ok (see d)
+Evaluates see value (Err e) = IsMemory e ⊎ (value ≡ Err e)

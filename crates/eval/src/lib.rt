@@ -1,0 +1,18 @@
+//! Expressions evaluated: the table that an expression asks for, among names that stand for tables.
+//!
+//! An expression is a path, or an operator over one or two expressions. Its value is what the operator gives of their values, from the left
+//! and from the inside; the first refusal is that of the whole. The definitions stand in `specs/Values.antt`, over those of the operators. This crate
+//! knows nothing of texts, of commands, or of how tables are kept.
+#![tactic(auto)]
+
+mod bases;
+mod error;
+mod evaluation;
+mod literals;
+mod names;
+mod on_one;
+mod on_two;
+
+pub use error::{EvalError, NameError};
+pub use evaluation::eval;
+pub use names::Names;
