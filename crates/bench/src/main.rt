@@ -1,14 +1,12 @@
 //! Times what the store is made of, in nanoseconds a call or a row.
 //!
-//! `bench packing` times packed integers, `bench columns` columns of integers and of texts, `bench tables` edits of tables, and
-//! `bench operators` the operators.
+//! `bench packing` times packed integers, `bench columns` columns of integers and of texts, and `bench operators` the operators.
 //! Without a word the operators go over a few rows, and what they answer is printed without times.
 #![tactic(auto)]
 
 mod columns;
 mod operators;
 mod packing;
-mod table_edits;
 
 use anyhow::{Result, bail};
 use std::env;
@@ -19,8 +17,7 @@ fn main(rt: HostRuntime) -> Result<()> {
         None => operators::list_all(&rt),
         Some("packing") => packing::measure_all(&rt),
         Some("columns") => columns::measure_all(&rt),
-        Some("tables") => table_edits::measure_all(&rt),
         Some("operators") => operators::measure_all(&rt),
-        Some(_) => bail!("the words are packing, columns, tables or operators"),
+        Some(_) => bail!("the words are packing, columns or operators"),
     }
 }
