@@ -200,6 +200,9 @@ pub record AreBodiesDone (known : Type 0) (image : List ℕ) (start : ℕ) (sche
   pub made : AreTablesFound HasLength own ts
   pub read : known → AreTablesRead image schema own start ts
 
+pub bodies_begin : (known : Type 0) (image : List ℕ) (start : ℕ) (schema : List Attribute) (own : List Body) → AreBodiesSoFar known image start schema own 0 [] start
+bodies_begin known image start schema own = record { place = refl; formed = tt; made = tt; found = λ _. tt; upto = begins known image (plain_bodies (bodies_from own) (heading_of schema) start) }
+
 pub bodies_end : (known : Type 0) (image : List ℕ) (start : ℕ) (schema : List Attribute) (own : List Body) (k at : ℕ) (ts : List StoredTable) → AreBodiesSoFar known image start schema own k ts at → length own ≤ k
     → AreBodiesDone known image start schema own ts at
 bodies_end known image start schema own k at ts so q =

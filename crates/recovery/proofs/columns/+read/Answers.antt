@@ -21,7 +21,7 @@ use Rattle.tables.specs.Stored.{stored_of}
 use Rattle.tables.proofs.Gathering.{AreRowsOf-columns, HasHomes-columns, length-rows_of_columns}
 use Rattle.recovery.specs.Found.{AreTablesRead, HasLength, IsColumnFound, IsColumnRead, IsTableRead, NamesUnreadable}
 use Rattle.recovery.proofs.FoundTables.{table_found, views_found, views_whole}
-use Rattle.recovery.proofs.ReadSoFar.{IsNext, as_many_entries, bodies_end, bodies_grow, body_room, body_unread, column_room, column_unread, columns_begin, columns_end, columns_grow, next_body, next_entry, next_read, strings_len, take_map_read}
+use Rattle.recovery.proofs.ReadSoFar.{IsNext, as_many_entries, bodies_begin, bodies_end, bodies_grow, body_room, body_unread, column_room, column_unread, columns_begin, columns_end, columns_grow, next_body, next_entry, next_read, strings_len, take_map_read}
 use Rattle.recovery.proofs.columns.+read.Goals as goal
 
 -- each property has an entry
@@ -34,6 +34,15 @@ items_within end rows k schema props own items has same is p =
     omega (arith, many, a, b, long, p)
 
 -- ---- the tables of a view column
+
+pub read_bodies-loop-body-init : goal.read_bodies-loop-body-init
+read_bodies-loop-body-init g t c =
+    rw c.new-tables.ensures
+    (record {
+      counts = CountsFaults-begins (g.D.Disk.outside c.args.disk.now) ⊥ (λ failed. failed);
+      same = λ tells. record { still = record { now = refl; past = refl }; input = refl };
+      so = bodies_begin g.D.Disk.tells (g.D.Disk.outside c.args.disk.now).now.disk.seen c.args.at c.args.schema.now (map body_of c.as_slice-body-items.result.now);
+    })
 
 pub read_bodies-overflow_add-next : goal.read_bodies-overflow_add-next
 read_bodies-overflow_add-next g t c =
