@@ -1,0 +1,4 @@
+mod Halving
+mod Prefixes
+mod Lists
+mod Moving
