@@ -1,4 +1,8 @@
+mod Finding
+mod Following
 mod Halving
-mod Prefixes
+mod Keyed
 mod Lists
 mod Moving
+mod Prefixes
+mod Sorting

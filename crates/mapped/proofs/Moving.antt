@@ -9,12 +9,14 @@ use Rattle.std.proofs.lemmas.Bool.{cases_lt, cases_eq}
 use Rattle.std.proofs.lemmas.Bool.Decides.{nat_tests}
 use Rattle.std.proofs.lemmas.List.{take-append-drop, drop_more, get_or-set_same, get_or-set_other, length-set}
 use Rattle.std.proofs.lemmas.List.Edits.{length-insert, length-remove, get_or-insert_below, get_or-insert_above, get_or-remove_below, get_or-remove_above}
+use Rattle.std.proofs.lemmas.List.Quantifiers.{all_pairs_remove}
+use Rattle.std.proofs.lemmas.Cmp.{tied_itself}
 use Rattle.mk_value.specs.Data.{Datum}
 use Rattle.relations.specs.WholeOrder.{whole_row_cmp}
 use Rattle.relations.specs.OrderLaws.{whole_row_cmp_total, whole_row_ties}
 use Rattle.relations.proofs.Ascending.{IsIn, Ascends, in_from_contains, contains_from_in, ascends_from_pairs, place_of, in_at, not_less}
 use Rattle.mapped.specs.Index.{AreKeys}
-use Rattle.mapped.specs.Order.{key_at_cmp, AreOrdered, IsOrderOf, IsOrderWithout, closed, opened}
+use Rattle.mapped.specs.Order.{key_at_cmp, AreOrdered, IsOrderOf, IsOrderWithout, IsIndexOf, closed, opened}
 use Rattle.mapped.proofs.Lists.{in_map, map_in, in_middle, middle_in, all_from_in, all_in, pairs_from_ascends, ascends_map, ascends_out, ascends_in, middle_apart, in_front, in_back}
 
 -- positions moved down and up
@@ -220,3 +222,51 @@ changed keys order at key h =
       apart = h.apart;
       complete = λ i p ne. h.complete i (omega arith) ne;
     }
+
+-- nothing moves where the key came or went at the end
+map_still : (f : ℕ → ℕ) (xs : List ℕ) → All (λ i. f i ≡ i) xs → xs ≡ map f xs
+map_still f [] same = refl
+map_still f (x ∷ xs) same =
+    ap (λ y. y ∷ xs) (sym (same 0 x (omega arith))) ∙ ap (λ ys. f x ∷ ys) (map_still f xs (λ k d p. same (suc k) d (omega arith)))
+
+pub still_closed : (at size : ℕ) (order : List ℕ) → All (λ i. i ≤ size) order → size ≤ at → order ≡ map (closed at) order
+still_closed at size order within last = map_still (closed at) order (λ k d p. let q = within k d p in grind (arith, nat_tests))
+
+pub still_opened : (at size : ℕ) (order : List ℕ) → All (λ i. i < size) order → size ≤ at → order ≡ map (opened at) order
+still_opened at size order within last = map_still (opened at) order (λ k d p. let q = within k d p in grind (arith, nat_tests))
+
+-- in the order a key in front of one that is less than another is less too
+pub keys_fall : (keys : List (List Datum)) (order : List ℕ) (key : List Datum) → AreOrdered keys order
+    → (i j : ℕ) → i < j → j < length order → whole_row_cmp (get_or keys (get_or order j 0) []) key ≡ Less → whole_row_cmp (get_or keys (get_or order i 0) []) key ≡ Less
+keys_fall keys order key h i j p q less =
+    whole_row_cmp_total.trans (get_or keys (get_or order i 0) []) (get_or keys (get_or order j 0) []) key (h.ascends i j 0 p q) less
+
+-- the keys that are left differ
+pub fewer : (keys : List (List Datum)) (at : ℕ) → at < length keys → AreKeys keys → AreKeys (remove keys at)
+fewer keys at there whole = record {
+  few = (let e = length-remove keys at there in let f = whole.few in omega arith);
+  distinct = all_pairs_remove (λ a b. a ≢ b) keys at there whole.distinct;
+}
+
+-- what a search finds of a key
+module _ (keys : List (List Datum)) (order : List ℕ) (key : List Datum) (place : ℕ) (h : IsIndexOf keys order) (within : place ≤ length order)
+    (below : (k : ℕ) → k < place → whole_row_cmp (get_or keys (get_or order k 0) []) key ≡ Less)
+    (from : (k : ℕ) → place ≤ k → k < length order → whole_row_cmp (get_or keys (get_or order k 0) []) key ≢ Less) where
+  pub missed : (place < length order → whole_row_cmp (get_or keys (get_or order place 0) []) key ≢ Equal) → (i : ℕ) → i < length keys → get_or keys i [] ≢ key
+  missed other i p e =
+      let here = place_of order i (in_from_contains order i (h.ordered.complete i p)) in
+      let k : ℕ = here.0 in
+      let is : get_or order k 0 ≡ i = here.2 0 in
+      let inside : k < length order = here.1 in
+      let same : get_or keys (get_or order k 0) [] ≡ key = ap (λ j. get_or keys j []) is ∙ e in
+      let tie : whole_row_cmp (get_or keys (get_or order k 0) []) key ≡ Equal = ap (λ z. whole_row_cmp z key) same ∙ tied_itself whole_row_cmp_total key in
+      elim (cases_lt k place) [
+        | inl front ↦ less_equal (sym (below k front) ∙ tie)
+        | inr past ↦ elim (cases_lt place k) [
+          | inl far ↦ from place (omega arith) (omega arith) (ap (whole_row_cmp (get_or keys (get_or order place 0) [])) (sym same) ∙ h.ordered.ordered.ascends place k 0 far inside)
+          | inr near ↦ let at : place ≡ k = omega arith in other (omega arith) (ap (λ j. whole_row_cmp (get_or keys (get_or order j 0) []) key) at ∙ tie)
+        ]
+      ]
+    where
+      less_equal : Less ≡ Equal → ⊥
+      less_equal e = cc

@@ -5,10 +5,12 @@ use Rattle.std.specs.declared.cmp.Ordering.TheVariants.{Less, Equal, Greater}
 use Rattle.std.specs.Ordering.{is_ne, ordering_then}
 use Rattle.std.specs.Cmp.{IsTotalOrder}
 use Rattle.std.specs.Cmp.Lexicographic.{slice_cmp, lists_total}
-use Rattle.std.proofs.lemmas.List.{drop_more}
+use Rattle.std.proofs.lemmas.List.{drop_more, get_or-map, get_or-take, length-map, length-take-le}
 use Rattle.mk_value.specs.Data.{Datum, integer}
 use Rattle.mk_value.specs.Order.{value_cmp}
 use Rattle.mk_value.specs.OrderLaws.{value_cmp_total}
+use Rattle.mk_value.specs.Values.{datum_of}
+use Rattle.mk_value.specs.declared.value.Value.{Value}
 use Rattle.mapped.specs.Keys.{key_cmp, row_to_key, AscendByKey}
 
 pub key_cmp_total : IsTotalOrder key_cmp
@@ -68,3 +70,18 @@ module _ (xs ys : List Datum) (i : ℕ) (p : i < length xs) (q : i < length ys) 
 
   pub ties : is_ne o ≡ false → key_cmp xs ys ≡ key_cmp (drop i xs) (drop i ys) → key_cmp xs ys ≡ key_cmp (drop (i + 1) xs) (drop (i + 1) ys)
   ties e so_far = so_far ∙ further ∙ passes o (key_cmp (drop (i + 1) xs) (drop (i + 1) ys)) e
+
+-- a value of a row beside that of a key, of which a slice has the values
+pub beside : (row key : List Datum) (values : List Value) (at : ℕ) (value : Value) → map datum_of values ≡ key → at < length values → value ≡ get_or values at value → length key ≤ length row
+    → (o : Ordering) → o ≡ value_cmp (get_or row at (integer (pos 0))) (datum_of value)
+    → (at < length (take (length key) row)) × (at < length key) × (o ≡ value_cmp (get_or (take (length key) row) at (integer (pos 0))) (get_or key at (integer (pos 0))))
+beside row key values at value is p here few o e =
+    let long : length key ≡ length values = ap length (sym is) ∙ length-map values datum_of in
+    let q : at < length key = omega arith in
+    let cut = length-take-le (length key) row few in
+    let asked : datum_of value ≡ get_or key at (integer (pos 0)) =
+    ap datum_of here ∙ sym (get_or-map datum_of values at value (integer (pos 0)) p) ∙ ap (λ (ks : List Datum). get_or ks at (integer (pos 0))) is in (
+      omega arith,
+      q,
+      e ∙ ap (λ d. value_cmp d (datum_of value)) (sym (get_or-take (length key) row at (integer (pos 0)) q)) ∙ ap (value_cmp (get_or (take (length key) row) at (integer (pos 0)))) asked,
+    )

@@ -1,7 +1,8 @@
 //! The keys of rows, and their positions in order.
 ghost use Rattle.std.specs.Prelude.{◌≡◌, ◌≤◌, ◌<◌, [], length, take, slice_index_or, IfOk, None};
-ghost use Rattle.std.specs.Option.{option_map};
 ghost use Rattle.mk_value.specs.Limits.{max_rows};
+ghost use Rattle.relations.specs.Positions.{place_cmp};
+ghost use Rattle.relations.specs.WholeOrder.{whole_row_cmp};
 ghost use Rattle.mapped.specs.Keys.{keys_of};
 ghost use Rattle.mapped.specs.Index.{AreKeys};
 ghost use Rattle.mapped.specs.Order.{IsOrderOf, IsSortOf, least};
@@ -10,6 +11,7 @@ ghost use Rattle.mapped.specs.Refusals.{first_repeated as first_repeated_of};
 use mk_value::{Memory, Row, TableRead};
 use relations::cmp_whole_row;
 use std::alloc::Global;
+use std::cmp::Ordering;
 
 /// The keys of all rows: the first values of each, so many.
 pub(crate) fn keys_of_rows<T: TableRead>(
@@ -53,11 +55,16 @@ pub(crate) fn order_of(alloc: Global, keys: &[Row]) -> Result<Vec<u32>, Memory>
         order.push(at as u32)?;
     }
     let none = Row::new(alloc);
-    order.sort_unstable_by(|a, b| {
-        let order = cmp_whole_row(key_at(keys, &none, *a), key_at(keys, &none, *b));
-        order.then(a.cmp(b))
-    });
+    order.sort_unstable_by(|a, b| cmp_positions(keys, &none, *a, *b));
     Ok(order)
+}
+
+/// The order of two positions: that of the keys there, or of another where there is none, and where these tie that of the positions.
+fn cmp_positions(keys: &[Row], none: &Row, a: u32, b: u32) -> Ordering
+    ensures { result ≡ place_cmp whole_row_cmp none.now keys.now a b }
+{
+    let order = cmp_whole_row(key_at(keys, none, a), key_at(keys, none, b));
+    order.then(a.cmp(&b))
 }
 
 /// The key at a position, or another where there is none.
@@ -69,7 +76,8 @@ fn key_at<'a>(keys: &'a [Row], none: &'a Row, at: u32) -> &'a Row
 
 /// The first key that stood before.
 pub(crate) fn first_repeated(keys: &[Row], order: &[u32]) -> Option<u32>
-    requires { IsSortOf keys.now order.now }
+    requires few { length keys.now ≤ max_rows }
+    requires order { IsSortOf keys.now order.now }
     ensures value { result ≡ first_repeated_of keys.now }
     ensures distinct { result ≡ None → IsOrderOf keys.now order.now }
     ensures whole { result ≡ None → AreKeys keys.now }

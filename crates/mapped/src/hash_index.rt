@@ -7,11 +7,10 @@ ghost use Rattle.mapped.specs.Keys.{keys_of};
 ghost use Rattle.mapped.specs.Refusals.{AnswersDue, index_due};
 
 use crate::building::{first_repeated, keys_of_rows, order_of};
-use crate::order::{change, insert, place_of, remove};
+use crate::order::{change, find, insert, remove};
 use crate::ordered::check_count;
 use crate::{Event, MapError};
 use mk_value::{Memory, Row, TableRead};
-use relations::cmp_whole_row;
 use std::alloc::Global;
 use std::marker::Model;
 
@@ -65,13 +64,7 @@ impl HashIndex {
         ensures found { IfSome result (λ row. slice_get self.now.keys row ≡ Some key.now) }
         ensures none { IfNone result (¬ Contains self.now.keys key.now) }
     {
-        let place = place_of(&self.keys, &self.order, key);
-        match self.order.get(place) {
-            Some(row) if cmp_whole_row(&self.keys[*row as usize], key).is_eq() => Some(
-                *row as usize,
-            ),
-            _ => None,
-        }
+        find(&self.keys, &self.order, key)
     }
 
     /// Makes room for so many rows more, so that `follow` needs no memory for them.

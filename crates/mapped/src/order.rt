@@ -1,10 +1,10 @@
 //! The positions of keys in the order of the keys: what an index keeps beside them.
-ghost use Rattle.std.specs.Prelude.{◌≡◌, ◌≢◌, ◌+◌, ◌<◌, ◌≤◌, ◌^◌, ℕ, [], All, length, map, insert, remove, slice_index, slice_index_or, slice_set, vec_len, IfOk};
+ghost use Rattle.std.specs.Prelude.{◌≡◌, ◌≢◌, ◌+◌, ◌<◌, ◌≤◌, ◌^◌, ℕ, [], All, length, map, insert, remove, slice_index, slice_index_or, slice_get, slice_set, vec_len, Contains, IfNone, IfSome, Some};
 ghost use Rattle.std.specs.Vec.{vec_capacity};
 ghost use Rattle.std.specs.declared.cmp.Ordering.TheVariants.{Less};
 ghost use Rattle.relations.specs.WholeOrder.{whole_row_cmp};
 ghost use Rattle.mk_value.specs.Limits.{max_rows};
-ghost use Rattle.mapped.specs.Index.{AreKeys};
+ghost use Rattle.mapped.specs.Index.{AreKeys, row_of};
 ghost use Rattle.mapped.specs.Order.{AreOrdered, IsIndexOf, IsOrderOf, IsOrderWithout, closed, opened};
 
 use mk_value::Row;
@@ -30,6 +30,23 @@ pub(crate) fn place_of(keys: &[Row], order: &[u32], key: &Row) -> usize
     low
 }
 
+/// The row that has the key.
+pub(crate) fn find(keys: &[Row], order: &[u32], key: &Row) -> Option<usize>
+    requires { IsIndexOf keys.now order.now }
+    ensures value { result ≡ row_of key.now keys.now }
+    ensures found { IfSome result (λ row. slice_get keys.now row ≡ Some key.now) }
+    ensures none { IfNone result (¬ Contains keys.now key.now) }
+{
+    let place = place_of(keys, order, key);
+    if place < order.len() {
+        let row = order[place] as usize;
+        if cmp_whole_row(&keys[row], key).is_eq() {
+            return Some(row);
+        }
+    }
+    None
+}
+
 /// A key comes in at a position. The positions from there on move up by one, each in one pass; there is nothing to move where the key
 /// comes last. It takes no memory.
 pub(crate) fn insert(keys: &mut Vec<Row>, order: &mut Vec<u32>, at: usize, key: Row)
@@ -40,6 +57,10 @@ pub(crate) fn insert(keys: &mut Vec<Row>, order: &mut Vec<u32>, at: usize, key: 
     requires order_room { vec_len order.old < vec_capacity order.old }
     ensures keys { keys.new.items ≡ insert keys.old.items at key }
     ensures index { IsIndexOf keys.new.items order.new.items }
+    ensures key_len { vec_len keys.new ≡ vec_len keys.old + 1 }
+    ensures key_capacity { vec_capacity keys.old ≤ vec_capacity keys.new }
+    ensures order_len { vec_len order.new ≡ vec_len order.old + 1 }
+    ensures order_capacity { vec_capacity order.old ≤ vec_capacity order.new }
 {
     make_room(order, at, keys.len());
     if keys.insert(at, key).is_err() {
@@ -54,6 +75,10 @@ pub(crate) fn remove(keys: &mut Vec<Row>, order: &mut Vec<u32>, at: usize)
     requires there { at < length keys.old.items }
     ensures keys { keys.new.items ≡ remove keys.old.items at }
     ensures index { IsIndexOf keys.new.items order.new.items }
+    ensures key_len { vec_len keys.new + 1 ≡ vec_len keys.old }
+    ensures key_capacity { vec_capacity keys.old ≤ vec_capacity keys.new }
+    ensures order_len { vec_len order.new + 1 ≡ vec_len order.old }
+    ensures order_capacity { vec_capacity order.old ≤ vec_capacity order.new }
 {
     leave(keys, order, at);
     keys.remove(at);
@@ -67,6 +92,10 @@ pub(crate) fn change(keys: &mut Vec<Row>, order: &mut Vec<u32>, at: usize, key: 
     requires whole { AreKeys (slice_set keys.old.items at key) }
     ensures keys { keys.new.items ≡ slice_set keys.old.items at key }
     ensures index { IsIndexOf keys.new.items order.new.items }
+    ensures key_len { vec_len keys.new ≡ vec_len keys.old }
+    ensures key_capacity { vec_capacity keys.old ≤ vec_capacity keys.new }
+    ensures order_len { vec_len order.new ≡ vec_len order.old }
+    ensures order_capacity { vec_capacity order.old ≤ vec_capacity order.new }
 {
     leave(keys, order, at);
     keys[at] = key;
