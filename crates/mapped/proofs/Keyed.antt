@@ -20,7 +20,7 @@ use Rattle.mapped.specs.declared.error.MapError.TheVariants.{NoKeys, KeyIsView}
 use Rattle.mapped.specs.Keys.{keys_of, key_cmp, AscendByKey}
 use Rattle.mapped.specs.Refusals.{count_due, is_unordered, first_unordered}
 use Rattle.mapped.proofs.Finding.{find_none, find_first}
-use Rattle.mapped.proofs.Halving.{less_from}
+use Rattle.mapped.proofs.Searching.{less_from}
 use Rattle.mapped.proofs.Prefixes.{key_cmp_total}
 
 -- so many keys a schema can have

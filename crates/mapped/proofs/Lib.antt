@@ -1,6 +1,7 @@
+pub mod Coming
 mod Finding
 mod Following
-mod Halving
+mod Searching
 mod Keyed
 mod Lists
 mod Moving

@@ -58,6 +58,14 @@ impl HashIndex {
         }
     }
 
+    /// The number of rows.
+    pub fn len(&self) -> usize
+        ensures value { result ≡ length self.now.keys }
+        ensures whole { AreKeys self.now.keys }
+    {
+        self.keys.len()
+    }
+
     /// The row that has the key. It takes no memory.
     pub fn find(&self, key: &Row) -> Option<usize>
         ensures value { result ≡ row_of key.now self.now.keys }

@@ -8,6 +8,7 @@
 mod building;
 mod error;
 mod event;
+mod halving;
 mod hash_index;
 mod order;
 mod ordered;

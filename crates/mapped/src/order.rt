@@ -7,6 +7,7 @@ ghost use Rattle.mk_value.specs.Limits.{max_rows};
 ghost use Rattle.mapped.specs.Index.{AreKeys, row_of};
 ghost use Rattle.mapped.specs.Order.{AreOrdered, IsIndexOf, IsOrderOf, IsOrderWithout, closed, opened};
 
+use crate::halving::middle;
 use mk_value::Row;
 use relations::cmp_whole_row;
 
@@ -20,7 +21,7 @@ pub(crate) fn place_of(keys: &[Row], order: &[u32], key: &Row) -> usize
     let mut low = 0;
     let mut high = order.len();
     while low < high {
-        let middle = low + (high - low) / 2;
+        let middle = middle(low, high);
         if cmp_whole_row(&keys[order[middle] as usize], key).is_lt() {
             low = middle + 1;
         } else {

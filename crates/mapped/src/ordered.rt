@@ -6,6 +6,7 @@ ghost use Rattle.mapped.specs.Keys.{AscendByKey, IsKeyFor, IsLower, key_cmp, key
 ghost use Rattle.mapped.specs.Refusals.{count_due, first_unordered as first_unordered_of, ordered_due};
 
 use crate::MapError;
+use crate::halving::middle;
 use crate::probe::{KeyProbe, OverKeys, cmp_with_key};
 use mk_value::{Row, Schema, Steps, TableRead};
 use relations::lookup::is_view;
@@ -71,7 +72,7 @@ impl Ordered {
         let mut low = 0;
         let mut high = rows.size();
         while low < high {
-            let middle = low + (high - low) / 2;
+            let middle = middle(low, high);
             if rows.compare_key(middle, key, steps).is_lt() {
                 low = middle + 1;
             } else {
