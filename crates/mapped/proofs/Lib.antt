@@ -6,4 +6,5 @@ mod Keyed
 mod Lists
 mod Moving
 mod Prefixes
+mod Putting
 mod Sorting

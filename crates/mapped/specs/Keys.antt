@@ -1,5 +1,5 @@
 -- Keys: the first values of rows.
-use Rattle.std.specs.Prelude.{◌≡◌, ◌≢◌, ◌≤◌, ◌<◌, ℕ, pos, Bool, ◌&&◌, nat_lt, if◌then◌else◌, List, [], length, map, take, slice_index_or, count_by}
+use Rattle.std.specs.Prelude.{◌≡◌, ◌≢◌, ◌≤◌, ◌<◌, ℕ, pos, Bool, ◌&&◌, nat_lt, if◌then◌else◌, List, [], length, map, take, insert, slice_set, slice_index_or, count_by}
 use Rattle.std.specs.declared.cmp.Ordering.{Ordering}
 use Rattle.std.specs.declared.cmp.Ordering.TheVariants.{Less}
 use Rattle.std.specs.Ordering.{is_lt, is_eq}
@@ -50,3 +50,8 @@ has_key key rows at = nat_lt at (length rows) && is_eq (row_to_key (slice_index_
 -- where a row of this key is put: in the place of the row that has the key, or else behind the rows whose keys are less
 abbrev pub put_of : List Datum → List (List Datum) → Put
 put_of key rows = let at = rows_below key rows in if has_key key rows at then Replace at else Insert at
+
+-- rows into which one is put
+abbrev pub after_put : Put → List Datum → List (List Datum) → List (List Datum)
+after_put (Replace at) row rows = slice_set rows at row
+after_put (Insert at) row rows = insert rows at row

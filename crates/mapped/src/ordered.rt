@@ -1,8 +1,9 @@
 //! Rows that stand in the order of their keys.
-ghost use Rattle.std.specs.Prelude.{◌≡◌, ◌<◌, ◌≤◌, ◌+◌, ◌-◌, ◌*◌, ◌^◌, ◌&&◌, [], ℕ, nat_lt, length, take, slice_index_or, IfOk, None};
+ghost use Rattle.std.specs.Prelude.{◌≡◌, ◌<◌, ◌≤◌, ◌+◌, ◌-◌, ◌*◌, ◌^◌, ◌&&◌, [], ℕ, List, nat_lt, length, take, slice_index_or, IfOk, None};
 ghost use Rattle.std.specs.Result.{result_err};
 ghost use Rattle.std.specs.Ordering.{is_eq};
-ghost use Rattle.mapped.specs.Keys.{AscendByKey, IsKeyFor, IsLower, key_cmp, keys_of, put_of, row_to_key, rows_below};
+ghost use Rattle.mk_value.specs.Data.{Datum};
+ghost use Rattle.mapped.specs.Keys.{AscendByKey, after_put, IsKeyFor, IsLower, key_cmp, keys_of, put_of, row_to_key, rows_below};
 ghost use Rattle.mapped.specs.Refusals.{count_due, first_unordered as first_unordered_of, ordered_due};
 
 use crate::MapError;
@@ -88,7 +89,9 @@ impl Ordered {
         requires key { IsKeyFor (T.schema rows.now) key.now }
         requires some { 0 < length key.now }
         requires full { length key.now ≡ self.now }
-        ensures { result ≡ put_of key.now (T.rows rows.now) }
+        ensures place { result ≡ put_of key.now (T.rows rows.now) }
+        // With any row of this key put there the rows ascend again.
+        ensures ascends { (row : List Datum) → take self.now row ≡ key.now → AscendByKey self.now (after_put result row (T.rows rows.now)) }
     {
         let at = lower_uncounted::<Brand, T>(self, rows, key, Blank::new(1));
         if has_key(rows, key, at) {
@@ -113,7 +116,8 @@ fn lower_uncounted<L: Ledger, T: TableRead>(
     requires name { blank.name ≡ L.name }
     requires parts { blank.parts ≡ L.parts }
     requires share { 0 < blank.parts }
-    ensures { result ≡ rows_below key.now (T.rows rows.now) }
+    ensures place { IsLower key.now (T.rows rows.now) result }
+    ensures count { result ≡ rows_below key.now (T.rows rows.now) }
 {
     let mut steps = Steps::<L>::new(blank);
     ordered.lower(&OverKeys { rows }, key, &mut steps)
