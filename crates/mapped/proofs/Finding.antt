@@ -1,8 +1,8 @@
 -- The first element of a list, or number below another, that passes a test.
-use Rattle.std.proofs.Common.{◌≡◌, ◌≢◌, ℕ, zero, suc, ◌<◌, ◌≤◌, Bool, true, false, cond, nat_lt, List, [], ◌∷◌, ◌++◌, length, get_or, Option, Some, None, refl, ap, sym, ◌∙◌, arith, inl, inr}
+use Rattle.std.proofs.Common.{◌≡◌, ◌≢◌, ℕ, zero, suc, ◌<◌, Bool, true, false, cond, nat_lt, List, [], ◌∷◌, length, get_or, Some, None, refl, ap, sym, ◌∙◌, arith, inl, inr}
 use Rattle.std.specs.List.{position, position_or_len, find}
 use Rattle.std.specs.Option.{option_or}
-use Rattle.std.proofs.lemmas.Bool.{cases_lt, cases_eq, lt-ltb, le-ltb}
+use Rattle.std.proofs.lemmas.Bool.{cases_eq, lt-ltb, le-ltb}
 use Rattle.std.proofs.lemmas.List.Sums.{position_or_len_is}
 use Rattle.std.proofs.lemmas.List.Folds.{find-append}
 use Rattle.mk_value.specs.Data.{Datum}

@@ -1,5 +1,5 @@
 -- The keys of rows over an event.
-use Rattle.std.proofs.Common.{◌≡◌, ◌<◌, ◌≤◌, ℕ, zero, suc, List, [], ◌∷◌, ◌++◌, length, get_or, set, map, take, drop, Option, Some, None, refl, ap, sym, ◌∙◌, arith}
+use Rattle.std.proofs.Common.{◌≡◌, ℕ, zero, suc, List, [], ◌∷◌, ◌++◌, get_or, set, map, take, drop, Option, Some, refl, ap, sym, ◌∙◌}
 use Rattle.std.specs.List.{insert, remove}
 use Rattle.std.proofs.lemmas.List.{map-append, take-map, drop-map, get_or-set_same}
 use Rattle.std.proofs.lemmas.List.Edits.{get_or-insert_at}

@@ -1,11 +1,11 @@
 -- The keys of rows: how many a schema may have, and where they stand in order.
-use Rattle.std.proofs.Common.{◌≡◌, ◌≢◌, ◌⊎◌, ℕ, zero, suc, ◌+◌, ◌-◌, ◌<◌, ◌≤◌, ◌==◌, ◌||◌, ◌&&◌, not, cond, nat_lt, Bool, true, false, List, [], ◌∷◌, length, get_or, map, take, Option, Some, None, refl, ap, sym, subst, ◌∙◌, arith, inl, inr}
-use Rattle.std.specs.List.{All, AllPairs, list_any, find}
+use Rattle.std.proofs.Common.{◌≡◌, ℕ, zero, suc, ◌+◌, ◌-◌, ◌<◌, ◌≤◌, ◌==◌, ◌||◌, ◌&&◌, not, cond, nat_lt, Bool, true, false, List, [], length, get_or, take, Some, None, refl, ap, sym, ◌∙◌, arith, inl, inr}
+use Rattle.std.specs.List.{list_any}
 use Rattle.std.specs.Option.{option_map}
 use Rattle.std.specs.declared.cmp.Ordering.{Ordering}
-use Rattle.std.specs.declared.cmp.Ordering.TheVariants.{Less, Equal, Greater}
+use Rattle.std.specs.declared.cmp.Ordering.TheVariants.{Less}
 use Rattle.std.specs.Ordering.{is_lt}
-use Rattle.std.proofs.lemmas.Bool.{cases_lt, cases_eq, false≢true, lt-ltb, ltb-false, eqb-true}
+use Rattle.std.proofs.lemmas.Bool.{cases_lt, false≢true, lt-ltb, ltb-false}
 use Rattle.std.proofs.lemmas.List.{length-map, get_or-map, get_or-take, length-take-le, get_or_default}
 use Rattle.std.proofs.lemmas.List.Folds.{list_any_at}
 use Rattle.mk_value.specs.Heading.{Domain, Attribute}
@@ -15,7 +15,6 @@ use Rattle.relations.specs.Fitting.{is_view}
 use Rattle.relations.specs.Positions.{numbers}
 use Rattle.relations.proofs.Faults.{none_refused}
 use Rattle.relations.proofs.Numbers.{numbers_at, length-numbers}
-use Rattle.mapped.specs.declared.error.MapError.{MapError}
 use Rattle.mapped.specs.declared.error.MapError.TheVariants.{NoKeys, KeyIsView}
 use Rattle.mapped.specs.Keys.{keys_of, key_cmp, AscendByKey}
 use Rattle.mapped.specs.Refusals.{count_due, is_unordered, first_unordered}

@@ -1,5 +1,5 @@
 -- Rows in the order of their keys stay so where one is put in by its key.
-use Rattle.std.proofs.Common.{◌≡◌, ◌≢◌, ℕ, suc, ◌+◌, ◌-◌, ◌<◌, ◌≤◌, ◌&&◌, Bool, true, false, nat_lt, if◌then◌else◌, List, [], length, get_or, set, take, refl, ap, sym, subst, ◌∙◌, arith, inl, inr}
+use Rattle.std.proofs.Common.{◌≡◌, ◌≢◌, ℕ, ◌+◌, ◌-◌, ◌<◌, ◌≤◌, ◌&&◌, Bool, true, false, nat_lt, List, [], length, get_or, set, take, refl, ap, sym, ◌∙◌, arith, inl, inr}
 use Rattle.std.specs.List.{insert}
 use Rattle.std.specs.declared.cmp.Ordering.{Ordering}
 use Rattle.std.specs.declared.cmp.Ordering.TheVariants.{Less, Equal, Greater}
@@ -8,9 +8,7 @@ use Rattle.std.proofs.lemmas.Bool.{cases_lt, cases_eq, ltb-true, lt-ltb}
 use Rattle.std.proofs.lemmas.List.{get_or_default, get_or-set_same, get_or-set_other, length-set}
 use Rattle.std.proofs.lemmas.List.Edits.{length-insert, get_or-insert_below, get_or-insert_at, get_or-insert_above}
 use Rattle.mk_value.specs.Data.{Datum}
-use Rattle.mapped.specs.declared.ordered.Put.{Put}
-use Rattle.mapped.specs.declared.ordered.Put.TheVariants.{Replace, Insert}
-use Rattle.mapped.specs.Keys.{key_cmp, row_to_key, AscendByKey, IsLower, has_key, put_of, rows_below, after_put}
+use Rattle.mapped.specs.Keys.{key_cmp, row_to_key, AscendByKey, IsLower, has_key}
 use Rattle.mapped.proofs.Prefixes.{key_cmp_total}
 
 -- the greater of two, seen from the other side

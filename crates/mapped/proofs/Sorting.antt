@@ -1,17 +1,17 @@
 -- Positions sorted by the keys that stand there, and keys that stood before.
-use Rattle.std.proofs.Common.{◌≡◌, ◌≢◌, ◌⊎◌, ℕ, zero, suc, ◌+◌, ◌-◌, ◌<◌, ◌≤◌, min, Bool, true, false, eqb, List, [], ◌∷◌, length, get_or, map, take, Option, Some, None, IsPermutation, All, refl, ap, sym, subst, ◌∙◌, arith, inl, inr}
-use Rattle.std.specs.List.{AllPairs, Contains, list_any}
+use Rattle.std.proofs.Common.{◌≡◌, ◌≢◌, ℕ, ◌+◌, ◌-◌, ◌<◌, ◌≤◌, min, Bool, true, false, eqb, List, [], length, get_or, take, Option, Some, None, IsPermutation, refl, ap, sym, subst, ◌∙◌, arith, inl, inr}
+use Rattle.std.specs.List.{AllPairs}
 use Rattle.std.specs.List.Sorted.{IsSortedBy}
 use Rattle.std.specs.declared.cmp.Ordering.{Ordering}
 use Rattle.std.specs.declared.cmp.Ordering.TheVariants.{Less, Equal, Greater}
-use Rattle.std.specs.Ordering.{is_lt, is_eq, nat_cmp, ordering_then, ordering_reverse, on, then_cmp}
+use Rattle.std.specs.Ordering.{is_lt, is_eq, nat_cmp, ordering_then, ordering_reverse}
 use Rattle.std.specs.Cmp.{IsTotalOrder, IsStrictWeakOrder, nat_cmp_total, then_total, on_total, nat_eq_equiv}
 use Rattle.std.proofs.lemmas.Bool.{cases_lt, cases_eq, false≢true}
 use Rattle.std.proofs.lemmas.Bool.Decides.{Decides-eqb}
 use Rattle.std.proofs.lemmas.Cmp.{ranked, tied_itself}
 use Rattle.std.proofs.lemmas.List.{length-take-le, get_or-take, get_or_default}
 use Rattle.std.proofs.lemmas.List.Folds.{list_any_at, Any-from_list_any}
-use Rattle.std.proofs.lemmas.List.Sorted.{ranks_by, sorted_far, IsPermutation-sym, Contains-permutation, All-permutation, length_permutation}
+use Rattle.std.proofs.lemmas.List.Sorted.{ranks_by, sorted_far, Contains-permutation, All-permutation}
 use Rattle.std.proofs.lemmas.Map.Made.{AllPairs-from_IsDistinct, IsDistinct-from_AllPairs}
 use Rattle.std.proofs.lemmas.Map.Keys.{IsDistinct-IsPermutation}
 use Rattle.mk_value.specs.Data.{Datum}
@@ -19,10 +19,9 @@ use Rattle.relations.specs.Equality.{same_row}
 use Rattle.relations.specs.Positions.{numbers, place_cmp}
 use Rattle.relations.specs.WholeOrder.{whole_row_cmp}
 use Rattle.relations.specs.OrderLaws.{whole_row_cmp_total, whole_row_ties}
-use Rattle.relations.proofs.Ascending.{place_of, in_from_contains, not_less, less_nat, only_less}
+use Rattle.relations.proofs.Ascending.{place_of, in_from_contains, not_less, only_less}
 use Rattle.relations.proofs.Equal.{rows_equal, same_from_equal}
 use Rattle.relations.proofs.Numbers.{numbers_at, numbers_below, length-numbers}
-use Rattle.mapped.specs.Index.{AreKeys}
 use Rattle.mapped.specs.Order.{IsSortOf, IsOrderOf, least}
 use Rattle.mapped.specs.Refusals.{is_repeated, first_repeated}
 use Rattle.mapped.proofs.Finding.{find_none, find_first}

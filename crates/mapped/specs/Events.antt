@@ -1,5 +1,5 @@
 -- Events: a row comes, goes or changes.
-use Rattle.std.specs.Prelude.{◌≡◌, ◌<◌, ◌≤◌, ℕ, List, [], length, map, take, insert, remove, slice_set, slice_index_or, Option, Some, None, IsSome}
+use Rattle.std.specs.Prelude.{◌≡◌, ◌<◌, ◌≤◌, ℕ, List, [], length, take, insert, remove, slice_set, slice_index_or, Option, Some, None, IsSome}
 use Rattle.mk_value.specs.Data.{Datum}
 use Rattle.mapped.specs.declared.event.Event.{Event}
 use Rattle.mapped.specs.declared.event.Event.TheVariants.{Insert, Remove, Change}

@@ -1,6 +1,5 @@
-use Rattle.std.proofs.Common.{◌≡◌, ◌≢◌, ℕ, [], List, get_or, ap, sym, subst, ◌∙◌}
+use Rattle.std.proofs.Common.{ℕ, [], List, get_or, ap, sym, subst, ◌∙◌}
 use Rattle.std.specs.List.{insert}
-use Rattle.std.specs.declared.cmp.Ordering.TheVariants.{Less}
 use Rattle.std.proofs.lemmas.List.{get_or_default}
 use Rattle.relations.specs.WholeOrder.{whole_row_cmp}
 use Rattle.mapped.specs.Order.{IsOrderOf, IsOrderWithout}

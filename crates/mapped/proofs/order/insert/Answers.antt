@@ -1,4 +1,4 @@
-use Rattle.std.proofs.Common.{◌≡◌, ℕ, List, length, map, take, drop, ◌++◌, ap, sym, subst, ◌∙◌, arith}
+use Rattle.std.proofs.Common.{ℕ, List, length, map, take, drop, ◌++◌, ap, sym, subst, ◌∙◌}
 use Rattle.std.specs.List.{insert}
 use Rattle.std.proofs.lemmas.List.{length-map}
 use Rattle.mk_value.specs.Data.{Datum}

@@ -1,6 +1,6 @@
-use Rattle.std.proofs.Common.{◌≡◌, ◌+◌, ◌<◌, ◌≤◌, ℕ, [], List, length, get_or, take, drop, pos, ap, sym, ◌∙◌, arith}
+use Rattle.std.proofs.Common.{◌<◌, ℕ, [], get_or, take, pos, ap, sym, ◌∙◌, arith}
 use Rattle.std.proofs.lemmas.List.{get_or-take, length-take-le}
-use Rattle.mk_value.specs.Data.{Datum, integer}
+use Rattle.mk_value.specs.Data.{integer}
 use Rattle.mk_value.specs.Order.{value_cmp}
 use Rattle.relations.proofs.Cells.{row_length}
 use Rattle.mapped.proofs.Keyed.{count_from, plain_at}

@@ -1,5 +1,4 @@
-use Rattle.std.proofs.Common.{◌≡◌, ◌<◌, ℕ, not, true, false, ap, sym, ◌∙◌, arith}
-use Rattle.std.specs.Ordering.{is_lt}
+use Rattle.std.proofs.Common.{not, ap, sym, ◌∙◌, arith}
 use Rattle.mapped.proofs.Keyed.{unordered_at, unordered_first, unordered_none}
 use Rattle.mapped.proofs.ordered.first_unordered.Goals as goal
 

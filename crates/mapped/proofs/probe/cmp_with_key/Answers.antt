@@ -1,10 +1,4 @@
-use Rattle.std.proofs.Common.{◌≡◌, ◌+◌, ◌<◌, ◌≤◌, ℕ, [], List, length, get_or, map, take, drop, pos, ap, sym, ◌∙◌, arith}
-use Rattle.std.specs.declared.cmp.Ordering.{Ordering}
-use Rattle.std.proofs.lemmas.List.{get_or-take, length-take-le, get_or-map, length-map}
-use Rattle.mk_value.specs.Data.{Datum, integer, cell}
-use Rattle.mk_value.specs.Order.{value_cmp}
-use Rattle.mk_value.specs.Values.{datum_of}
-use Rattle.mk_value.specs.declared.value.Value.{Value}
+use Rattle.std.proofs.Common.{ℕ, [], length, get_or, take, sym, ◌∙◌, arith}
 use Rattle.mapped.proofs.Prefixes.{beside}
 use Rattle.relations.proofs.Cells.{row_length}
 use Rattle.mapped.proofs.Prefixes.{decides, ties}

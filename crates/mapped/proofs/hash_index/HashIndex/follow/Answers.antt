@@ -1,6 +1,6 @@
-use Rattle.std.proofs.Common.{◌≡◌, ap, sym, ◌∙◌, List}
+use Rattle.std.proofs.Common.{ap, sym, ◌∙◌, List}
 use Rattle.std.specs.List.{insert, remove}
-use Rattle.std.proofs.Common.{set, None}
+use Rattle.std.proofs.Common.{set}
 use Rattle.mk_value.specs.Data.{Datum}
 use Rattle.mapped.specs.declared.event.Event.TheVariants.{Insert, Change}
 use Rattle.mapped.specs.Events.{keys_after}

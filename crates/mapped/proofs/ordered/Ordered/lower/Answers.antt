@@ -1,7 +1,5 @@
-use Rattle.std.proofs.Common.{◌≡◌, ◌+◌, ◌-◌, ◌<◌, ◌≤◌, ℕ, true, false, [], length, get_or, ap, sym, ◌∙◌, arith}
-use Rattle.std.specs.declared.cmp.Ordering.{Ordering}
+use Rattle.std.proofs.Common.{◌≡◌, ◌+◌, ◌-◌, ◌<◌, ℕ, true, false, [], length, get_or, ap, sym, ◌∙◌, arith}
 use Rattle.std.specs.Ordering.{is_lt}
-use Rattle.mk_value.specs.Data.{Datum}
 use Rattle.relations.proofs.Halving.{count_front}
 use Rattle.mapped.specs.Keys.{row_to_key}
 use Rattle.mapped.proofs.Searching.{below_more, from_more, halved, no_less}

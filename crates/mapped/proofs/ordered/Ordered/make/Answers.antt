@@ -1,4 +1,4 @@
-use Rattle.std.proofs.Common.{◌≡◌, None, sym, ◌∙◌}
+use Rattle.std.proofs.Common.{sym, ◌∙◌}
 use Rattle.mapped.proofs.Keyed.{ascend_from}
 use Rattle.mapped.proofs.ordered.Ordered.make.Goals as goal
 
