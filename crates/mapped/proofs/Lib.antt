@@ -1,4 +1,4 @@
-pub mod Coming
+pub mod Calling
 mod Finding
 mod Following
 mod Searching

@@ -10,30 +10,28 @@ const PAIRS: &str = "h[k:I,v:S]";
 
 const NESTED: &str = "n[k:I,v[x:I],w:I]";
 
-/// A table, a number of keys, and what an index and an ordered view of it are answered. Worked by hand.
-const CASES: [(Source, usize, &str, &str); 12] = [
-    ((PAIRS, "{}"), 0, "no keys", "no keys"),
-    ((PAIRS, "{}"), 3, "no keys", "no keys"),
-    ((PAIRS, "{}"), 2, "ok", "ok"),
-    ((PAIRS, r#"{(2,"a"),(1,"b")}"#), 1, "ok", "keys 1"),
-    ((PAIRS, r#"{(1,"b"),(2,"a")}"#), 1, "ok", "ok"),
-    ((PAIRS, r#"{(2,"c"),(2,"d")}"#), 1, "keys 1", "keys 1"),
-    ((PAIRS, r#"{(2,"c"),(2,"d")}"#), 2, "ok", "ok"),
-    (
-        (PAIRS, r#"{(3,""),(2,""),(3,""),(2,"")}"#),
-        1,
-        "keys 2",
-        "keys 1",
-    ),
-    (
-        (PAIRS, r#"{(9,""),(7,""),(7,""),(9,""),(7,"")}"#),
-        1,
-        "keys 2",
-        "keys 1",
-    ),
-    ((NESTED, "{(1,{},1),(1,{},1)}"), 2, "view", "view"),
-    ((NESTED, "{(1,{},1),(1,{},1)}"), 3, "view", "view"),
-    ((NESTED, "{(1,{},1),(2,{},1)}"), 1, "ok", "ok"),
+/// A table, a number of keys, and what an index and an ordered view of it are answered.
+struct Case {
+    rows: Source,
+    keys: usize,
+    hashed: &'static str,
+    ordered: &'static str,
+}
+
+/// Worked by hand.
+const CASES: [Case; 12] = [
+    Case { rows: (PAIRS, "{}"), keys: 0, hashed: "no keys", ordered: "no keys" },
+    Case { rows: (PAIRS, "{}"), keys: 3, hashed: "no keys", ordered: "no keys" },
+    Case { rows: (PAIRS, "{}"), keys: 2, hashed: "ok", ordered: "ok" },
+    Case { rows: (PAIRS, r#"{(2,"a"),(1,"b")}"#), keys: 1, hashed: "ok", ordered: "keys 1" },
+    Case { rows: (PAIRS, r#"{(1,"b"),(2,"a")}"#), keys: 1, hashed: "ok", ordered: "ok" },
+    Case { rows: (PAIRS, r#"{(2,"c"),(2,"d")}"#), keys: 1, hashed: "keys 1", ordered: "keys 1" },
+    Case { rows: (PAIRS, r#"{(2,"c"),(2,"d")}"#), keys: 2, hashed: "ok", ordered: "ok" },
+    Case { rows: (PAIRS, r#"{(3,""),(2,""),(3,""),(2,"")}"#), keys: 1, hashed: "keys 2", ordered: "keys 1" },
+    Case { rows: (PAIRS, r#"{(9,""),(7,""),(7,""),(9,""),(7,"")}"#), keys: 1, hashed: "keys 2", ordered: "keys 1" },
+    Case { rows: (NESTED, "{(1,{},1),(1,{},1)}"), keys: 2, hashed: "view", ordered: "view" },
+    Case { rows: (NESTED, "{(1,{},1),(1,{},1)}"), keys: 3, hashed: "view", ordered: "view" },
+    Case { rows: (NESTED, "{(1,{},1),(2,{},1)}"), keys: 1, hashed: "ok", ordered: "ok" },
 ];
 
 /// What a mapping is answered.
@@ -49,12 +47,14 @@ fn told<T>(alloc: Global, answer: &Result<T, MapError>) -> Result<String, Fail> 
 
 #[test]
 fn a_view_is_mapped_by_distinct_keys(rt: HostRuntime) -> Result<(), Fail> {
-    for (source, keys, hashed, ordered) in CASES.iter() {
-        let rows = table(rt.alloc(), source)?;
-        let answer = told(rt.alloc(), &HashIndex::make(rt.alloc(), &rows, *keys))?;
-        assert_eq!(rt; answer.as_str(), *hashed, "an index of {}", source.1);
-        let answer = told(rt.alloc(), &Ordered::make(&rows, *keys))?;
-        assert_eq!(rt; answer.as_str(), *ordered, "in order {}", source.1);
+    for case in CASES.iter() {
+        let rows = table(rt.alloc(), &case.rows)?;
+        let index = HashIndex::make(rt.alloc(), &rows, case.keys);
+        let hashed = told(rt.alloc(), &index)?;
+        assert_eq!(rt; hashed.as_str(), case.hashed, "an index of {}", case.rows.1);
+        let mapping = Ordered::make(&rows, case.keys);
+        let ordered = told(rt.alloc(), &mapping)?;
+        assert_eq!(rt; ordered.as_str(), case.ordered, "in order {}", case.rows.1);
     }
     Ok(())
 }

@@ -1,14 +1,21 @@
--- When keys stay distinct over an event: what a caller of `follow` has to show.
-use Rattle.std.proofs.Common.{◌≡◌, ◌≢◌, ℕ, ◌+◌, ◌-◌, ◌<◌, ◌≤◌, List, [], length, get_or, set, Some, Contains, ap, sym, ◌∙◌, arith, inl, inr}
+-- What callers have to show: that keys stay distinct over an event, and that the first values of a row are a key.
+use Rattle.std.proofs.Common.{◌≡◌, ◌≢◌, ℕ, ◌+◌, ◌-◌, ◌<◌, ◌≤◌, List, [], length, get_or, set, take, pos, None, Some, Contains, ap, sym, subst, ◌∙◌, arith, inl, inr}
 use Rattle.std.specs.List.{insert, remove, slice_get}
 use Rattle.std.proofs.lemmas.Bool.{cases_lt, cases_eq}
-use Rattle.std.proofs.lemmas.List.{get_or_default, get_or-set_same, get_or-set_other, length-set}
+use Rattle.std.proofs.lemmas.List.{get_or_default, get_or-set_same, get_or-set_other, length-set, get_or-take, length-take-le}
 use Rattle.std.proofs.lemmas.List.Edits.{length-insert, length-remove, get_or-insert_below, get_or-insert_at, get_or-insert_above, get_or-remove_below, get_or-remove_above}
 use Rattle.std.proofs.lemmas.Option.{slice_get-get_or}
-use Rattle.mk_value.specs.Data.{Datum}
+use Rattle.mk_value.specs.Data.{Datum, integer, IsRowOf}
+use Rattle.mk_value.specs.Heading.{Attribute}
+use Rattle.mk_value.specs.Tables.{IsComparable, domain_at}
+use Rattle.relations.proofs.Cells.{comparable, value_fits}
 use Rattle.mk_value.specs.Limits.{max_rows}
+use Rattle.mk_value.proofs.Relations.{row_fits_length}
 use Rattle.mapped.specs.Index.{AreKeys}
-use Rattle.mapped.proofs.Moving.{keys_apart}
+use Rattle.mapped.specs.Keys.{IsKeyFor}
+use Rattle.mapped.specs.Refusals.{count_due}
+use Rattle.mapped.proofs.Keyed.{count_from, plain_at}
+use Rattle.mapped.proofs.Moving.{keys_apart, fewer}
 
 -- a key that no row has comes in
 module _ (keys : List (List Datum)) (at : ℕ) (key : List Datum) (whole : AreKeys keys) (there : at ≤ length keys) (few : length keys < max_rows) (away : Contains keys key → ⊥) where
@@ -92,3 +99,22 @@ module _ (keys : List (List Datum)) (at : ℕ) (key : List Datum) (whole : AreKe
         | inr past ↦
             others_of_found found (k + 1) (omega arith) (let ne : k + 1 ≢ at = λ s. absurd (omega arith) in ne) (sym (get_or-remove_above keys at [] k (omega arith) there) ∙ e)
       ]
+
+-- a row goes
+pub go_out : (keys : List (List Datum)) (at : ℕ) → at < length keys → AreKeys keys → AreKeys (remove keys at)
+go_out = fewer
+
+-- the first values of a row of the schema are a key, if there may be so many keys
+pub key_of_row : (count : ℕ) (schema : List Attribute) (row : List Datum) → IsRowOf row schema → count_due count schema ≡ None → IsKeyFor schema (take count row)
+key_of_row count schema row fits none =
+    let h = count_from count schema none in
+    let long : length row ≡ length schema = row_fits_length row schema fits in
+    let cut : length (take count row) ≡ count = length-take-le count row (omega (arith, h.few)) in
+    record {
+      few = omega (arith, h.few);
+      comparable = λ i p.
+          let q : i < count = omega arith in
+          let inside : i < length schema = omega (arith, h.few) in
+          subst (λ d. IsComparable d (domain_at schema i)) (sym (get_or-take count row i (integer (pos 0)) q))
+          (comparable (get_or row i (integer (pos 0))) (domain_at schema i) (value_fits row schema i fits inside) (plain_at count schema h i q));
+    }
