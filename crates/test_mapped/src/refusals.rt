@@ -20,18 +20,78 @@ struct Case {
 
 /// Worked by hand.
 const CASES: [Case; 12] = [
-    Case { rows: (PAIRS, "{}"), keys: 0, hashed: "no keys", ordered: "no keys" },
-    Case { rows: (PAIRS, "{}"), keys: 3, hashed: "no keys", ordered: "no keys" },
-    Case { rows: (PAIRS, "{}"), keys: 2, hashed: "ok", ordered: "ok" },
-    Case { rows: (PAIRS, r#"{(2,"a"),(1,"b")}"#), keys: 1, hashed: "ok", ordered: "keys 1" },
-    Case { rows: (PAIRS, r#"{(1,"b"),(2,"a")}"#), keys: 1, hashed: "ok", ordered: "ok" },
-    Case { rows: (PAIRS, r#"{(2,"c"),(2,"d")}"#), keys: 1, hashed: "keys 1", ordered: "keys 1" },
-    Case { rows: (PAIRS, r#"{(2,"c"),(2,"d")}"#), keys: 2, hashed: "ok", ordered: "ok" },
-    Case { rows: (PAIRS, r#"{(3,""),(2,""),(3,""),(2,"")}"#), keys: 1, hashed: "keys 2", ordered: "keys 1" },
-    Case { rows: (PAIRS, r#"{(9,""),(7,""),(7,""),(9,""),(7,"")}"#), keys: 1, hashed: "keys 2", ordered: "keys 1" },
-    Case { rows: (NESTED, "{(1,{},1),(1,{},1)}"), keys: 2, hashed: "view", ordered: "view" },
-    Case { rows: (NESTED, "{(1,{},1),(1,{},1)}"), keys: 3, hashed: "view", ordered: "view" },
-    Case { rows: (NESTED, "{(1,{},1),(2,{},1)}"), keys: 1, hashed: "ok", ordered: "ok" },
+    Case {
+        rows: (PAIRS, "{}"),
+        keys: 0,
+        hashed: "no keys",
+        ordered: "no keys",
+    },
+    Case {
+        rows: (PAIRS, "{}"),
+        keys: 3,
+        hashed: "no keys",
+        ordered: "no keys",
+    },
+    Case {
+        rows: (PAIRS, "{}"),
+        keys: 2,
+        hashed: "ok",
+        ordered: "ok",
+    },
+    Case {
+        rows: (PAIRS, r#"{(2,"a"),(1,"b")}"#),
+        keys: 1,
+        hashed: "ok",
+        ordered: "keys 1",
+    },
+    Case {
+        rows: (PAIRS, r#"{(1,"b"),(2,"a")}"#),
+        keys: 1,
+        hashed: "ok",
+        ordered: "ok",
+    },
+    Case {
+        rows: (PAIRS, r#"{(2,"c"),(2,"d")}"#),
+        keys: 1,
+        hashed: "keys 1",
+        ordered: "keys 1",
+    },
+    Case {
+        rows: (PAIRS, r#"{(2,"c"),(2,"d")}"#),
+        keys: 2,
+        hashed: "ok",
+        ordered: "ok",
+    },
+    Case {
+        rows: (PAIRS, r#"{(3,""),(2,""),(3,""),(2,"")}"#),
+        keys: 1,
+        hashed: "keys 2",
+        ordered: "keys 1",
+    },
+    Case {
+        rows: (PAIRS, r#"{(9,""),(7,""),(7,""),(9,""),(7,"")}"#),
+        keys: 1,
+        hashed: "keys 2",
+        ordered: "keys 1",
+    },
+    Case {
+        rows: (NESTED, "{(1,{},1),(1,{},1)}"),
+        keys: 2,
+        hashed: "view",
+        ordered: "view",
+    },
+    Case {
+        rows: (NESTED, "{(1,{},1),(1,{},1)}"),
+        keys: 3,
+        hashed: "view",
+        ordered: "view",
+    },
+    Case {
+        rows: (NESTED, "{(1,{},1),(2,{},1)}"),
+        keys: 1,
+        hashed: "ok",
+        ordered: "ok",
+    },
 ];
 
 /// What a mapping is answered.
