@@ -1,0 +1,10 @@
+pub mod Calling
+mod Finding
+mod Following
+mod Searching
+mod Keyed
+mod Lists
+mod Moving
+mod Prefixes
+mod Putting
+mod Sorting

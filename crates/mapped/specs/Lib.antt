@@ -1,0 +1,5 @@
+pub mod Events
+pub mod Index
+pub mod Keys
+pub mod Order
+pub mod Refusals
