@@ -16,7 +16,7 @@ use std::marker::Model;
 
 /// An index that finds the row of a key. It keeps the keys of all rows, in the rows' order, and contracts see these.
 ///
-/// Beside the keys it keeps the positions of the rows in the order of their keys. A key is found by halving, so by no more comparisons
+/// Beside the keys it keeps the positions of the rows in the order of their keys. A key is found by halving, so with one comparison more
 /// than the number of rows has binary digits, whichever keys strangers choose: there is no hash that they could make collide.
 #[derive(Debug, Drop)]
 pub struct HashIndex {
