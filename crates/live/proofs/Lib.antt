@@ -1,0 +1,14 @@
+pub mod Along
+pub mod Chaining
+pub mod Digits
+pub mod Following
+pub mod Members
+pub mod Noting
+pub mod Ops
+pub mod Parts
+pub mod Picks
+pub mod Placing
+pub mod Searching
+pub mod Seeing
+pub mod Standing
+pub mod Turning

@@ -1,0 +1,17 @@
+-- Watches by their numbers.
+use Rattle.std.specs.Prelude.{◌<◌, ◌==◌, ◌≡◌, ℕ, Bool, true, false, List, length}
+use Rattle.std.specs.List.{list_any, position_or_len}
+use Rattle.live.specs.States.{WatchState}
+
+-- the place of the watch of a number, or the number of watches where there is none
+abbrev pub place_of : List WatchState → ℕ → ℕ
+place_of watches number = position_or_len (λ w. w.number == number) watches
+
+-- a watch has the number
+abbrev pub is_taken : List WatchState → ℕ → Bool
+is_taken watches number = list_any (λ w. w.number == number) watches
+
+-- the least number that no watch has
+pub record IsLeastFree (watches : List WatchState) (number : ℕ) : Type 0 where
+  pub free : is_taken watches number ≡ false
+  pub least : (n : ℕ) → n < number → is_taken watches n ≡ true
