@@ -26,7 +26,7 @@ rows_moved : (schema : List Attribute) (op : WatchOp) (rows : List (List Datum))
 rows_moved schema op rows p there [] h = refl
 rows_moved schema op rows p there (k ∷ ks) h =
     let one = h k (inl refl) in
-    ap (λ y. y ∷ rows_at (remove rows p) (map (closed p) ks)) (row_closed (passes schema op) (order schema op) (op_total schema op) [] rows p there k one.1 one.0)
+    ap (λ y. y ∷ rows_at (remove rows p) (map (closed p) ks)) (row_closed [] rows p there k one.1 one.0)
     ∙ ap (λ ys. get_or rows k [] ∷ ys) (rows_moved schema op rows p there ks (λ j q. h j (inr q)))
 
 -- a watch of what is left has what is left of the watch

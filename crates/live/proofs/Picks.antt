@@ -102,6 +102,25 @@ module _ {X : Type 0} where
       | inr b ↦ not_less total z (subst (λ w. cmp z w ≡ Less) e (each_in (λ y. cmp z y ≡ Less) ys x (ascends_right xs (z ∷ ys) up).0 b))
     ]
 
+-- the rows without one, by the places of all
+module _ {X : Type 0} (d : X) (rows : List X) (p : ℕ) (within : p < length rows) where
+  pub row_closed : (k : ℕ) → k ≢ p → k < length rows → get_or (remove rows p) (closed p k) d ≡ get_or rows k d
+  row_closed k ne q = elim (cases_lt k p) [
+    | inl below ↦ ap (λ j. get_or (remove rows p) j d) (closed_below p k below) ∙ get_or-remove_below rows p d k below within
+    | inr above ↦
+        let far : p < k = omega arith in
+        ap (λ j. get_or (remove rows p) j d) (closed_above p k far) ∙ get_or-remove_above rows p d (k - 1) (omega arith) within ∙ ap (λ j. get_or rows j d) (let e : k - 1 + 1 ≡ k = omega arith in e)
+  ]
+
+  closed_in : (k : ℕ) → k ≢ p → k < length rows → closed p k < length (remove rows p)
+  closed_in k ne q = let e = length-remove rows p within in grind (arith, nat_tests)
+
+  opened_in : (k : ℕ) → k < length (remove rows p) → opened p k < length rows
+  opened_in k q = let e = length-remove rows p within in grind (arith, nat_tests)
+
+  row_opened : (k : ℕ) → k < length (remove rows p) → get_or rows (opened p k) d ≡ get_or (remove rows p) k d
+  row_opened k q = sym (row_closed (opened p k) (opened_apart p k) (opened_in k q)) ∙ ap (λ j. get_or (remove rows p) j d) (closed_opened p k)
+
 -- the positions of the rows that pass, in the order
 pub record ArePicked {X : Type 0} (test : X → Bool) (cmp : X → X → Ordering) (d : X) (rows : List X) (ps : List ℕ) : Type 0 where
   pub ascends : Ascends (place_cmp cmp d rows) ps
@@ -156,35 +175,15 @@ module _ {X : Type 0} (test : X → Bool) (cmp : X → X → Ordering) (total : 
   }
 
   module _ (rows : List X) (p : ℕ) (within : p < length rows) where
-    rest : List X
-    rest = remove rows p
-
-    pub row_closed : (k : ℕ) → k ≢ p → k < length rows → get_or (remove rows p) (closed p k) d ≡ get_or rows k d
-    row_closed k ne q = elim (cases_lt k p) [
-      | inl below ↦ ap (λ j. get_or (remove rows p) j d) (closed_below p k below) ∙ get_or-remove_below rows p d k below within
-      | inr above ↦
-          let far : p < k = omega arith in
-          ap (λ j. get_or (remove rows p) j d) (closed_above p k far) ∙ get_or-remove_above rows p d (k - 1) (omega arith) within ∙ ap (λ j. get_or rows j d) (let e : k - 1 + 1 ≡ k = omega arith in e)
-    ]
-
     cmp_closed : (j k : ℕ) → j ≢ p → k ≢ p → j < length rows → k < length rows → place_cmp cmp d (remove rows p) (closed p j) (closed p k) ≡ place_cmp cmp d rows j k
     cmp_closed j k a b q r =
-        ap (λ x. ordering_then (cmp x (get_or (remove rows p) (closed p k) d)) (nat_cmp (closed p j) (closed p k))) (row_closed j a q)
-        ∙ ap (λ y. ordering_then (cmp (get_or rows j d) y) (nat_cmp (closed p j) (closed p k))) (row_closed k b r)
+        ap (λ x. ordering_then (cmp x (get_or (remove rows p) (closed p k) d)) (nat_cmp (closed p j) (closed p k))) (row_closed d rows p within j a q)
+        ∙ ap (λ y. ordering_then (cmp (get_or rows j d) y) (nat_cmp (closed p j) (closed p k))) (row_closed d rows p within k b r)
         ∙ ap (ordering_then (cmp (get_or rows j d) (get_or rows k d))) (closed_cmp p j k a b)
-
-    closed_in : (k : ℕ) → k ≢ p → k < length rows → closed p k < length (remove rows p)
-    closed_in k ne q = let e = length-remove rows p within in grind (arith, nat_tests)
-
-    opened_in : (k : ℕ) → k < length (remove rows p) → opened p k < length rows
-    opened_in k q = let e = length-remove rows p within in grind (arith, nat_tests)
-
-    row_opened : (k : ℕ) → k < length (remove rows p) → get_or rows (opened p k) d ≡ get_or (remove rows p) k d
-    row_opened k q = sym (row_closed (opened p k) (opened_apart p k) (opened_in k q)) ∙ ap (λ j. get_or (remove rows p) j d) (closed_opened p k)
 
     cmp_opened : (j k : ℕ) → j < length (remove rows p) → k < length (remove rows p) → place_cmp cmp d rows (opened p j) (opened p k) ≡ place_cmp cmp d (remove rows p) j k
     cmp_opened j k q r =
-        sym (cmp_closed (opened p j) (opened p k) (opened_apart p j) (opened_apart p k) (opened_in j q) (opened_in k r))
+        sym (cmp_closed (opened p j) (opened p k) (opened_apart p j) (opened_apart p k) (opened_in d rows p within j q) (opened_in d rows p within k r))
         ∙ ap (λ i. place_cmp cmp d (remove rows p) i (closed p (opened p k))) (closed_opened p j) ∙ ap (place_cmp cmp d (remove rows p) j) (closed_opened p k)
 
     pub others_closed : (ps : List ℕ) → AreOthers test cmp d rows p ps → ArePicked test cmp d (remove rows p) (map (closed p) ps)
@@ -194,10 +193,10 @@ module _ {X : Type 0} (test : X → Bool) (cmp : X → X → Ordering) (total : 
       inside = λ i g.
           let r = map_in (closed p) ps i g in
           let x = h.inside r.0 r.1 in
-          subst (λ j. (j < length (remove rows p)) × (test (get_or (remove rows p) j d) ≡ true)) r.2 (closed_in r.0 x.2 x.0, ap test (row_closed r.0 x.2 x.0) ∙ x.1);
+          subst (λ j. (j < length (remove rows p)) × (test (get_or (remove rows p) j d) ≡ true)) r.2 (closed_in d rows p within r.0 x.2 x.0, ap test (row_closed d rows p within r.0 x.2 x.0) ∙ x.1);
       whole = λ i q t.
           subst (λ j. IsIn j (map (closed p) ps)) (closed_opened p i)
-          (in_map (closed p) ps (opened p i) (h.whole (opened p i) (opened_in i q) (ap test (row_opened i q) ∙ t) (opened_apart p i)));
+          (in_map (closed p) ps (opened p i) (h.whole (opened p i) (opened_in d rows p within i q) (ap test (row_opened d rows p within i q) ∙ t) (opened_apart p i)));
     }
 
     pub picked_opened : (ps : List ℕ) → ArePicked test cmp d (remove rows p) ps → AreOthers test cmp d rows p (map (opened p) ps)
@@ -207,8 +206,8 @@ module _ {X : Type 0} (test : X → Bool) (cmp : X → X → Ordering) (total : 
       inside = λ i g.
           let r = map_in (opened p) ps i g in
           let x = h.inside r.0 r.1 in
-          subst (λ j. (j < length rows) × (test (get_or rows j d) ≡ true) × (j ≢ p)) r.2 (opened_in r.0 x.0, ap test (row_opened r.0 x.0) ∙ x.1, opened_apart p r.0);
+          subst (λ j. (j < length rows) × (test (get_or rows j d) ≡ true) × (j ≢ p)) r.2 (opened_in d rows p within r.0 x.0, ap test (row_opened d rows p within r.0 x.0) ∙ x.1, opened_apart p r.0);
       whole = λ i q t ne.
           subst (λ j. IsIn j (map (opened p) ps)) (opened_closed p i ne)
-          (in_map (opened p) ps (closed p i) (h.whole (closed p i) (closed_in i ne q) (ap test (row_closed i ne q) ∙ t)));
+          (in_map (opened p) ps (closed p i) (h.whole (closed p i) (closed_in d rows p within i ne q) (ap test (row_closed d rows p within i ne q) ∙ t)));
     }

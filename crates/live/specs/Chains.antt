@@ -74,6 +74,12 @@ pub record AreNow (schema : List Attribute) (rows : List (List Datum)) (watches 
   pub now : (k : ℕ) (d : WatchState) → k < length watches
       → (slice_index_or watches k d).kept ≡ positions schema (slice_index_or watches k d).op (seen rows watches (slice_index_or watches k d).source)
 
+-- the rows of a watch stand in the root at these places
+pub record LeadTo (rows : List (List Datum)) (watches : List WatchState) (over : ℕ) (places : List ℕ) : Type 0 where
+  pub within : All (λ i. i < length rows) places
+  pub few : length places ≤ max_rows
+  pub lead : rows_at rows places ≡ seen rows watches (Some over)
+
 -- what an event of the root does to a source
 abbrev pub turn_of : Turn → List WatchState → Option ℕ → Turn
 turn_of root watches None = root

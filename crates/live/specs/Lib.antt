@@ -1,5 +1,6 @@
 pub mod Chains
 pub mod Costs
+pub mod Keeping
 pub mod Numbers
 pub mod OutStates
 pub mod Placing

@@ -92,8 +92,6 @@ impl Out {
         ensures told { self.new.told ≡ self.old.told ++ told_as watch event ∷ [] }
         ensures spare { self.new.spare ≡ self.old.spare }
     {
-        if self.told.push(Told { watch, event }).is_err() {
-            unreachable!();
-        }
+        self.told.push_reserved(Told { watch, event });
     }
 }

@@ -1,19 +1,23 @@
 //! The rows of a watch as a table: those of the root at the positions in which they stand there.
 ghost use Rattle.std.specs.Prelude.{◌≡◌, ◌<◌, ◌≤◌, [], All, length, slice_index, IfOk};
+ghost use Rattle.std.specs.Option.{ForSome};
 ghost use Rattle.mk_value.specs.Data.{Datum};
 ghost use Rattle.mk_value.specs.Limits.{max_rows};
 ghost use Rattle.relations.specs.Rows.{rows_at};
-ghost use Rattle.live.specs.Putting.{op_due, spelled};
-ghost use Rattle.live.specs.Watching.{positions};
-ghost use Rattle.std.specs.Prelude.{None};
+ghost use Rattle.live.specs.Chains.{AreLinked, LeadTo, seen};
+ghost use Rattle.live.specs.Putting.{spelled};
+ghost use Rattle.live.specs.Watching.{IsAsked, positions};
 
+use crate::chain::root_place;
 use crate::op::WatchOp;
+use crate::watch::Watch;
 use mk_value::{Lent, Memory, Schema, TableRead, Value};
 use relations::{positions_in_range, positions_ordered};
 use std::alloc::Global;
 use std::cmp::Ordering;
 
 /// The rows of a table at these positions.
+#[derive(Drop)]
 pub(crate) struct Picked<'a, T: TableRead> {
     pub rows: &'a T,
     pub at: &'a [u32],
@@ -69,7 +73,7 @@ pub(crate) fn positions_of<T: TableRead>(
     rows: &T,
     op: &WatchOp,
 ) -> Result<Vec<u32>, Memory>
-    requires { op_due (T.schema rows.now) op.now ≡ None }
+    requires { IsAsked (T.schema rows.now) op.now }
     ensures { IfOk result (λ kept. kept.items ≡ positions (T.schema rows.now) (spelled (T.schema rows.now) op.now) (T.rows rows.now)) }
 {
     let kept = match op {
@@ -77,4 +81,44 @@ pub(crate) fn positions_of<T: TableRead>(
         WatchOp::Sort(keys) => positions_ordered(alloc, rows, keys.as_slice())?,
     };
     Ok(kept.into_vec())
+}
+
+/// Where the rows of a watch stand in the table.
+fn root_places<T: TableRead>(
+    alloc: Global,
+    watches: &[Watch],
+    over: usize,
+    rows: &T,
+) -> Result<Vec<u32>, Memory>
+    requires linked { AreLinked (T.rows rows.now) watches.now }
+    requires there { over < length watches.now }
+    ensures { IfOk result (λ places. LeadTo (T.rows rows.now) watches.now over places.items) }
+{
+    let _size = rows.size();
+    let mut places = Vec::new(alloc);
+    for row in 0..watches[over].len() {
+        places.push(root_place(watches, Some(over), row) as u32)?;
+    }
+    Ok(places)
+}
+
+/// The positions of the rows that a watch over a source shows.
+pub(crate) fn seen_positions<T: TableRead>(
+    alloc: Global,
+    watches: &[Watch],
+    over: Option<usize>,
+    op: &WatchOp,
+    rows: &T,
+) -> Result<Vec<u32>, Memory>
+    requires asked { IsAsked (T.schema rows.now) op.now }
+    requires linked { AreLinked (T.rows rows.now) watches.now }
+    requires there { ForSome over (λ w. w < length watches.now) }
+    ensures { IfOk result (λ kept. kept.items ≡ positions (T.schema rows.now) (spelled (T.schema rows.now) op.now) (seen (T.rows rows.now) watches.now over)) }
+{
+    let Some(over) = over else {
+        return positions_of(alloc, rows, op);
+    };
+    let at = root_places(alloc, watches, over, rows)?;
+    let picked = Picked { rows, at: &at };
+    positions_of(alloc, &picked, op)
 }

@@ -1,6 +1,7 @@
 ghost use Rattle.std.specs.Prelude.{◌≡◌, ◌+◌, ◌-◌, ◌*◌, ◌^◌, ◌<◌, ◌≤◌, [], true, false, length, slice_index, None, OnOk};
 ghost use Rattle.std.specs.Option.{ForSome};
 ghost use Rattle.live.specs.Chains.{IsRaised, IsSame};
+ghost use Rattle.live.specs.Putting.{closed_source};
 ghost use Rattle.live.specs.Watching.{IsAsked, IsDue, goes_from, is_sorting, own, placed, positions};
 ghost use Rattle.live.specs.declared.turn.Turn.TheVariants.{Still};
 
@@ -119,10 +120,21 @@ impl Watch {
     pub fn reserve(&mut self, more: usize) -> Result<(), Memory>
         ensures same { IsSame self.old self.new }
         ensures going { self.new.going ≡ self.old.going }
+        ensures grown { self.old.room ≤ self.new.room }
         ensures room { OnOk result (more ≤ self.new.room) }
     {
         self.keeper.kept.reserve(more)?;
         Ok(())
+    }
+
+    /// Moves the place of its source down where it stands behind the watch that was taken out.
+    pub fn close_source(&mut self, taken: usize)
+        ensures { self.new ≡ closed_source taken self.old }
+    {
+        self.source = match self.source {
+            Some(source) if taken < source => Some(source - 1),
+            other => other,
+        };
     }
 
     /// Notes, before a turn of the source, where the row that will go stands.

@@ -1,0 +1,35 @@
+-- The numbers that watches have: where all below a number are taken, there are as many watches.
+use Rattle.std.proofs.Common.{◌≡◌, ◌≢◌, ◌⊎◌, ◌==◌, ◌||◌, ℕ, zero, suc, ◌+◌, ◌<◌, ◌≤◌, Bool, true, false, List, [], ◌∷◌, ◌++◌, length, map, Some, refl, ap, sym, subst, ◌∙◌, arith, inl, inr}
+use Rattle.std.proofs.lemmas.Bool.{eqb-true}
+use Rattle.std.proofs.lemmas.List.{length-append, length-map}
+use Rattle.relations.proofs.Ascending.{IsIn}
+use Rattle.live.specs.Numbers.{is_taken}
+use Rattle.live.specs.States.{WatchState}
+use Rattle.live.proofs.Picks.{in_middle}
+use Rattle.live.proofs.Placing.{middle_or_absent}
+
+-- numbers that are all there are as many as are there
+crowded : (n : ℕ) (xs : List ℕ) → ((k : ℕ) → k < n → IsIn k xs) → n ≤ length xs
+crowded zero xs h = omega arith
+crowded (suc n) xs h = elim (middle_or_absent n xs) [
+  | inl m ↦
+      let rest = crowded n (m.front ++ m.back) (λ k p. elim (in_middle m.front n m.back k (subst (IsIn k) m.is (h k (omega arith)))) [ inl e ↦ absurd (omega arith) | inr g ↦ g ]) in
+      let long = ap length m.is ∙ length-append m.front (n ∷ m.back) in
+      let both = length-append m.front m.back in
+      omega arith
+  | inr away ↦ absurd (away (h n (omega arith)))
+]
+
+abbrev number_of : WatchState → ℕ
+number_of w = w.number
+
+taken_in : (watches : List WatchState) (n : ℕ) → is_taken watches n ≡ true → IsIn n (map number_of watches)
+taken_in [] n e = cc
+taken_in (w ∷ watches) n e = at (w.number == n) refl e
+  where
+    at : (b : Bool) → (w.number == n) ≡ b → (b || is_taken watches n) ≡ true → IsIn n (map number_of (w ∷ watches))
+    at true f g = inl (eqb-true w.number n f)
+    at false f g = inr (taken_in watches n g)
+
+pub all_taken : (watches : List WatchState) (n : ℕ) → ((k : ℕ) → k < n → is_taken watches k ≡ true) → n ≤ length watches
+all_taken watches n h = let a = crowded n (map number_of watches) (λ k p. taken_in watches k (h k p)) in let b = length-map watches number_of in omega arith
