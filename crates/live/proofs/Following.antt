@@ -1,10 +1,9 @@
 -- Watches that follow an event one after another, each after its source.
-use Rattle.std.proofs.Common.{◌≡◌, ◌≢◌, ℕ, zero, suc, ◌+◌, ◌-◌, ◌<◌, ◌≤◌, List, [], ◌∷◌, ◌++◌, length, get_or, set, map, take, vec_len, Option, Some, None, refl, ap, sym, subst, ◌∙◌, arith, inl, inr}
+use Rattle.std.proofs.Common.{◌≡◌, ◌≢◌, ℕ, zero, suc, ◌+◌, ◌-◌, ◌<◌, ◌≤◌, List, [], ◌∷◌, length, get_or, set, map, take, Option, Some, None, refl, ap, sym, subst, ◌∙◌, arith, inl, inr}
 use Rattle.std.specs.List.{All}
 use Rattle.std.specs.Option.{ForSome}
-use Rattle.std.specs.Vec.{vec_capacity}
 use Rattle.std.proofs.lemmas.Bool.{cases_lt, cases_eq}
-use Rattle.std.proofs.lemmas.List.{get_or-take, get_or-map, take-map, take-set, length-set, length-take-le, length-map, get_or-set_same, get_or-set_other, take_at, get_or-append-add, set-append_right}
+use Rattle.std.proofs.lemmas.List.{get_or-take, get_or-map, take-map, take-set, length-set, length-take-le, length-map, get_or-set_same, get_or-set_other}
 use Rattle.live.specs.declared.turn.Turn.{Turn}
 use Rattle.live.specs.declared.turn.Turn.TheVariants.{Still}
 use Rattle.std.proofs.Common.{◌*◌, ◌^◌, Bool, true, false, if◌then◌else◌}
@@ -14,12 +13,12 @@ use Rattle.relations.specs.Rows.{rows_at}
 use Rattle.live.specs.Watching.{IsAsked, positions, placed, own, goes_from, IsTurn, IsDue, is_sorting}
 use Rattle.mk_value.specs.Limits.{max_rows}
 use Rattle.live.specs.Costs.{after_cost, digits}
-use Rattle.live.specs.Chains.{AreNoted, HaveRoom, IsRaised, AreLinked, AreNow, AreDue, AreTold, source_rows, seen, turn_of, going_of}
+use Rattle.live.specs.Chains.{AreNoted, HaveRoom, IsRaised, AreLinked, AreNow, AreDue, AreTold, seen, turn_of, going_of}
 use Rattle.live.specs.States.{WatchState}
 use Rattle.live.proofs.Chaining.{own_turn, own_goes}
 use Rattle.live.proofs.Digits.{digits_bound}
 use Rattle.live.proofs.Ops.{positions_few}
-use Rattle.live.proofs.Seeing.{seen_alike, seen_at, seen_prefix, seen_size}
+use Rattle.live.proofs.Seeing.{seen_alike, seen_at, seen_prefix}
 use Rattle.live.proofs.Turning.{positions_in}
 use Rattle.mk_value.specs.Heading.{Attribute}
 use Rattle.mk_value.specs.Data.{Datum}

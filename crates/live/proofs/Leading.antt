@@ -1,15 +1,15 @@
 -- The rows of a watch, by where they stand in the root.
-use Rattle.std.proofs.Common.{◌≡◌, ℕ, ◌+◌, ◌<◌, ◌≤◌, List, [], length, get_or, map, All, Some, refl, ap, sym, subst, ◌∙◌, arith}
+use Rattle.std.proofs.Common.{◌≡◌, ℕ, ◌<◌, List, [], length, get_or, map, Some, refl, ap, sym, subst, ◌∙◌, arith}
 use Rattle.std.proofs.lemmas.List.{get_or-map, get_or_default, length-map, same_lists}
 use Rattle.mk_value.specs.Data.{Datum}
-use Rattle.mk_value.specs.Limits.{max_rows}
+use Rattle.mk_value.specs.Heading.{Attribute}
 use Rattle.relations.specs.Positions.{numbers}
 use Rattle.relations.specs.Rows.{rows_at}
 use Rattle.relations.proofs.Numbers.{length-numbers, numbers_at}
-use Rattle.live.specs.Chains.{AreLinked, LeadTo, place_in_root, seen}
+use Rattle.live.specs.Chains.{AreLinked, AreNow, LeadTo, place_in_root, seen}
 use Rattle.live.specs.States.{WatchState}
-use Rattle.live.proofs.Along.{some_watch}
 use Rattle.live.proofs.Seeing.{seen_size, through}
+use Rattle.live.proofs.Standing.{now_linked}
 
 module _ (rows : List (List Datum)) (watches : List WatchState) (h : AreLinked rows watches) (w : ℕ) (p : w < length watches) where
   abbrev over_watch : ℕ → ℕ
@@ -40,3 +40,10 @@ module _ (rows : List (List Datum)) (watches : List WatchState) (h : AreLinked r
     where
       default_of : (xs : List (List Datum)) (k : ℕ) (x : List Datum) → k < length xs → get_or xs k [] ≡ get_or xs k x
       default_of xs k x q = get_or_default xs k [] x q
+
+pub row_stands : (schema : List Attribute) (rows : List (List Datum)) (watches : List WatchState) (k : ℕ) (d : WatchState) (i : ℕ) → AreNow schema rows watches → k < length watches → i < length (get_or watches k d).kept
+    → (place_in_root watches (Some k) i < length rows) × (get_or rows (place_in_root watches (Some k) i) [] ≡ get_or (seen rows watches (Some k)) i [])
+row_stands schema rows watches k d i h p q =
+    let linked = now_linked schema rows watches h in
+    let size = seen_size rows watches (Some k) h.sources k d refl p in
+    stands rows watches linked k p i (omega arith)

@@ -1,4 +1,5 @@
 pub mod Along
+pub mod Answering
 pub mod Chaining
 pub mod Counting
 pub mod Digits

@@ -58,4 +58,3 @@ numbers_in (suc n) i p = elim (cases_lt i n) [
   | inl q ↦ in_left (numbers n) (n ∷ []) i (numbers_in n i q)
   | inr q ↦ in_right (numbers n) (n ∷ []) i (inl (let e : n ≡ i = omega arith in e))
 ]
-

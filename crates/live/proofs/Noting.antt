@@ -1,8 +1,8 @@
 -- Watches that note, one after another, where the row that goes stands in them.
-use Rattle.std.proofs.Common.{◌≡◌, ◌≢◌, ℕ, zero, suc, ◌+◌, ◌-◌, ◌*◌, ◌^◌, ◌<◌, ◌≤◌, Bool, true, false, if◌then◌else◌, List, [], ◌∷◌, length, get_or, set, map, take, Option, Some, None, refl, ap, sym, subst, ◌∙◌, arith, inl, inr}
+use Rattle.std.proofs.Common.{◌≡◌, ◌≢◌, ℕ, ◌+◌, ◌-◌, ◌*◌, ◌^◌, ◌<◌, ◌≤◌, Bool, true, false, if◌then◌else◌, List, [], length, get_or, set, map, take, Option, Some, None, refl, ap, sym, subst, ◌∙◌, arith, inl, inr}
 use Rattle.std.specs.Option.{ForSome}
 use Rattle.std.proofs.lemmas.Bool.{cases_lt, cases_eq}
-use Rattle.std.proofs.lemmas.List.{get_or-take, get_or-map, take-map, take-set, length-set, length-map, get_or-set_same, get_or-set_other, same_lists}
+use Rattle.std.proofs.lemmas.List.{get_or-take, get_or-map, take-map, take-set, length-map, get_or-set_same, get_or-set_other, same_lists}
 use Rattle.mk_value.specs.Data.{Datum}
 use Rattle.mk_value.specs.Heading.{Attribute}
 use Rattle.live.specs.Chains.{AreLinked, AreNow, AreSame, IsSame, going_of, seen}
@@ -13,7 +13,7 @@ use Rattle.live.proofs.Along.{some_watch}
 use Rattle.live.proofs.Chaining.{placed_in}
 use Rattle.live.proofs.Digits.{digits_bound}
 use Rattle.live.proofs.Seeing.{seen_at, seen_prefix}
-use Rattle.live.proofs.Standing.{linked_front, now_linked, now_same, same_seen}
+use Rattle.live.proofs.Standing.{linked_front, now_linked, now_same, same_each, same_seen, same_set}
 
 pub going_prefix : (goes : Option ℕ) (ls : List WatchState) (n : ℕ) (over : Option ℕ) → ForSome over (λ s. s < n) → going_of goes (take n ls) over ≡ going_of goes ls over
 going_prefix goes ls n None below = refl
@@ -33,7 +33,7 @@ pub record HaveNoted (goes : Option ℕ) (old : List WatchState) (ls : List Watc
 pub noted_none : (goes : Option ℕ) (old : List WatchState) → HaveNoted goes old old 0
 noted_none goes old = record {
   within = omega arith;
-  same = record { long = refl; each = λ k d p. record { number = refl; source = refl; op = refl; kept = refl; turn = refl; followed = refl } };
+  same = same_each old;
   room = λ k d p. refl;
   noted = λ k d p. absurd (omega arith);
 }
@@ -98,24 +98,6 @@ module _ (schema : List Attribute) (rows : List (List Datum)) (goes : Option ℕ
     going_all : (over : Option ℕ) → ForSome over (λ s. s < i) → going_of goes all over ≡ going_of goes ls over
     going_all over below = going_alike goes all ls i over (take-set ls i new) below
 
-    same_after : (o v w : WatchState) → IsSame o v → IsSame v w → IsSame o w
-    same_after o v w a b = record {
-      number = b.number ∙ a.number;
-      source = b.source ∙ a.source;
-      op = b.op ∙ a.op;
-      kept = b.kept ∙ a.kept;
-      turn = b.turn ∙ a.turn;
-      followed = b.followed ∙ a.followed;
-    }
-
-    same_all : (k : ℕ) (d : WatchState) → k < length old → IsSame (get_or old k d) (get_or all k d)
-    same_all k d q = elim (cases_eq k i) [
-      | inl e ↦
-          subst (λ j. IsSame (get_or old j d) (get_or all j d)) (sym e)
-          (subst (IsSame (get_or old i d)) (sym (here d)) (same_after (get_or old i d) (get_or ls i d) new (h.same.each i d p) (f_same d)))
-      | inr ne ↦ subst (IsSame (get_or old k d)) (sym (other k d ne)) (h.same.each k d q)
-    ]
-
     room_all : (k : ℕ) (d : WatchState) → k < length old → (get_or all k d).room ≡ (get_or old k d).room
     room_all k d q = elim (cases_eq k i) [
       | inl e ↦ ap (λ (w : WatchState). w.room) (ap (λ j. get_or all j d) e ∙ here d) ∙ f_room d ∙ h.room i d p ∙ ap (λ j. (get_or old j d).room) (sym e)
@@ -125,7 +107,7 @@ module _ (schema : List Attribute) (rows : List (List Datum)) (goes : Option ℕ
     pub noted_more : HaveNoted goes old all (i + 1)
     noted_more = record {
       within = omega arith;
-      same = record { long = length-set ls i new ∙ h.same.long; each = same_all };
+      same = same_set old ls h.same i p new f_same;
       room = room_all;
       noted = λ k d q. elim (cases_lt k i) [
         | inl lt ↦

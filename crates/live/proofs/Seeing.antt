@@ -1,5 +1,5 @@
 -- What is seen through a watch, and where that stands in the root.
-use Rattle.std.proofs.Common.{◌≡◌, ℕ, zero, suc, ◌+◌, ◌<◌, ◌≤◌, ◌++◌, List, [], length, get_or, map, take, All, Option, Some, None, refl, ap, sym, subst, ◌∙◌, arith}
+use Rattle.std.proofs.Common.{◌≡◌, ℕ, zero, suc, ◌<◌, ◌≤◌, ◌++◌, List, [], length, get_or, map, take, All, Option, Some, None, refl, ap, sym, subst, ◌∙◌, arith}
 use Rattle.std.specs.Option.{ForSome}
 use Rattle.std.proofs.lemmas.List.{get_or_append_left, get_or-map, get_or-take, length-map}
 use Rattle.mk_value.specs.Data.{Datum}
@@ -107,5 +107,5 @@ through rows watches h (suc fuel) (Some w) row there q =
     let here = place_at watches h.sources w d p row near in (
       subst (λ n. n < length rows) (sym here) rest.0,
       ap (λ n. get_or rows n []) here ∙ rest.1
-      ∙ sym (ap (λ xs. get_or xs row []) (seen_at rows watches h.sources w d p) ∙ get_or-map (λ i. get_or (seen rows watches src) i []) kept row 0 [] near),
+          ∙ sym (ap (λ xs. get_or xs row []) (seen_at rows watches h.sources w d p) ∙ get_or-map (λ i. get_or (seen rows watches src) i []) kept row 0 [] near),
     )

@@ -1,19 +1,18 @@
 -- The keys of a sorting that is given none.
-use Rattle.std.proofs.Common.{◌≡◌, ℕ, ◌+◌, ◌<◌, Bool, true, false, not, cond, List, [], ◌∷◌, ◌++◌, length, get_or, map, take, All, Option, Some, None, refl, ap, sym, ◌∙◌, arith}
+use Rattle.std.proofs.Common.{◌≡◌, ℕ, suc, ◌+◌, ◌<◌, Bool, true, false, not, cond, List, [], ◌∷◌, ◌++◌, length, get_or, map, take, All, Option, Some, None, refl, ap, sym, ◌∙◌, arith}
 use Rattle.std.specs.List.{filter, find}
 use Rattle.std.specs.Option.{option_map, option_or}
 use Rattle.std.proofs.lemmas.List.{map-append, append-nil}
 use Rattle.std.proofs.lemmas.List.Elements.{All-map, filter_more}
 use Rattle.mk_value.specs.Heading.{Attribute, HaveDistinctNames}
 use Rattle.relations.specs.Fitting.{is_view}
-use Rattle.relations.specs.Keys.{ArePlain, IsPlainKey}
+use Rattle.relations.specs.Keys.{ArePlain}
 use Rattle.relations.specs.Refusals.{a_view, absent, range_due, sort_due}
 use Rattle.relations.specs.Rows.{domain_of, has}
 use Rattle.relations.specs.Sorting.{all_keys, keys_or_all}
 use Rattle.relations.specs.declared.criteria.Key.{Key}
 use Rattle.relations.specs.declared.error.DerivedError.{DerivedError}
 use Rattle.relations.specs.declared.error.DerivedError.TheVariants.{NoProp, KeyIsView}
-use Rattle.relations.proofs.Faults.{cases}
 use Rattle.relations.proofs.KeyRows.{plain_keys}
 use Rattle.live.specs.Putting.{as_watch_error, op_due, spelled}
 use Rattle.live.specs.Watching.{IsAsked}
@@ -43,7 +42,7 @@ module _ (schema : List Attribute) (i : ℕ) (x : Attribute) (p : i < length sch
 none_found : {X E : Type 0} (e : X → E) (test : X → Bool) (xs : List X) → All (λ x. test x ≡ false) xs → option_map e (find test xs) ≡ None
 none_found e test [] all = refl
 none_found e test (x ∷ xs) all =
-    ap (λ b. option_map e (cond b (Some x) (find test xs))) (all 0 x (omega arith)) ∙ none_found e test xs (λ k d p. all (k + 1) d (omega arith))
+    ap (λ b. option_map e (cond b (Some x) (find test xs))) (all 0 x (omega arith)) ∙ none_found e test xs (λ k d p. all (suc k) d (omega arith))
 
 plain_names : (schema : List Attribute) (keys : List Key) → ArePlain schema keys → sort_due keys schema ≡ None
 plain_names schema keys h =

@@ -1,14 +1,18 @@
 -- Watches that keep the positions of their rows: what follows from that, and when they go on doing so.
-use Rattle.std.proofs.Common.{◌≡◌, ℕ, zero, suc, ◌<◌, ◌≤◌, List, [], length, get_or, take, Option, Some, None, refl, ap, sym, subst, ◌∙◌, arith}
+use Rattle.std.proofs.Common.{◌≡◌, ℕ, zero, suc, ◌<◌, ◌≤◌, List, [], length, get_or, set, take, Option, Some, None, refl, ap, sym, subst, ◌∙◌, arith, inl, inr}
 use Rattle.std.specs.List.{All}
 use Rattle.std.specs.Option.{ForSome}
-use Rattle.std.proofs.lemmas.List.{get_or-take, length-take-le, length-map}
+use Rattle.std.proofs.lemmas.List.{get_or-take, get_or-set_other, get_or-set_same, length-map, length-set, length-take-le}
+use Rattle.std.proofs.lemmas.Bool.{cases_eq}
 use Rattle.mk_value.specs.Data.{Datum}
 use Rattle.mk_value.specs.Heading.{Attribute}
 use Rattle.mk_value.specs.Limits.{max_rows}
-use Rattle.live.specs.Chains.{AreLinked, AreNow, AreSame, seen}
+use Rattle.relations.specs.Rows.{rows_at}
+use Rattle.live.specs.Chains.{AreLinked, AreNow, AreSame, IsSame, seen}
+use Rattle.live.specs.Laws.{shown}
 use Rattle.live.specs.States.{WatchState}
 use Rattle.live.specs.Watching.{IsAsked, positions}
+use Rattle.live.proofs.Answering.{rows_shown}
 use Rattle.live.proofs.Ops.{positions_few}
 use Rattle.live.proofs.Seeing.{seen_at, seen_prefix, seen_same}
 use Rattle.live.proofs.Turning.{positions_in}
@@ -61,6 +65,13 @@ now_same schema rows old new same h = record {
       ∙ ap (positions schema (get_or new k d).op) (sym (same_seen rows old new same (get_or old k d).source) ∙ ap (seen rows new) (sym ((same.each k d q).source)));
 }
 
+-- what is seen through a watch is what it shows of its source
+pub seen_shown : (schema : List Attribute) (rows : List (List Datum)) (watches : List WatchState) (k : ℕ) (d : WatchState) → AreNow schema rows watches → k < length watches
+    → seen rows watches (Some k) ≡ shown schema (get_or watches k d).op (seen rows watches (get_or watches k d).source)
+seen_shown schema rows watches k d h p =
+    let src = (get_or watches k d).source in
+    seen_at rows watches h.sources k d p ∙ ap (rows_at (seen rows watches src)) (h.now k d p) ∙ rows_shown schema (get_or watches k d).op (seen rows watches src)
+
 -- the first watches alone
 pub linked_front : (rows : List (List Datum)) (links : List WatchState) (n : ℕ) → n ≤ length links → AreLinked rows links → AreLinked rows (take n links)
 linked_front rows links n le h =
@@ -76,3 +87,28 @@ linked_front rows links n le h =
           (sym (seen_prefix rows links n (get_or links k d).source (λ s e. let a = h.sources k s d (omega arith) e in omega arith))) (h.within k d (omega arith)));
       few = λ k d p. subst (λ (l : WatchState). length l.kept ≤ max_rows) (sym (get_or-take n links k d (omega arith))) (h.few k d (omega arith));
     }
+
+-- a watch in whose place stands one that is the same
+same_after : (o v w : WatchState) → IsSame o v → IsSame v w → IsSame o w
+same_after o v w a b = record {
+  number = b.number ∙ a.number;
+  source = b.source ∙ a.source;
+  op = b.op ∙ a.op;
+  kept = b.kept ∙ a.kept;
+  turn = b.turn ∙ a.turn;
+  followed = b.followed ∙ a.followed;
+}
+
+pub same_each : (old : List WatchState) → AreSame old old
+same_each old = record { long = refl; each = λ k d p. record { number = refl; source = refl; op = refl; kept = refl; turn = refl; followed = refl } }
+
+pub same_set : (old ls : List WatchState) → AreSame old ls → (i : ℕ) → i < length old → (new : WatchState) → ((d : WatchState) → IsSame (get_or ls i d) new) → AreSame old (set ls i new)
+same_set old ls h i p new same = record {
+  long = length-set ls i new ∙ h.long;
+  each = λ k d q. elim (cases_eq k i) [
+    | inl e ↦
+        subst (λ j. IsSame (get_or old j d) (get_or (set ls i new) j d)) (sym e)
+        (subst (IsSame (get_or old i d)) (sym (get_or-set_same ls i new d (let l = h.long in omega arith))) (same_after (get_or old i d) (get_or ls i d) new (h.each i d p) (same d)))
+    | inr ne ↦ subst (IsSame (get_or old k d)) (sym (get_or-set_other ls i k new d ne)) (h.each k d q)
+  ];
+}

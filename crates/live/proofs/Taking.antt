@@ -1,8 +1,8 @@
 -- A watch that is put behind the others, and one that is taken out.
-use Rattle.std.proofs.Common.{◌≡◌, ◌≢◌, ℕ, zero, suc, ◌+◌, ◌-◌, ◌<◌, ◌≤◌, List, [], ◌∷◌, ◌++◌, length, get_or, map, take, All, Option, Some, None, refl, ap, sym, subst, ◌∙◌, arith, inl, inr}
+use Rattle.std.proofs.Common.{◌≡◌, ◌≢◌, ℕ, zero, suc, ◌+◌, ◌<◌, ◌≤◌, List, [], ◌∷◌, ◌++◌, length, get_or, All, Option, Some, None, refl, ap, sym, subst, ◌∙◌, arith, inl, inr}
 use Rattle.std.specs.List.{remove}
 use Rattle.std.specs.Option.{ForSome, option_map}
-use Rattle.std.proofs.lemmas.Bool.{cases_lt, cases_eq}
+use Rattle.std.proofs.lemmas.Bool.{cases_lt}
 use Rattle.std.proofs.lemmas.Bool.Decides.{nat_tests}
 use Rattle.std.proofs.lemmas.List.{get_or-map, get_or_append_left, get_or_push, length-append, length-map, take_at}
 use Rattle.std.proofs.lemmas.List.Edits.{length-remove}
@@ -10,18 +10,24 @@ use Rattle.mk_value.specs.Data.{Datum}
 use Rattle.mk_value.specs.Heading.{Attribute}
 use Rattle.relations.specs.Rows.{rows_at}
 use Rattle.live.specs.Chains.{AreInOrder, AreInside, AreNow, seen}
+use Rattle.live.specs.Numbers.{over_of, place_of}
 use Rattle.live.specs.Placing.{closed, opened}
 use Rattle.live.specs.Putting.{closed_source, without_watch}
 use Rattle.live.specs.States.{WatchState}
 use Rattle.live.specs.Watching.{IsAsked, positions}
 use Rattle.live.proofs.Along.{some_watch}
-use Rattle.live.proofs.Picks.{closed_opened, opened_apart, opened_closed, row_closed}
+use Rattle.live.proofs.Picks.{closed_opened, opened_apart, row_closed}
 use Rattle.live.proofs.Seeing.{seen_at, seen_prefix}
 
 -- what is seen through the watches that were there
 seen_pushed : (rows : List (List Datum)) (watches : List WatchState) (w : WatchState) (over : Option ℕ) → ForSome over (λ s. s < length watches) → seen rows (watches ++ w ∷ []) over ≡ seen rows watches over
 seen_pushed rows watches w over below =
     sym (seen_prefix rows (watches ++ w ∷ []) (length watches) over below) ∙ ap (λ ws. seen rows ws over) (take_at watches (w ∷ []) (length watches) refl)
+
+-- a source that is named is there
+pub over_below : (watches : List WatchState) (source : Option ℕ) → ForSome source (λ n. place_of watches n < length watches) → ForSome (over_of watches source) (λ s. s < length watches)
+over_below watches None there s e = cc
+over_below watches (Some n) there s e = let same : place_of watches n ≡ s = cc in subst (λ k. k < length watches) same (there n refl)
 
 -- one watch more
 module _ (schema : List Attribute) (rows : List (List Datum)) (watches : List WatchState) (h : AreNow schema rows watches) (w : WatchState) (below : ForSome w.source (λ s. s < length watches)) (asked : IsAsked schema w.op)

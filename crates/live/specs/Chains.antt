@@ -1,12 +1,11 @@
 -- Watches over watches: what is seen through them, and that they keep the positions of their rows.
 use Rattle.std.specs.Prelude.{◌≡◌, ◌<◌, ◌≤◌, ◌+◌, ◌++◌, ℕ, suc, ◌-◌, ◌^◌, min, List, [], ◌∷◌, length, map, slice_index_or, All, Option, Some, None}
-use Rattle.std.specs.Option.{ForSome}
 use Rattle.mk_value.specs.Heading.{Attribute}
 use Rattle.mk_value.specs.Data.{Datum}
 use Rattle.mk_value.specs.Limits.{max_rows}
 use Rattle.relations.specs.Rows.{rows_at}
 use Rattle.live.specs.States.{WatchState}
-use Rattle.live.specs.Watching.{IsAsked, IsTurn, goes_from, own, placed, positions}
+use Rattle.live.specs.Watching.{IsAsked, IsTurn, own, placed, positions}
 use Rattle.live.specs.declared.turn.Turn.{Turn}
 use Rattle.live.specs.declared.turn.Turn.TheVariants.{Still}
 

@@ -1,5 +1,5 @@
 -- What the watches of a root keep at every moment.
-use Rattle.std.specs.Prelude.{ℕ, List, Option}
+use Rattle.std.specs.Prelude.{List, Option}
 use Rattle.std.specs.Option.{ForSome}
 use Rattle.live.specs.Chains.{AreInside, AreNoted, HaveRoom}
 use Rattle.live.specs.States.{WatchState}

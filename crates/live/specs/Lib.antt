@@ -1,6 +1,7 @@
 pub mod Chains
 pub mod Costs
 pub mod Keeping
+pub mod Laws
 pub mod Numbers
 pub mod OutStates
 pub mod Placing

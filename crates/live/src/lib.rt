@@ -14,6 +14,7 @@ mod chain;
 mod error;
 mod event;
 mod keeper;
+mod laws;
 mod listed;
 mod op;
 mod out;
@@ -26,6 +27,10 @@ mod watches;
 
 pub use error::WatchError;
 pub use event::Event;
+pub use laws::{
+    a_selection_answers_a_change, a_sorting_answers_a_change, a_watch_answers_a_row,
+    a_watch_shows_its_rows, own_events_are_events, places_lead_to_rows, steps_are_digits,
+};
 pub use op::{Criteria, Keys, WatchOp};
 pub use out::{Out, Told};
 pub use probe::{Over, Probe};

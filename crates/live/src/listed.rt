@@ -1,5 +1,5 @@
 //! A list of watches: one found by its number, the least number that is free, and what is done to all.
-ghost use Rattle.std.specs.Prelude.{◌≡◌, ◌+◌, ◌<◌, ◌≤◌, ◌++◌, ◌∷◌, ◌==◌, [], All, length, map, slice_index_or, ℕ, OnOk, OnErr};
+ghost use Rattle.std.specs.Prelude.{◌≡◌, ◌+◌, ◌<◌, ◌≤◌, ◌++◌, ◌∷◌, ◌==◌, ◌↔◌, [], All, IsTrue, length, map, slice_index_or, ℕ, OnOk, OnErr};
 ghost use Rattle.std.specs.List.{position};
 ghost use Rattle.std.specs.Option.{ForSome};
 ghost use Rattle.live.specs.Chains.{AreSame};
@@ -20,13 +20,18 @@ pub(crate) fn find(watches: &[Watch], number: u32) -> usize
     place_if_taken(watches, number).unwrap()
 }
 
+/// Whether a watch has the number.
+pub(crate) fn is_there(watches: &[Watch], number: u32) -> bool
+    ensures { IsTrue result ↔ (place_of watches.now number < length watches.now) }
+{
+    place_if_taken(watches, number).is_some()
+}
+
 /// The place of the watch of a number, if there is one.
 fn place_if_taken(watches: &[Watch], number: u32) -> Option<usize>
     ensures { result ≡ position (λ w. w.number == number) watches.now }
 {
-    watches
-        .iter()
-        .position(|watch| watch.number() == number)
+    watches.iter().position(|watch| watch.number() == number)
 }
 
 /// The place of the source that a number names, or none for the root.

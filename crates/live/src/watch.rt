@@ -158,12 +158,7 @@ impl Watch {
     }
 
     /// Follows a turn of the source.
-    pub fn follow<L: Ledger, P: Probe<L>>(
-        &mut self,
-        rows: &P,
-        turn: Turn,
-        steps: &mut Steps<L>,
-    )
+    pub fn follow<L: Ledger, P: Probe<L>>(&mut self, rows: &P, turn: Turn, steps: &mut Steps<L>)
         requires asked { IsAsked (P.schema rows.now) self.old.op }
         requires room { 0 < self.old.room }
         requires due { IsDue (P.schema rows.now) self.old.op self.old.kept turn (P.rows rows.now) }

@@ -1,5 +1,5 @@
 //! All watches of a root.
-ghost use Rattle.std.specs.Prelude.{◌≡◌, ◌≢◌, ◌+◌, ◌<◌, ◌≤◌, [], ℕ, All, List, length, slice_index_or, sum_by, None, Some, IfOk, OnOk, OnErr};
+ghost use Rattle.std.specs.Prelude.{◌≡◌, ◌≢◌, ◌+◌, ◌<◌, ◌≤◌, [], ℕ, All, IsTrue, ◌↔◌, List, length, slice_index_or, sum_by, None, Some, IfOk, OnOk, OnErr};
 ghost use Rattle.std.specs.Option.{ForSome};
 ghost use Rattle.mk_value.specs.Data.{Datum};
 ghost use Rattle.mk_value.specs.Heading.{Attribute};
@@ -14,7 +14,9 @@ ghost use Rattle.live.specs.Watching.{root_turn};
 use crate::chain::{after_all, before_all, depth_of, root_place};
 use crate::error::WatchError;
 use crate::event::Event;
-use crate::listed::{close_sources, find, free_number, place, push, reserve_all, tell_all};
+use crate::listed::{
+    close_sources, find, free_number, is_there, place, push, reserve_all, tell_all,
+};
 use crate::op::WatchOp;
 use crate::out::Out;
 use crate::picked::seen_positions;
@@ -125,19 +127,15 @@ impl Watches {
         ensures now { (schema : List Attribute) (rows : List (List Datum)) → AreNow schema rows self.old.watches → AreNow schema rows self.new.watches }
         ensures spare { OnOk result (more ≤ spare self.new) }
     {
-        let Some(wanted) = more.checked_add(1) else {
+        if more == usize::MAX {
             return Err(Memory);
-        };
-        reserve_all(&mut self.list, wanted)
+        }
+        // One is set aside where an event is noted.
+        reserve_all(&mut self.list, more + 1)
     }
 
     /// Notes an event before it happens. It takes no memory.
-    pub fn before<L: Ledger, P: Probe<L>>(
-        &mut self,
-        rows: &P,
-        event: &Event,
-        steps: &mut Steps<L>,
-    )
+    pub fn before<L: Ledger, P: Probe<L>>(&mut self, rows: &P, event: &Event, steps: &mut Steps<L>)
         requires now { AreNow (P.schema rows.now) (P.rows rows.now) self.old.watches }
         requires reserved { 0 < spare self.old }
         requires place { IsPlace event.now (length (P.rows rows.now)) }
@@ -147,7 +145,12 @@ impl Watches {
         ensures spare { spare self.old ≤ spare self.new + 1 }
         ensures cost { steps.new ≤ steps.old + sum_by (before_cost (P.rows rows.now) self.old.watches) self.old.watches }
     {
-        before_all(rows, &mut self.list, Turn::of_root(event).goes_from(), steps);
+        before_all(
+            rows,
+            &mut self.list,
+            Turn::of_root(event).goes_from(),
+            steps,
+        );
         self.noted = Some(*event);
     }
 
@@ -174,6 +177,20 @@ impl Watches {
         after_all(rows, &mut self.list, Turn::of_root(event), steps);
         self.noted = None;
         tell_all(&self.list, out);
+    }
+
+    /// How many watches there are.
+    pub fn count(&self) -> usize
+        ensures { result ≡ length self.now.watches }
+    {
+        self.list.len()
+    }
+
+    /// Whether a watch has this number.
+    pub fn has(&self, watch: u32) -> bool
+        ensures { IsTrue result ↔ (place_of self.now.watches watch < length self.now.watches) }
+    {
+        is_there(&self.list, watch)
     }
 
     /// How many events a watch has followed since it was put.

@@ -1,4 +1,4 @@
-use Rattle.std.proofs.Common.{◌≡◌, ◌<◌, length, get_or, arith, ap, sym, ◌∙◌}
+use Rattle.std.proofs.Common.{◌≡◌, ◌<◌, get_or, arith, ap, sym, ◌∙◌}
 use Rattle.std.specs.Option.{ForSome}
 use Rattle.live.specs.Chains.{depth}
 use Rattle.live.specs.States.{WatchState}

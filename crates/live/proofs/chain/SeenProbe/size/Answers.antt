@@ -1,4 +1,4 @@
-use Rattle.std.proofs.Common.{◌≤◌, length, sym, subst, ◌∙◌}
+use Rattle.std.proofs.Common.{◌≤◌, sym, subst, ◌∙◌}
 use Rattle.mk_value.specs.Limits.{max_rows}
 use Rattle.live.proofs.Seeing.{seen_size}
 use Rattle.live.proofs.chain.SeenProbe.size.Goals as goal

@@ -1,6 +1,4 @@
-use Rattle.std.proofs.Common.{refl, ap, arith, sym, ◌∙◌}
-use Rattle.live.specs.Chains.{raised}
-use Rattle.live.specs.States.{WatchState}
+use Rattle.std.proofs.Common.{refl, arith}
 use Rattle.live.proofs.watch.Watch.follow.Goals as goal
 
 pub returns-clause-raised : goal.returns-clause-raised
