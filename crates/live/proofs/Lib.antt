@@ -3,6 +3,7 @@ pub mod Answering
 pub mod Chaining
 pub mod Counting
 pub mod Digits
+pub mod Edits
 pub mod Following
 pub mod Leading
 pub mod Members

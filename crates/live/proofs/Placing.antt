@@ -119,7 +119,7 @@ middle_or_absent p (x ∷ xs) = elim (cases_eq x p) [
   ]
 ]
 
-pub without_middle : (p : ℕ) (xs ys : List ℕ) → without (Some (length xs)) (xs ++ p ∷ ys) ≡ xs ++ ys
+pub without_middle : {X : Type 0} (p : X) (xs ys : List X) → without (Some (length xs)) (xs ++ p ∷ ys) ≡ xs ++ ys
 without_middle p xs ys =
     ap (λ zs. zs ++ drop (suc (length xs)) (xs ++ p ∷ ys)) (take_at xs (p ∷ ys) (length xs) refl)
     ∙ ap (λ zs. xs ++ zs) (ap (drop (suc (length xs))) (sym (append_assoc xs (p ∷ []) ys)) ∙ drop_at (xs ++ p ∷ []) ys (suc (length xs)) (let e = length-append xs (p ∷ []) in omega arith))

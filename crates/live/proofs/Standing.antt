@@ -17,6 +17,15 @@ use Rattle.live.proofs.Ops.{positions_few}
 use Rattle.live.proofs.Seeing.{seen_at, seen_prefix, seen_same}
 use Rattle.live.proofs.Turning.{positions_in}
 
+-- no watches stand over any rows
+pub now_none : (schema : List Attribute) (rows : List (List Datum)) → length rows ≤ max_rows → AreNow schema rows []
+now_none schema rows few = record {
+  small = few;
+  sources = λ k s d p e. absurd (omega arith);
+  asked = λ k d p. absurd (omega arith);
+  now = λ k d p. absurd (omega arith);
+}
+
 -- a watch shows no more rows than the root has
 pub now_few : (schema : List Attribute) (rows : List (List Datum)) (links : List WatchState) → AreNow schema rows links → (fuel : ℕ) (over : Option ℕ) (d : WatchState) → ForSome over (λ s. (s < length links) × (s < fuel)) → length (seen rows links over) ≤ length rows
 now_few schema rows links h fuel None d below = omega arith

@@ -1,5 +1,5 @@
 //! Laws of the definitions that the contracts of the watches cite.
-ghost use Rattle.std.specs.Prelude.{◌≡◌, ◌+◌, ◌*◌, ◌^◌, ◌<◌, ◌≤◌, [], ℕ, List, false, length, slice_index, slice_index_or, Some};
+ghost use Rattle.std.specs.Prelude.{◌≡◌, ◌+◌, ◌*◌, ◌^◌, ◌<◌, ◌≤◌, [], ℕ, List, false, length, slice_index, slice_index_or, slice_set, insert, remove, Some};
 ghost use Rattle.mk_value.specs.Data.{Datum};
 ghost use Rattle.mk_value.specs.Heading.{Attribute};
 ghost use Rattle.relations.specs.Criteria.{Interval};
@@ -27,6 +27,13 @@ pub fn places_lead_to_rows()
         → place_in_root watches (Some k) i < length rows }
     ensures value { (schema : List Attribute) (rows : List (List Datum)) (watches : List WatchState) (k : ℕ) (d : WatchState) (i : ℕ) → AreNow schema rows watches → k < length watches → i < length (slice_index_or watches k d).kept
         → slice_index_or rows (place_in_root watches (Some k) i) [] ≡ slice_index_or (seen rows watches (Some k)) i [] }
+{}
+
+/// An insertion, a removal and a change of one row are events of the rows.
+pub fn edits_are_events()
+    ensures comes { (p : ℕ) (rows : List (List Datum)) (row : List Datum) → p ≤ length rows → IsTurn (turn.Comes p) rows (insert rows p row) }
+    ensures goes { (p : ℕ) (rows : List (List Datum)) → p < length rows → IsTurn (turn.Goes p) rows (remove rows p) }
+    ensures changes { (p : ℕ) (rows : List (List Datum)) (row : List Datum) → p < length rows → IsTurn (turn.Changes p) rows (slice_set rows p row) }
 {}
 
 /// The own events of a watch lead from its rows before to its rows after, so that another watch can stand over it.

@@ -3,6 +3,7 @@ ghost use Rattle.std.specs.Prelude.{◌≡◌, ◌≢◌, ◌+◌, ◌<◌, ◌�
 ghost use Rattle.std.specs.Option.{ForSome};
 ghost use Rattle.mk_value.specs.Data.{Datum};
 ghost use Rattle.mk_value.specs.Heading.{Attribute};
+ghost use Rattle.mk_value.specs.Limits.{max_rows};
 ghost use Rattle.live.specs.Chains.{AreDue, AreNow, AreSame, AreTold, depth, place_in_root};
 ghost use Rattle.live.specs.Costs.{after_cost, before_cost};
 ghost use Rattle.live.specs.Numbers.{over_of, place_of, watch_of};
@@ -58,6 +59,7 @@ impl Watches {
     pub fn new(alloc: Global) -> Watches
         ensures watches { result.watches ≡ [] }
         ensures noted { result.noted ≡ None }
+        ensures now { (schema : List Attribute) (rows : List (List Datum)) → length rows ≤ max_rows → AreNow schema rows result.watches }
     {
         Watches {
             list: Vec::new(alloc),
