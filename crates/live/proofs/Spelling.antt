@@ -14,8 +14,8 @@ use Rattle.relations.specs.declared.criteria.Key.{Key}
 use Rattle.relations.specs.declared.error.DerivedError.{DerivedError}
 use Rattle.relations.specs.declared.error.DerivedError.TheVariants.{NoProp, KeyIsView}
 use Rattle.relations.proofs.KeyRows.{plain_keys}
-use Rattle.live.specs.Putting.{as_watch_error, op_due, spelled}
-use Rattle.live.specs.Watching.{IsAsked}
+use Rattle.live.specs.Putting.{as_watch_error, spelled}
+use Rattle.live.specs.Watching.{IsAsked, op_due}
 use Rattle.live.specs.declared.op.WatchOp.{WatchOp}
 use Rattle.live.specs.declared.op.WatchOp.TheVariants.{Range, Sort}
 
@@ -63,5 +63,4 @@ no_refusal None e = refl
 no_refusal (Some x) e = cc
 
 pub asked_where : (schema : List Attribute) (op : WatchOp) → None ≡ option_map as_watch_error (op_due schema op) → IsAsked schema op
-asked_where schema (Range criteria) e = no_refusal (range_due criteria schema) e
-asked_where schema (Sort keys) e = no_refusal (sort_due keys schema) e
+asked_where schema op e = no_refusal (op_due schema op) e

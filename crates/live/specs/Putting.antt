@@ -10,7 +10,7 @@ use Rattle.mk_value.specs.Data.{Datum}
 use Rattle.live.specs.Chains.{seen}
 use Rattle.live.specs.Numbers.{IsLeastFree}
 use Rattle.live.specs.Placing.{closed}
-use Rattle.live.specs.Watching.{positions}
+use Rattle.live.specs.Watching.{op_due, positions}
 use Rattle.live.specs.States.{WatchState, Watching}
 use Rattle.live.specs.declared.error.WatchError.{WatchError}
 use Rattle.live.specs.declared.error.WatchError.TheVariants as watch_error
@@ -28,10 +28,6 @@ spelled schema (Sort keys) = Sort (keys_or_all schema keys)
 abbrev pub as_watch_error : DerivedError → WatchError
 as_watch_error (NoProp name) = watch_error.NoProp
 as_watch_error _ = watch_error.WrongKind
-
-abbrev pub op_due : List Attribute → WatchOp → Option DerivedError
-op_due schema (Range criteria) = range_due criteria schema
-op_due schema (Sort keys) = sort_due keys schema
 
 -- the refusal of a watch over a source of this depth: of its operator, or else because the chain would pass four
 abbrev pub put_due : List Attribute → WatchOp → ℕ → Option WatchError

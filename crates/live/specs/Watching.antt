@@ -9,6 +9,7 @@ use Rattle.relations.specs.Criteria.{is_in_range}
 use Rattle.relations.specs.Positions.{order_of, passing, place_cmp}
 use Rattle.relations.specs.Refusals.{range_due, sort_due}
 use Rattle.relations.specs.Sorting.{row_cmp}
+use Rattle.relations.specs.declared.error.DerivedError.{DerivedError}
 use Rattle.live.specs.Placing.{without}
 use Rattle.live.specs.declared.event.Event.{Event}
 use Rattle.live.specs.declared.event.Event.TheVariants.{Insert, Remove, Change}
@@ -36,10 +37,14 @@ positions schema (Sort keys) rows = order_of (row_cmp schema keys) [] rows
 abbrev pub position_cmp : List Attribute → WatchOp → List (List Datum) → ℕ → ℕ → Ordering
 position_cmp schema op rows = place_cmp (order schema op) [] rows
 
--- no refusal is due of the criteria or the keys
+-- the refusal that the criteria or the keys are due
+abbrev pub op_due : List Attribute → WatchOp → Option DerivedError
+op_due schema (Range criteria) = range_due criteria schema
+op_due schema (Sort keys) = sort_due keys schema
+
+-- a watch may be asked of rows of the schema: no refusal is due
 abbrev pub IsAsked : List Attribute → WatchOp → Type 0
-IsAsked schema (Range criteria) = range_due criteria schema ≡ None
-IsAsked schema (Sort keys) = sort_due keys schema ≡ None
+IsAsked schema op = op_due schema op ≡ None
 
 abbrev pub is_sorting : WatchOp → Bool
 is_sorting (Range criteria) = false

@@ -3,7 +3,8 @@ ghost use Rattle.std.specs.Prelude.{◌≡◌, None, IfOk};
 ghost use Rattle.std.specs.Option.{option_map};
 ghost use Rattle.std.specs.Result.{result_err};
 ghost use Rattle.relations.specs.Sorting.{all_keys, keys_or_all};
-ghost use Rattle.live.specs.Putting.{as_watch_error, op_due, spelled};
+ghost use Rattle.live.specs.Putting.{as_watch_error, spelled};
+ghost use Rattle.live.specs.Watching.{op_due};
 
 use crate::error::WatchError;
 use crate::op::{Keys, WatchOp};

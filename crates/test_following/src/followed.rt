@@ -1,12 +1,11 @@
 //! A table and the watches over it, which follow its events.
-ghost use Rattle.std.specs.Prelude.{◌≡◌, IfOk};
+ghost use Rattle.std.specs.Prelude.{◌≡◌, ◌↔◌, length, IfOk, IsTrue, OnOk};
 ghost use Rattle.live.specs.Chains.{AreNow};
 ghost use Rattle.live.specs.Putting.{IsPlace};
 ghost use Rattle.live.specs.Watching.{IsTurn, root_turn};
-ghost use Rattle.std.specs.Prelude.{length, IsTrue, ◌↔◌};
 
 use live::{Event, Out, Over, WatchOp, Watches};
-use mk_value::{HeldRows, Row, Steps, TableRead, rows_fit};
+use mk_value::{HeldRows, Memory, Row, Rows, Steps, TableRead, rows_fit};
 use std::alloc::Global;
 use std::sync::ledger::Ledger;
 use std::test::Fail;
@@ -43,6 +42,24 @@ pub fn put(followed: Followed, source: Option<u32>, op: WatchOp) -> Result<(Foll
     Ok((Followed { table, watches }, number))
 }
 
+/// Does to rows what an event tells; the row is the one that comes.
+fn edit(rows: &mut Rows, event: &Event, row: &Row) -> Result<(), Memory>
+    requires { IsPlace event.now (length rows.old) }
+    ensures { OnOk result (IsTurn (root_turn event.now) rows.old rows.new) }
+{
+    match *event {
+        Event::Insert(at) => rows.insert(at, row, 1),
+        Event::Remove(at) => {
+            rows.remove(at, 1);
+            Ok(())
+        }
+        Event::Change(at) => {
+            rows.remove(at, 1);
+            rows.insert(at, row, 1)
+        }
+    }
+}
+
 /// The table after an event.
 fn edited(table: &HeldRows, event: &Event, row: &Row) -> Result<HeldRows, Fail>
     requires { IsPlace event.now (length table.now.rows) }
@@ -50,14 +67,7 @@ fn edited(table: &HeldRows, event: &Event, row: &Row) -> Result<HeldRows, Fail>
     ensures rows { IfOk result (λ new. IsTurn (root_turn event.now) table.now.rows new.rows) }
 {
     let mut rows = table.rows().copy()?;
-    match *event {
-        Event::Insert(at) => rows.insert(at, row, 1)?,
-        Event::Remove(at) => rows.remove(at, 1),
-        Event::Change(at) => {
-            rows.remove(at, 1);
-            rows.insert(at, row, 1)?;
-        }
-    }
+    edit(&mut rows, event, row)?;
     if !rows_fit(&rows, table.schema()) {
         return Err(Fail::new("a row of another schema"));
     }

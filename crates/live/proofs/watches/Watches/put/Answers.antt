@@ -3,9 +3,9 @@ use Rattle.std.specs.Option.{ForSome, option_map}
 use Rattle.mk_value.specs.Heading.{Attribute}
 use Rattle.live.specs.Chains.{AreLinked, AreNow, seen}
 use Rattle.live.specs.Numbers.{over_of}
-use Rattle.live.specs.Putting.{as_watch_error, op_due, spelled}
+use Rattle.live.specs.Putting.{as_watch_error, spelled}
 use Rattle.live.specs.States.{Watching, WatchState}
-use Rattle.live.specs.Watching.{IsAsked, positions}
+use Rattle.live.specs.Watching.{IsAsked, op_due, positions}
 use Rattle.live.proofs.Seeing.{linked_inside}
 use Rattle.live.proofs.Spelling.{asked_where, spelled_asked}
 use Rattle.live.proofs.Standing.{now_linked}
