@@ -16,8 +16,12 @@ use Rattle.live.specs.declared.op.WatchOp.TheVariants.{Range, Sort}
 never_less : Equal ≡ Less → ⊥
 never_less e = cc
 
+-- an order in which all tie
+pub equal_total : {X : Type 0} → IsTotalOrder (λ (a b : X). Equal)
+equal_total = record { antisymm = λ x y. refl; trans = λ x y z p q. absurd (never_less p); congr = λ x y z p. refl }
+
 pub op_total : (schema : List Attribute) (op : WatchOp) → IsTotalOrder (order schema op)
-op_total schema (Range criteria) = record { antisymm = λ x y. refl; trans = λ x y z p q. absurd (never_less p); congr = λ x y z p. refl }
+op_total schema (Range criteria) = equal_total
 op_total schema (Sort keys) = row_cmp_total schema keys
 
 pub positions_few : (schema : List Attribute) (op : WatchOp) (rows : List (List Datum)) → length (positions schema op rows) ≤ length rows

@@ -12,7 +12,7 @@ use Rattle.live.specs.declared.op.WatchOp.{WatchOp}
 use Rattle.live.specs.declared.op.WatchOp.TheVariants.{Range, Sort}
 use Rattle.relations.specs.Criteria.{is_in_range}
 use Rattle.relations.specs.Sorting.{row_cmp}
-use Rattle.relations.specs.Positions.{numbers, place_cmp}
+use Rattle.relations.specs.Positions.{numbers, passing, place_cmp}
 use Rattle.live.specs.Placing.{without}
 use Rattle.live.specs.Watching.{passes, order, positions, placed}
 use Rattle.relations.proofs.Ascending.{IsIn, Ascends, AreApart, each_in, each_from_in, in_at, place_of, not_less, less_nat, sorted_up, in_sorted, in_sorted_back}
@@ -53,14 +53,17 @@ apart_from_ascends cmp exact (x ∷ xs) up = (
   apart_from_ascends cmp exact xs up.1,
 )
 
-pub picked_positions : (schema : List Attribute) (op : WatchOp) (rows : List (List Datum)) → ArePicked (passes schema op) (order schema op) [] rows (positions schema op rows)
-picked_positions schema (Range criteria) rows =
-    let test : ℕ → Bool = λ i. is_in_range schema criteria (get_or rows i []) in
+pub picked_passing : {X : Type 0} (test : X → Bool) (d : X) (rows : List X) → ArePicked test (λ a b. Equal) d rows (passing test d rows)
+picked_passing test d rows =
+    let here : ℕ → Bool = λ i. test (get_or rows i d) in
     record {
-      ascends = ascends_filter test (numbers (length rows)) (ascends_numbers (length rows));
-      inside = λ i h. let r = in_filter test (numbers (length rows)) i h in (in_numbers (length rows) i r.0, r.1);
-      whole = λ i q t. filter_in test (numbers (length rows)) i (numbers_in (length rows) i q) t;
+      ascends = ascends_filter here (numbers (length rows)) (ascends_numbers (length rows));
+      inside = λ i h. let r = in_filter here (numbers (length rows)) i h in (in_numbers (length rows) i r.0, r.1);
+      whole = λ i q t. filter_in here (numbers (length rows)) i (numbers_in (length rows) i q) t;
     }
+
+pub picked_positions : (schema : List Attribute) (op : WatchOp) (rows : List (List Datum)) → ArePicked (passes schema op) (order schema op) [] rows (positions schema op rows)
+picked_positions schema (Range criteria) rows = picked_passing (is_in_range schema criteria) [] rows
 picked_positions schema (Sort keys) rows =
     let cmp = place_cmp (row_cmp schema keys) [] rows in
     record {
@@ -125,17 +128,20 @@ without_middle p xs ys =
     ∙ ap (λ zs. xs ++ zs) (ap (drop (suc (length xs))) (sym (append_assoc xs (p ∷ []) ys)) ∙ drop_at (xs ++ p ∷ []) ys (suc (length xs)) (let e = length-append xs (p ∷ []) in omega arith))
 
 -- without the row at p
-pub others_placed : (schema : List Attribute) (op : WatchOp) (rows : List (List Datum)) (kept : List ℕ) (p : ℕ) → ArePicked (passes schema op) (order schema op) [] rows kept → AreOthers (passes schema op) (order schema op) [] rows p (without (placed kept (Some p)) kept)
-others_placed schema op rows kept p h = elim (middle_or_absent p kept) [
+pub others_left : {X : Type 0} (test : X → Bool) (cmp : X → X → Ordering) → IsTotalOrder cmp → (d : X) (rows : List X) (kept : List ℕ) (p : ℕ) → ArePicked test cmp d rows kept
+    → AreOthers test cmp d rows p (without (placed kept (Some p)) kept)
+others_left test cmp total d rows kept p h = elim (middle_or_absent p kept) [
   | inl m ↦
       let same : without (placed kept (Some p)) kept ≡ m.front ++ m.back =
       ap (λ ks. without (position (λ k. k == p) ks) ks) m.is ∙ ap (λ o. without o (m.front ++ p ∷ m.back)) (position_middle p m.front m.back m.first) ∙ without_middle p m.front m.back in
-      subst (AreOthers (passes schema op) (order schema op) [] rows p) (sym same)
-      (others_from_middle (passes schema op) (order schema op) (op_total schema op) [] rows p m.front m.back (subst (ArePicked (passes schema op) (order schema op) [] rows) m.is h))
+      subst (AreOthers test cmp d rows p) (sym same) (others_from_middle test cmp total d rows p m.front m.back (subst (ArePicked test cmp d rows) m.is h))
   | inr away ↦
-      subst (AreOthers (passes schema op) (order schema op) [] rows p) (sym (ap (λ o. without o kept) (position_absent p kept away)))
-      (others_from_absent (passes schema op) (order schema op) (op_total schema op) [] rows p kept h away)
+      subst (AreOthers test cmp d rows p) (sym (ap (λ o. without o kept) (position_absent p kept away)))
+      (others_from_absent test cmp total d rows p kept h away)
 ]
+
+pub others_placed : (schema : List Attribute) (op : WatchOp) (rows : List (List Datum)) (kept : List ℕ) (p : ℕ) → ArePicked (passes schema op) (order schema op) [] rows kept → AreOthers (passes schema op) (order schema op) [] rows p (without (placed kept (Some p)) kept)
+others_placed schema op = others_left (passes schema op) (order schema op) (op_total schema op) []
 
 -- what stands before a place, and what from there on
 in_front : (xs : List ℕ) (n x : ℕ) → n ≤ length xs → IsIn x (take n xs) → (k : ℕ) × (k < n) × (get_or xs k 0 ≡ x)

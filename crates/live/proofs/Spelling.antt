@@ -44,7 +44,7 @@ none_found e test [] all = refl
 none_found e test (x ∷ xs) all =
     ap (λ b. option_map e (cond b (Some x) (find test xs))) (all 0 x (omega arith)) ∙ none_found e test xs (λ k d p. all (suc k) d (omega arith))
 
-plain_names : (schema : List Attribute) (keys : List Key) → ArePlain schema keys → sort_due keys schema ≡ None
+pub plain_names : (schema : List Attribute) (keys : List Key) → ArePlain schema keys → sort_due keys schema ≡ None
 plain_names schema keys h =
     let prop : Key → List ℕ = λ k. k.prop in
     let names = map prop keys in

@@ -107,7 +107,7 @@ fn find<L: Ledger, P: Probe<L>>(
 }
 
 /// Takes the row at a place out, if one is named.
-fn leave(kept: &mut Vec<u32>, at: Option<usize>)
+pub fn leave(kept: &mut Vec<u32>, at: Option<usize>)
     requires { ForSome at (λ i. i < length kept.old.items) }
     ensures items { kept.new.items ≡ without at kept.old.items }
     ensures len { vec_len kept.new ≤ vec_len kept.old }
@@ -119,7 +119,7 @@ fn leave(kept: &mut Vec<u32>, at: Option<usize>)
 }
 
 /// Moves the positions past p down.
-fn close(kept: &mut [u32], p: usize)
+pub fn close(kept: &mut [u32], p: usize)
     ensures { kept.new ≡ map (closed p) kept.old }
 {
     for k in kept.iter_mut() {
@@ -128,7 +128,7 @@ fn close(kept: &mut [u32], p: usize)
 }
 
 /// Moves the positions from p on up.
-fn open(kept: &mut [u32], p: usize)
+pub fn open(kept: &mut [u32], p: usize)
     requires { All (λ k. k + 1 < 2 ^ 32) kept.old }
     ensures { kept.new ≡ map (opened p) kept.old }
 {
@@ -207,7 +207,7 @@ fn told(stays: bool, from: Option<usize>, to: Option<usize>) -> Turn
 
 /// What a watch keeps: what it shows, the positions of its rows in those of its source, and where the row that is to go stands in it.
 #[derive(Drop)]
-pub(crate) struct Keeper {
+pub struct Keeper {
     pub op: WatchOp,
     pub kept: Vec<u32>,
     pub going: Option<usize>,

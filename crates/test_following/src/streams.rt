@@ -200,14 +200,16 @@ fn one_event<L: Ledger>(
 ) -> Result<Followed, Fail> {
     let event = event(numbers, followed.table.size());
     let row = row(alloc, numbers)?;
-    let count = ops.len() as u32;
+    let count = u32::try_from(ops.len())?;
     let mut old = all_shown(alloc, &followed, count)?;
     let followed = follow(followed, &event, &row, out, steps)?;
     let anew = chain(alloc, followed.table.same()?, ops)?;
-    let mut watch = 0;
-    for rows in old.iter_mut() {
-        check(alloc, watch, rows, &followed, &anew, out.as_slice())?;
-        watch += 1;
+    for watch in 0..count {
+        let at = watch as usize;
+        if at >= old.len() {
+            return Err(Fail::new("fewer watches than operators"));
+        }
+        check(alloc, watch, &mut old[at], &followed, &anew, out.as_slice())?;
     }
     Ok(followed)
 }
