@@ -61,7 +61,7 @@ fn edit(rows: &mut Rows, event: &Event, row: &Row) -> Result<(), Memory>
 }
 
 /// The table after an event.
-fn edited(table: &HeldRows, event: &Event, row: &Row) -> Result<HeldRows, Fail>
+pub fn edited(table: &HeldRows, event: &Event, row: &Row) -> Result<HeldRows, Fail>
     requires { IsPlace event.now (length table.now.rows) }
     ensures schema { IfOk result (λ new. new.schema ≡ table.now.schema) }
     ensures rows { IfOk result (λ new. IsTurn (root_turn event.now) table.now.rows new.rows) }
@@ -75,7 +75,7 @@ fn edited(table: &HeldRows, event: &Event, row: &Row) -> Result<HeldRows, Fail>
 }
 
 /// Whether the event may happen to so many rows.
-fn is_place(event: &Event, size: usize) -> bool
+pub fn is_place(event: &Event, size: usize) -> bool
     ensures { IsTrue result ↔ IsPlace event.now size }
 {
     match *event {

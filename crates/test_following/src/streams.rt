@@ -1,6 +1,7 @@
 //! A hundred streams of events, each from a number.
 ghost use Rattle.std.specs.Prelude.{◌≡◌, ◌<◌};
 
+use crate::counted::{Counted, begin_counts, recount};
 use crate::followed::{Followed, begin, follow, put};
 use live::{Criteria, Event, Keys, Out, Told, WatchOp};
 use mk_value::{HeldRows, Row, Rows, Same, Steps, TableRead, Value, rows_fit};
@@ -237,10 +238,41 @@ fn stream<L: Ledger>(alloc: Global, seed: u64, blank: Blank) -> Result<(), Fail>
     Ok(())
 }
 
+/// The first row and the number of rows of each key.
+fn keys_counted(alloc: Global, counted: &Counted) -> Result<Vec<(usize, u32)>, Fail> {
+    let mut all = Vec::new(alloc);
+    for i in 0..counted.counts.len() {
+        all.push((counted.counts.first(i), counted.counts.count(i)))?;
+    }
+    Ok(all)
+}
+
+/// Counts, and twelve events.
+fn count_stream<L: Ledger>(alloc: Global, seed: u64, blank: Blank) -> Result<(), Fail>
+    requires name { blank.name ≡ L.name }
+    requires parts { blank.parts ≡ L.parts }
+    requires some { 0 < blank.parts }
+{
+    let mut steps = Steps::<L>::new(blank);
+    let mut numbers = Numbers { state: seed };
+    let mut held = begin_counts(alloc, table(alloc, &mut numbers)?, 1)?;
+    for _ in 0..12 {
+        let event = event(&mut numbers, held.table.size());
+        let row = row(alloc, &mut numbers)?;
+        held = recount(held, &event, &row, &mut steps)?;
+        let anew = begin_counts(alloc, held.table.same()?, 1)?;
+        if keys_counted(alloc, &held)? != keys_counted(alloc, &anew)? {
+            return Err(Fail::new("made anew it has other counts"));
+        }
+    }
+    Ok(())
+}
+
 #[test]
-fn kept_positions_are_those_made_anew(rt: HostRuntime) -> Result<(), Fail> {
+fn positions_and_counts_are_those_made_anew(rt: HostRuntime) -> Result<(), Fail> {
     for seed in 0..100 {
         stream::<Brand>(rt.alloc(), seed, Blank::new(1))?;
+        count_stream::<Brand>(rt.alloc(), seed, Blank::new(1))?;
     }
     Ok(())
 }
