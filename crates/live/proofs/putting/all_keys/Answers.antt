@@ -1,0 +1,12 @@
+use Rattle.std.proofs.Common.{List, get_or, arith, ap, sym, ◌∙◌}
+use Rattle.mk_value.specs.Heading.{Attribute}
+use Rattle.relations.specs.Fitting.{is_view}
+use Rattle.live.proofs.Spelling.{key_skipped}
+use Rattle.live.proofs.putting.all_keys.Goals as goal
+
+pub loop-col-preserved-then-is_view : goal.loop-col-preserved-then-is_view
+loop-col-preserved-then-is_view c =
+    c.loop-col.invariant
+    ∙ key_skipped c.args.schema.now c.loop-col.col c.index-as_slice-col.result (let n = c.len-col-end.ensures.value in let t = c.loop-col-test.true in omega arith)
+    (c.index-as_slice-col.is ∙ ap (λ (s : List Attribute). get_or s c.loop-col.col c.index-as_slice-col.result) c.as_slice.ensures.value)
+    (ap (λ (a : Attribute). is_view a.domain) (sym c.prop.view_is) ∙ sym c.is_view.ensures ∙ c.if-is_view.true)

@@ -1,0 +1,16 @@
+use Rattle.std.proofs.Common.{refl, arith}
+use Rattle.live.proofs.watch.Watch.follow.Goals as goal
+
+pub returns-clause-raised : goal.returns-clause-raised
+returns-clause-raised g c =
+    rw (← c.self.view_is) (record {
+      number = refl;
+      source = refl;
+      op = c.after-self-inside.ensures.op;
+      room =
+          let a = c.after-self-inside.ensures.capacity in
+          let b = c.after-self-inside.ensures.len in
+          let d = c.requires.room in
+          omega arith;
+      followed = c.saturating_add-self-inside.ensures;
+    })

@@ -1,0 +1,11 @@
+pub mod Chains
+pub mod Costs
+pub mod Keeping
+pub mod Laws
+pub mod Numbers
+pub mod OutStates
+pub mod Placing
+pub mod Putting
+pub mod States
+pub mod Telling
+pub mod Watching

@@ -1,0 +1,23 @@
+-- What contracts see of watches.
+use Rattle.std.specs.Prelude.{ℕ, List, Option}
+use Rattle.live.specs.declared.event.Event.{Event}
+use Rattle.live.specs.declared.turn.Turn.{Turn}
+use Rattle.live.specs.declared.op.WatchOp.{WatchOp}
+
+-- a watch: its number; the place of its source among the watches, or none where that is the root; what it shows; the positions that
+-- it keeps, in the rows of its source; how many positions more it takes without memory; where the row that is to go stands in it, as
+-- it noted before the last event; what the last event did to it; and how many events it has followed
+pub record WatchState : Type 0 where
+  pub number : ℕ
+  pub source : Option ℕ
+  pub op : WatchOp
+  pub kept : List ℕ
+  pub room : ℕ
+  pub going : Option ℕ
+  pub turn : Turn
+  pub followed : ℕ
+
+-- all watches of a root, in the order in which they were put, and the event that they have noted and not yet followed
+pub record Watching : Type 0 where
+  pub watches : List WatchState
+  pub noted : Option Event

@@ -1,0 +1,222 @@
+//! All watches of a root.
+ghost use Rattle.std.specs.Prelude.{◌≡◌, ◌≢◌, ◌+◌, ◌<◌, ◌≤◌, [], ℕ, All, IsTrue, ◌↔◌, List, length, slice_index_or, sum_by, None, Some, IfOk, OnOk, OnErr};
+ghost use Rattle.std.specs.Option.{ForSome};
+ghost use Rattle.mk_value.specs.Data.{Datum};
+ghost use Rattle.mk_value.specs.Heading.{Attribute};
+ghost use Rattle.mk_value.specs.Limits.{max_rows};
+ghost use Rattle.live.specs.Chains.{AreDue, AreNow, AreSame, AreTold, depth, place_in_root};
+ghost use Rattle.live.specs.Costs.{after_cost, before_cost};
+ghost use Rattle.live.specs.Numbers.{over_of, place_of, watch_of};
+ghost use Rattle.live.specs.Putting.{AnswersPut, IsPlace, IsPut, put_due, spare, without_watch};
+ghost use Rattle.live.specs.States.{WatchState};
+ghost use Rattle.live.specs.Telling.{told_by};
+ghost use Rattle.live.specs.Watching.{root_turn};
+
+use crate::chain::{after_all, before_all, depth_of, root_place};
+use crate::error::WatchError;
+use crate::event::Event;
+use crate::listed::{
+    close_sources, find, free_number, is_there, place, push, reserve_all, tell_all,
+};
+use crate::op::WatchOp;
+use crate::out::Out;
+use crate::picked::seen_positions;
+use crate::probe::Probe;
+use crate::putting::{check_op, spelled};
+use crate::turn::Turn;
+use crate::watch::Watch;
+use mk_value::{Memory, Steps, TableRead};
+use std::alloc::Global;
+use std::marker::Model;
+use std::sync::ledger::Ledger;
+
+/// The watches of one root view, each over its rows or over a watch that was put before.
+#[derive(Drop)]
+pub struct Watches {
+    list: Vec<Watch>,
+    noted: Option<Event>,
+}
+
+impl Model for Watches {
+    ghost use Rattle.live.specs.States.{Watching};
+
+    ghost Value = { Watching };
+
+    ghost use Rattle.std.specs.Coded.{codes};
+    ghost use Rattle.relations.specs.Criteria.{interval_code};
+
+    ghost coded = { Prim.hlevel (codes, interval_code) };
+
+    ghost use Rattle.live.specs.Keeping.{AreKept};
+
+    ghost view = { λ s. record { watches = s.list.items; noted = s.noted } };
+
+    ghost invariant = { λ s. AreKept s.list.items s.noted };
+}
+
+impl Watches {
+    /// No watches.
+    pub fn new(alloc: Global) -> Watches
+        ensures watches { result.watches ≡ [] }
+        ensures noted { result.noted ≡ None }
+        ensures now { (schema : List Attribute) (rows : List (List Datum)) → length rows ≤ max_rows → AreNow schema rows result.watches }
+    {
+        Watches {
+            list: Vec::new(alloc),
+            noted: None,
+        }
+    }
+
+    /// Adds a watch over the rows, or over an earlier watch, and gives it the least number that no watch has. A sorting without keys
+    /// is by all properties that are no views. The rows are those that the watches stand over.
+    ///
+    /// # Errors
+    ///
+    /// In this order: `NoProp` where a named property is absent, `WrongKind` where one is a view or a value does not fit it, `TooDeep`
+    /// where the chain would be more than four long, `Memory`. The watches are then as before.
+    pub fn put<T: TableRead>(
+        &mut self,
+        source: Option<u32>,
+        op: WatchOp,
+        rows: &T,
+    ) -> Result<u32, WatchError>
+        requires source { ForSome source (λ n. place_of self.old.watches n < length self.old.watches) }
+        requires few { length self.old.watches < 64 }
+        requires now { AreNow (T.schema rows.now) (T.rows rows.now) self.old.watches }
+        ensures due { AnswersPut (put_due (T.schema rows.now) op (depth self.old.watches (over_of self.old.watches source))) result }
+        ensures put { IfOk result (IsPut (T.schema rows.now) (T.rows rows.now) self.old.watches (over_of self.old.watches source) op self.new.watches) }
+        ensures noted { OnOk result (self.new.noted ≡ None) }
+        ensures now { AreNow (T.schema rows.now) (T.rows rows.now) self.new.watches }
+        ensures err { OnErr result (self.new ≡ self.old) }
+    {
+        let schema = rows.schema();
+        check_op(schema, &op)?;
+        let over = place(&self.list, source);
+        if depth_of(&self.list, over) > 3 {
+            return Err(WatchError::TooDeep);
+        }
+        let alloc = *self.list.allocator();
+        let kept = seen_positions(alloc, &self.list, over, &op, rows)?;
+        let op = spelled(alloc, schema, op)?;
+        let number = free_number(&self.list);
+        push(&mut self.list, Watch::new(number, over, op, kept))?;
+        self.noted = None;
+        Ok(number)
+    }
+
+    /// Takes out a watch that no watch stands over.
+    pub fn take_out(&mut self, watch: u32)
+        requires there { place_of self.old.watches watch < length self.old.watches }
+        requires free { All (λ w. w.source ≢ Some (place_of self.old.watches watch)) self.old.watches }
+        ensures watches { self.new.watches ≡ without_watch (place_of self.old.watches watch) self.old.watches }
+        ensures noted { self.new.noted ≡ None }
+        ensures now { (schema : List Attribute) (rows : List (List Datum)) → AreNow schema rows self.old.watches → AreNow schema rows self.new.watches }
+    {
+        let at = find(&self.list, watch);
+        let _taken = self.list.remove(at);
+        close_sources(&mut self.list, at);
+        self.noted = None;
+    }
+
+    /// Makes room for so many events more.
+    ///
+    /// # Errors
+    ///
+    /// `Memory`; the watches are then as before.
+    pub fn reserve(&mut self, more: usize) -> Result<(), Memory>
+        ensures same { AreSame self.old.watches self.new.watches }
+        ensures noted { self.new.noted ≡ self.old.noted }
+        ensures now { (schema : List Attribute) (rows : List (List Datum)) → AreNow schema rows self.old.watches → AreNow schema rows self.new.watches }
+        ensures spare { OnOk result (more ≤ spare self.new) }
+    {
+        if more == usize::MAX {
+            return Err(Memory);
+        }
+        // One is set aside where an event is noted.
+        reserve_all(&mut self.list, more + 1)
+    }
+
+    /// Notes an event before it happens. It takes no memory.
+    pub fn before<L: Ledger, P: Probe<L>>(&mut self, rows: &P, event: &Event, steps: &mut Steps<L>)
+        requires now { AreNow (P.schema rows.now) (P.rows rows.now) self.old.watches }
+        requires reserved { 0 < spare self.old }
+        requires place { IsPlace event.now (length (P.rows rows.now)) }
+        ensures same { AreSame self.old.watches self.new.watches }
+        ensures now { AreNow (P.schema rows.now) (P.rows rows.now) self.new.watches }
+        ensures noted { self.new.noted ≡ Some event.now }
+        ensures spare { spare self.old ≤ spare self.new + 1 }
+        ensures cost { steps.new ≤ steps.old + sum_by (before_cost (P.rows rows.now) self.old.watches) self.old.watches }
+    {
+        before_all(
+            rows,
+            &mut self.list,
+            Turn::of_root(event).goes_from(),
+            steps,
+        );
+        self.noted = Some(*event);
+    }
+
+    /// Follows the event that was noted last, after it happened, and puts the own events of each watch into the list, which is emptied
+    /// first. It takes no memory.
+    pub fn after<L: Ledger, P: Probe<L>>(
+        &mut self,
+        rows: &P,
+        event: &Event,
+        out: &mut Out,
+        steps: &mut Steps<L>,
+    )
+        requires due { AreDue (P.schema rows.now) self.old.watches (root_turn event.now) (P.rows rows.now) }
+        requires noted { self.old.noted ≡ Some event.now }
+        requires told_room { length self.old.watches ≤ out.old.spare }
+        ensures now { AreNow (P.schema rows.now) (P.rows rows.now) self.new.watches }
+        ensures told { AreTold (root_turn event.now) self.old.watches self.new.watches }
+        ensures out { out.new.told ≡ told_by self.new.watches }
+        ensures noted { self.new.noted ≡ None }
+        ensures spare { spare self.old ≤ spare self.new }
+        ensures out_spare { out.new.spare ≡ out.old.spare }
+        ensures cost { steps.new ≤ steps.old + sum_by (after_cost (P.rows rows.now) self.new.watches) self.new.watches }
+    {
+        after_all(rows, &mut self.list, Turn::of_root(event), steps);
+        self.noted = None;
+        tell_all(&self.list, out);
+    }
+
+    /// How many watches there are.
+    pub fn count(&self) -> usize
+        ensures { result ≡ length self.now.watches }
+    {
+        self.list.len()
+    }
+
+    /// Whether a watch has this number.
+    pub fn has(&self, watch: u32) -> bool
+        ensures { IsTrue result ↔ (place_of self.now.watches watch < length self.now.watches) }
+    {
+        is_there(&self.list, watch)
+    }
+
+    /// How many events a watch has followed since it was put.
+    pub fn followed(&self, watch: u32) -> u64
+        requires { place_of self.now.watches watch < length self.now.watches }
+        ensures { (d : WatchState) → result ≡ (watch_of self.now.watches watch d).followed }
+    {
+        self.list[find(&self.list, watch)].followed()
+    }
+
+    /// Where the row at a place of a watch stands in the root.
+    pub fn at(&self, watch: u32, i: usize) -> usize
+        requires there { place_of self.now.watches watch < length self.now.watches }
+        requires row_in { (d : WatchState) → i < length (watch_of self.now.watches watch d).kept }
+        ensures { result ≡ place_in_root self.now.watches (Some (place_of self.now.watches watch)) i }
+    {
+        root_place(&self.list, Some(find(&self.list, watch)), i)
+    }
+
+    /// How many rows a watch has.
+    pub fn len(&self, watch: u32) -> usize
+        requires { place_of self.now.watches watch < length self.now.watches }
+        ensures { (d : WatchState) → result ≡ length (watch_of self.now.watches watch d).kept }
+    {
+        self.list[find(&self.list, watch)].len()
+    }
+}

@@ -1,0 +1,4 @@
+pub mod Flagging
+pub mod Following
+pub mod Keying
+pub mod Numbering

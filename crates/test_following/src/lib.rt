@@ -1,0 +1,10 @@
+//! Tests of watches that follow events: after each event of a stream the kept positions are those of watches made anew, and what was told
+//! leads from the rows that a watch showed to those that it shows; and counts are those made anew.
+//!
+//! They stand above the crates that they test, since a crate with tests in it is proved once more with them.
+#![tactic(auto)]
+
+mod counted;
+mod followed;
+#[cfg(test)]
+mod streams;
