@@ -1,6 +1,6 @@
 -- What stands in a line is gone over by its goals.
 use Rattle.std.proofs.Common.{◌≡◌, ◌≢◌, ◌⊎◌, inl, inr, ℕ, suc, pos, ◌+◌, ◌-◌, ◌<◌, ◌≤◌, ◌^◌, ◌==◌, nat_lt, Bool, true, false, List, [], ◌∷◌, ◌++◌, length, All, Option, Some, None, refl, sym, ap, subst, ◌∙◌, append_assoc, append-nil, arith, if◌then◌else◌}
-use Rattle.std.proofs.lemmas.List.Elements.{All-head, All-tail}
+use Rattle.std.proofs.lemmas.List.Elements.{All-cons, All-head, All-tail}
 use borrow.Author.Tests.{lt-ltb}
 use Rattle.mk_value.specs.Data.{Datum, IsText, integer, long, relation}
 use Rattle.mk_value.specs.Data as data_
@@ -20,7 +20,7 @@ use Rattle.expr_text.specs.Queries as queries
 use Rattle.expr_text.specs.Queries.{IsQuery, Query}
 use Rattle.expr_text.specs.Spelling.{criterion_tokens, listed, tail_tokens, tokens_of}
 use Rattle.expr_text.specs.Readers.{kept_form, operator_of}
-use Rattle.expr_text.specs.Walk.{Goal, a_count, a_literal, a_name, a_path, a_query, a_sign, a_text, a_word, an_operation, are_met, followed, form_goals, goes, is_held, member_goals, more_criteria, moved, operated, operator_named, pass, push, rows, step, steps, values, wrong}
+use Rattle.expr_text.specs.Walk.{Goal, a_count, a_literal, a_name, a_path, a_query, a_sign, a_text, a_word, an_operation, are_met, criteria_goals, followed, form_goals, goes, is_held, member_goals, more_criteria, moved, operated, operator_named, pass, push, rows, step, steps, values, wrong}
 use Rattle.expr_text.specs.declared.list.Item.TheVariants as items
 use Rattle.expr_text.specs.declared.kept_up.KeptUp.{KeptUp}
 use Rattle.expr_text.specs.declared.kept_up.KeptUp.TheVariants as kept_up
@@ -28,6 +28,8 @@ use Rattle.expr_text.specs.declared.operator.Operator.{Operator}
 use Rattle.expr_text.specs.declared.operator.Operator.TheVariants as operators
 use Rattle.expr_text.proofs.Held.{held_bytes, held_count, held_number, held_text, held_word}
 use Rattle.expr_text.proofs.Limited.{GoesWhole}
+use Rattle.expr_text.proofs.Meaning.{Meant, criterion_sound, meant_split}
+use Rattle.expr_text.proofs.Whole.{single}
 use Rattle.expr_text.proofs.Running.{held_operator, operator_word, word_operator}
 use Rattle.expr_text.proofs.Walking.{along, applied_walks, criterion_walks, literal_walks, opens_first, path_query_walks, path_walks, rows_walk, tail_walks, walk, walk_first, walk_sign, walk_word, walked}
 
@@ -141,7 +143,7 @@ more_go (c ∷ xs) whole =
     ∙ criterion_walks c (All-head IsCriterion c xs whole) (listed criterion_tokens xs) false (more_criteria ∷ [])
     ∙ more_go xs (All-tail IsCriterion c xs whole)
 
-pub criteria_goes : (xs : List Criterion) → xs ≢ [] → All IsCriterion xs → GoesWhole (member_goals items.Criterion ++ (more_criteria ∷ [])) (joined_tokens xs)
+pub criteria_goes : (xs : List Criterion) → xs ≢ [] → All IsCriterion xs → GoesWhole criteria_goals (joined_tokens xs)
 criteria_goes [] some whole = absurd (some refl)
 criteria_goes (c ∷ xs) some whole = record {
   left = more_criteria ∷ [];
@@ -182,3 +184,14 @@ no_kept (number z) none follows = refl
 no_kept (text content) none follows = refl
 no_kept (bytes content) none follows = refl
 no_kept (sign s) none follows = refl
+
+-- what meets the goals of criteria
+pub criteria_sound : (ts : List Token) → Meant criteria_goals ts → (list : List Criterion) × (list ≢ []) × All IsCriterion list × (ts ≡ joined_tokens list)
+criteria_sound ts m =
+    let both = meant_split (member_goals items.Criterion) (more_criteria ∷ []) ts m in
+    let c = criterion_sound both.0 both.2 in
+    let list = single more_criteria both.1 both.3 in
+    (c.0 ∷ list.0, not_empty c.0 list.0, All-cons IsCriterion c.0 list.0 c.1 list.1, both.4 ∙ ap (λ t. t ++ both.1) c.2 ∙ ap (λ t. criterion_tokens c.0 ++ t) list.2)
+  where
+    not_empty : (c : Criterion) (list : List Criterion) → (c ∷ list) ≢ []
+    not_empty c list e = cc

@@ -125,7 +125,7 @@ path_query : (deep : ℕ) (tokens : List Token) → PathTokens tokens → QueryI
 path_query deep tokens p = (queries.path p.0, record { whole = p.1.whole; is = p.1.is })
 
 -- the members of lists
-criterion_sound : (ts : List Token) → Meant (member_goals items.Criterion) ts → (c : Criterion) × IsCriterion c × (ts ≡ criterion_tokens c)
+pub criterion_sound : (ts : List Token) → Meant (member_goals items.Criterion) ts → (c : Criterion) × IsCriterion c × (ts ≡ criterion_tokens c)
 criterion_sound ts m =
     let name = m.2 in
     let literal = m.3.3.2 in

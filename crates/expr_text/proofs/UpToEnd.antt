@@ -16,15 +16,12 @@ use Rattle.expr_text.specs.Arguments.{Criterion, IsCriterion}
 use Rattle.expr_text.specs.InLines.{AreValues, joined_tokens, values_tokens}
 use Rattle.expr_text.specs.Readers.{Becomes, Fails, Meets}
 use Rattle.expr_text.specs.Spelling.{comma, criterion_tokens, listed}
-use Rattle.expr_text.specs.Walk.{Goal, Move, Rest, a_literal, a_sign, are_met, followed, is_held, member_goals, more_criteria, moved, offence_of, opens, push, ran, rows, run, step, values, wrong}
+use Rattle.expr_text.specs.Walk.{Goal, Move, Rest, a_literal, a_sign, are_met, criteria_goals, followed, is_held, member_goals, more_criteria, moved, offence_of, opens, push, ran, rows, run, step, values, wrong}
 use Rattle.expr_text.specs.declared.error.ExprError.{ExprError}
 use Rattle.expr_text.specs.declared.error.ExprError.TheVariants.{Syntax}
 use Rattle.expr_text.specs.declared.list.Item.TheVariants as items
 use Rattle.expr_text.proofs.Lists.{listed-append, less_left}
 use Rattle.expr_text.proofs.Running.{rest_at}
-
-abbrev pub criteria_goals : List Goal
-criteria_goals = member_goals items.Criterion ++ (more_criteria ∷ [])
 
 -- a token moves goals as it moves others
 same_run : (p : cutting.Piece) (ps : List cutting.Piece) (end : ℕ) (one two : List Goal) → step one p.token (opens ps) ≡ step two p.token (opens ps) → run (p ∷ ps) end one ≡ run (p ∷ ps) end two
@@ -68,7 +65,7 @@ comma_comes (p ∷ pieces) end others some =
     same_run (piece_of p) (pieces_of pieces) end (more_criteria ∷ others) (a_sign 44 ∷ (criteria_goals ++ others)) (first_comma (piece_of p).token (opens (pieces_of pieces)) others)
 
 -- where nothing is left, nothing more need come
-end_run : (end : ℕ) (one two : List Goal) → are_met one ≡ are_met two → run [] end one ≡ run [] end two
+pub end_run : (end : ℕ) (one two : List Goal) → are_met one ≡ are_met two → run [] end one ≡ run [] end two
 unfolding run
 end_run end one two e = ap (λ b. if b then None else Some (Syntax end)) e
 

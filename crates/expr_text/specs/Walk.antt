@@ -75,6 +75,10 @@ end_goals items.Named = a_name ∷ a_sign 41 ∷ []
 abbrev pub some_goals : Item → List Goal
 some_goals item = a_sign 44 ∷ (member_goals item ++ (more item ∷ []))
 
+-- one criterion or more, up to the end of a line
+abbrev pub criteria_goals : List Goal
+criteria_goals = member_goals items.Criterion ++ (more_criteria ∷ [])
+
 -- what stands behind the tables of an operator, up to the closing parenthesis
 abbrev pub form_goals : Form → List Goal
 form_goals forms.nothing = a_sign 41 ∷ []

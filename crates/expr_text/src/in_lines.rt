@@ -8,8 +8,7 @@ ghost use Rattle.expr_text.specs.Meanings.{query_of};
 ghost use Rattle.expr_text.specs.Operators.{word_of};
 ghost use Rattle.expr_text.specs.Readers.{operator_of as kept_operator};
 ghost use Rattle.expr_text.specs.Spelling.{opening, tokens_of};
-ghost use Rattle.expr_text.specs.Walk.{a_name, a_sign, an_operation, form_goals, member_goals, more_criteria, values as some_values};
-ghost use Rattle.expr_text.specs.declared.list.Item.TheVariants as items;
+ghost use Rattle.expr_text.specs.Walk.{a_name, a_sign, an_operation, criteria_goals, form_goals, values as some_values};
 ghost use Rattle.expr_text.specs.declared.kept_up.KeptUp.{KeptUp as TheKept};
 
 use crate::kept_up::KeptUp;
@@ -41,8 +40,8 @@ impl<'a> Reader<'a> {
     pub fn last_criteria(&mut self) -> Result<Crits, ExprError>
         ensures whole { IfOk result (λ list. IsTail (the_criteria list)) }
         ensures spells { IfOk result (λ list. tokens_left self.old ≡ joined_tokens list ++ tokens_left self.new) }
-        ensures meets { OnOk result (Meets (member_goals items.Criterion ++ (more_criteria ∷ [])) (rest_of self.old) (rest_of self.new)) }
-        ensures fails { IfErr result (Fails (member_goals items.Criterion ++ (more_criteria ∷ [])) (rest_of self.old)) }
+        ensures meets { OnOk result (Meets criteria_goals (rest_of self.old) (rest_of self.new)) }
+        ensures fails { IfErr result (Fails criteria_goals (rest_of self.old)) }
     {
         let mut list = Crits::new(self.alloc);
         let first = self.criterion()?;
