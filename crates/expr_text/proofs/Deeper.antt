@@ -1,16 +1,18 @@
 -- The same goals with a greater depth.
-use Rattle.std.proofs.Common.{◌≡◌, ◌⊎◌, inl, inr, ℕ, zero, suc, pos, negsuc, ◌==◌, Bool, true, false, List, [], ◌∷◌, ◌++◌, map, Option, Some, None, refl, sym, ap, subst, ◌∙◌, true≢false, if◌then◌else◌}
+use Rattle.std.proofs.Common.{◌≡◌, ◌⊎◌, inl, inr, ℕ, zero, suc, pos, negsuc, ◌==◌, Bool, true, false, List, [], ◌∷◌, ◌++◌, length, map, nat_lt, Option, Some, None, refl, sym, ap, subst, ◌∙◌, true≢false, if◌then◌else◌}
 use Rattle.std.proofs.lemmas.Bool.{false≢true}
+use Rattle.std.specs.Str.{bytes_eq}
 use Rattle.mk_value.specs.Tokens.{Token, word, number, text, bytes, sign}
 use Rattle.expr_text.specs.Operators as forms
 use Rattle.expr_text.specs.Operators.{Form, Takes, one_table, takes, two_tables}
 use Rattle.expr_text.specs.Queries as queries
 use Rattle.expr_text.specs.Queries.{IsQuery, Query}
-use Rattle.expr_text.specs.Walk.{Goal, Move, Next, a_count, a_key, a_literal, a_name, a_number, a_path, a_query, a_row, a_sign, after_row, after_value, are_met, brace, begun, deepens, end_goals, end_sign, followed, form_goals, goes, is_held, member_goals, more, moved, opened, operator_named, pass, push, rows, step, steps, stops, table_goals, wrong}
+use Rattle.expr_text.specs.Walk.{Goal, Move, Next, a_count, a_key, a_literal, a_name, a_number, a_path, a_query, a_row, a_sign, a_text, a_word, after_row, after_value, an_operation, are_met, begun, brace, deepens, end_goals, end_sign, followed, form_goals, goes, is_held, member_goals, more, more_criteria, moved, opened, operated, operator_named, pass, push, rows, step, steps, stops, table_goals, values, wrong}
 use Rattle.expr_text.specs.Walk as walk_
 use Rattle.expr_text.specs.declared.list.Item.{Item}
 use Rattle.expr_text.specs.declared.list.Item.TheVariants as items
 use Rattle.expr_text.specs.declared.operator.Operator.{Operator}
+use Rattle.expr_text.specs.declared.operator.Operator.TheVariants as operators
 use Rattle.expr_text.proofs.Walking.{opens_first, walk, walk-goes, walked}
 use Rattle.expr_text.proofs.Whole.{walk_step}
 
@@ -79,6 +81,21 @@ opened_lifts None depth = inr refl
 opened_lifts (Some o) zero = inl refl
 opened_lifts (Some o) (suc depth) = inr (ap (λ g. push (a_sign 40 ∷ g)) (sym (raised_table depth (takes o))))
 
+-- what is done with a name is as deep as ever
+operated_lifts : (found : Option Operator) → operated found ≡ lift (operated found)
+operated_lifts (Some operators.Select) = refl
+operated_lifts (Some operators.Range) = refl
+operated_lifts (Some operators.Sort) = refl
+operated_lifts None = refl
+operated_lifts (Some _) = refl
+
+operated_no_deep : (found : Option Operator) → operated found ≡ walk_.deep → ⊥
+operated_no_deep (Some operators.Select) e = cc
+operated_no_deep (Some operators.Range) e = cc
+operated_no_deep (Some operators.Sort) e = cc
+operated_no_deep None e = cc
+operated_no_deep (Some _) e = cc
+
 -- a token moves a raised goal as it moves the goal
 pub moved_lifts : (g : Goal) (t : Token) (follows : Bool) → (moved g t follows ≡ walk_.deep) ⊎ (moved (raise g) t follows ≡ lift (moved g t follows))
 moved_lifts (a_sign s) (sign c) follows = inr (lift_sign (c == s) [] wrong refl refl)
@@ -101,6 +118,11 @@ moved_lifts a_key (word letters) follows = inr refl
 moved_lifts a_key (sign c) follows = inr (lift_sign (c == 45) (a_name ∷ []) wrong refl refl)
 moved_lifts (more item) (sign c) follows =
     inr (lift_sign (c == 44) (member_goals item ++ (more item ∷ [])) (if c == end_sign item then push (end_goals item) else wrong) (raised_item item) (lift_sign (c == end_sign item) (end_goals item) wrong (raised_end item) refl))
+moved_lifts (a_word letters) (word other) follows = inr (lift_sign (bytes_eq other letters) [] wrong refl refl)
+moved_lifts values (sign c) follows = inr (lift_sign (c == 123) (rows 7 ∷ values ∷ []) wrong refl refl)
+moved_lifts more_criteria (sign c) follows = inr (lift_sign (c == 44) (member_goals items.Criterion ++ (more_criteria ∷ [])) wrong refl refl)
+moved_lifts (a_text most) (text content) follows = inr (lift_sign (nat_lt (length content) (suc most)) [] wrong refl refl)
+moved_lifts an_operation (word letters) follows = inr (operated_lifts (operator_named letters))
 moved_lifts _ _ follows = inr refl
 
 -- the same of goals one after another
@@ -149,6 +171,9 @@ walk_raised (t ∷ ts) after goals next e =
 pub met_raised : (goals : List Goal) → are_met (raised goals) ≡ are_met goals
 met_raised [] = refl
 met_raised (steps ∷ goals) = met_raised goals
+met_raised (values ∷ goals) = met_raised goals
+met_raised (more_criteria ∷ goals) = met_raised goals
+met_raised (a_text most ∷ goals) = met_raised goals
 met_raised (a_query depth ∷ goals) = refl
 met_raised (_ ∷ goals) = refl
 
@@ -239,4 +264,9 @@ deep_goal (more item) (sign c) follows e = absurd (no_deep (c == 44) _ _ (no_dee
 deep_goal a_name (word letters) follows e = absurd (cc)
 deep_goal a_number (number z) follows e = absurd (cc)
 deep_goal a_path (word letters) follows e = absurd (cc)
+deep_goal (a_word letters) (word other) follows e = absurd (no_deep (bytes_eq other letters) [] wrong wrong_no_deep e)
+deep_goal values (sign c) follows e = absurd (no_deep (c == 123) _ wrong wrong_no_deep e)
+deep_goal more_criteria (sign c) follows e = absurd (no_deep (c == 44) _ wrong wrong_no_deep e)
+deep_goal (a_text most) (text content) follows e = absurd (no_deep (nat_lt (length content) (suc most)) [] wrong wrong_no_deep e)
+deep_goal an_operation (word letters) follows e = absurd (operated_no_deep (operator_named letters) e)
 deep_goal _ _ follows e = absurd (cc)

@@ -1,5 +1,8 @@
 pub mod Deeper
+pub mod Depths
 pub mod Held
+pub mod InLines
+pub mod Limited
 pub mod Lists
 pub mod Meaning
 pub mod Offences
@@ -9,5 +12,6 @@ pub mod Printed
 pub mod Refusing
 pub mod Running
 pub mod Unique
+pub mod UpToEnd
 pub mod Walking
 pub mod Whole

@@ -22,7 +22,7 @@ pub record ListRead {X : Type 0} (item : Item) (P : X → Type 0) (f : X → Lis
   pub spelled : tokens_in old.pieces ≡ listed f xs ++ (comma ∷ tokens_in now.pieces)
   pub same : Becomes (some_goals item) old (member_goals item ++ (more item ∷ [])) now
 
-listed-append : {X : Type 0} (f : X → List Token) (xs ys : List X) → listed f (xs ++ ys) ≡ listed f xs ++ listed f ys
+pub listed-append : {X : Type 0} (f : X → List Token) (xs ys : List X) → listed f (xs ++ ys) ≡ listed f xs ++ listed f ys
 listed-append f [] ys = refl
 listed-append f (x ∷ xs) ys = ap (λ t. comma ∷ (f x ++ t)) (listed-append f xs ys) ∙ ap (λ t. comma ∷ t) (sym (append_assoc (f x) (listed f xs) (listed f ys)))
 

@@ -1,11 +1,14 @@
 -- What goals mean: the tokens that meet them. A step of the walk keeps it, and all goals can be met.
-use Rattle.std.proofs.Common.{◌≡◌, ◌≢◌, ◌⊎◌, inl, inr, ℕ, zero, suc, ℤ, pos, negsuc, ◌+◌, ◌-◌, ◌<◌, ◌^◌, ◌==◌, Bool, true, false, List, [], ◌∷◌, ◌++◌, All, FitsSigned, Option, Some, None, refl, sym, ap, subst, ◌∙◌, append_assoc, append-nil, arith, lit<, lit≤, if◌then◌else◌}
+use Rattle.std.proofs.Common.{◌≡◌, ◌≢◌, ◌⊎◌, inl, inr, ℕ, zero, suc, ℤ, pos, negsuc, ◌+◌, ◌-◌, ◌<◌, ◌≤◌, ◌^◌, ◌==◌, Bool, true, false, nat_lt, List, [], ◌∷◌, ◌++◌, length, All, FitsSigned, Option, Some, None, refl, sym, ap, subst, ◌∙◌, append_assoc, append-nil, arith, lit<, lit≤, if◌then◌else◌}
 use Rattle.std.proofs.lemmas.Bool.Decides.{nat_tests}
+use Rattle.std.proofs.lemmas.Slice.Eq.{bytes_eq-Decides}
+use Rattle.std.specs.Str.{bytes_eq}
 use Rattle.std.proofs.lemmas.List.Elements.{All-cons, All-nil}
 use Rattle.std.specs.Int.{w64}
 use Rattle.std.specs.List.{flat_map}
 use Rattle.mk_value.specs.Data as data_
-use Rattle.mk_value.specs.Data.{Datum, long, relation, Tuple, no_values, value, Relation, no_tuples, tuple}
+use borrow.Author.Tests.{ltb-true}
+use Rattle.mk_value.specs.Data.{Datum, IsText, long, relation, Tuple, no_values, value, Relation, no_tuples, tuple}
 use Rattle.mk_value.specs.Literals as literals
 use Rattle.mk_value.specs.Literals.{more_rows, more_values}
 use Rattle.mk_value.specs.Names.{IsName}
@@ -18,15 +21,18 @@ use Rattle.tokens.specs.Paths.{IsStep, PathTokens, StepTokens, step_tokens}
 use Rattle.expr_text.specs.Arguments as arguments
 use Rattle.expr_text.specs.Arguments.{AreNames, Criterion, IsCriterion, IsOrder, IsRange, IsTail, Range, Tail}
 use Rattle.expr_text.specs.Grammar.{QueryIn}
+use Rattle.expr_text.specs.InLines.{AreValues, IsKeptUp, IsOperation, values_tokens}
 use Rattle.expr_text.specs.Operators as forms
 use Rattle.expr_text.specs.Operators.{Form, Takes, form_of, one_table, takes, two_tables, word_of}
 use Rattle.expr_text.specs.Queries as queries
+use Rattle.expr_text.specs.Queries.{Query}
 use Rattle.expr_text.specs.Spelling.{criterion_tokens, listed, names_tokens, order_tokens, range_tokens, tail_tokens, tokens_of}
-use Rattle.expr_text.specs.Walk.{Goal, Move, Next, a_count, a_key, a_literal, a_name, a_number, a_path, a_query, a_row, a_sign, after_row, after_value, brace, begun, deepens, end_goals, end_sign, followed, form_goals, goes, is_held, member_goals, more, moved, opened, operator_named, pass, push, rows, some_goals, step, steps, stops, table_goals, wrong}
+use Rattle.expr_text.specs.Walk.{Goal, Move, Next, a_count, a_key, a_literal, a_name, a_number, a_path, a_query, a_row, a_sign, a_text, a_word, after_row, after_value, an_operation, begun, brace, deepens, end_goals, end_sign, followed, form_goals, goes, is_held, member_goals, more, more_criteria, moved, opened, operated, operator_named, pass, push, rows, some_goals, step, steps, stops, table_goals, values, wrong}
 use Rattle.expr_text.specs.declared.expr.Order.{Order}
 use Rattle.expr_text.specs.declared.list.Item.{Item}
 use Rattle.expr_text.specs.declared.list.Item.TheVariants as items
 use Rattle.expr_text.specs.declared.operator.Operator.{Operator}
+use Rattle.expr_text.specs.declared.operator.Operator.TheVariants as operators
 use Rattle.expr_text.proofs.Held.{bytes_held, count_held, fits_held, named_held, text_held}
 use Rattle.expr_text.proofs.Running.{operator_word}
 use Rattle.expr_text.proofs.Walking.{opens_first, walk, walked}
@@ -53,6 +59,11 @@ Means (a_row depth) tokens = RowIn depth tokens
 Means (after_value depth) tokens = (vs : Tuple) × AreLiterals depth vs × (tokens ≡ more_values vs ++ (sign 41 ∷ []))
 Means a_key tokens = (o : Order) × IsOrder o × (tokens ≡ order_tokens o)
 Means (more item) tokens = MeansMore item tokens
+Means (a_word letters) tokens = tokens ≡ word letters ∷ []
+Means values tokens = (xs : List Datum) × AreValues xs × (tokens ≡ values_tokens xs)
+Means more_criteria tokens = (xs : List Criterion) × All IsCriterion xs × (tokens ≡ listed criterion_tokens xs)
+Means (a_text most) tokens = (tokens ≡ []) ⊎ ((content : List ℕ) × IsText content × (length content ≤ most) × (tokens ≡ text content ∷ []))
+Means an_operation tokens = (q : Query) × IsOperation q × (tokens ≡ tokens_of q)
 
 -- goals one after another
 abbrev pub Meant : List Goal → Language
@@ -114,7 +125,7 @@ path_query : (deep : ℕ) (tokens : List Token) → PathTokens tokens → QueryI
 path_query deep tokens p = (queries.path p.0, record { whole = p.1.whole; is = p.1.is })
 
 -- the members of lists
-criterion_sound : (ts : List Token) → Meant (member_goals items.Criterion) ts → (c : Criterion) × IsCriterion c × (ts ≡ criterion_tokens c)
+pub criterion_sound : (ts : List Token) → Meant (member_goals items.Criterion) ts → (c : Criterion) × IsCriterion c × (ts ≡ criterion_tokens c)
 criterion_sound ts m =
     let name = m.2 in
     let literal = m.3.3.2 in
@@ -328,6 +339,37 @@ begun_sound letters depth None new ts named e whole m = path_query depth (word l
 begun_sound letters zero (Some o) new ts named e whole m = absurd (cc)
 begun_sound letters (suc depth) (Some o) new ts named e whole m = open_sound letters o depth (takes o) ts (operator_word letters o named) refl (pushed (a_sign 40 ∷ table_goals depth (takes o)) new ts e m)
 
+-- an operation on what a name stands for
+operation_sound : (letters : List ℕ) (o : Operator) (form : Form) (ts : List Token) → letters ≡ word_of o → takes o ≡ one_table form → IsKeptUp o → Meant (a_sign 40 ∷ a_name ∷ form_goals form) ts → Means an_operation (word letters ∷ ts)
+operation_sound letters o form ts e same kept m =
+    let n = name_sound (form_goals form) m.1 m.3 in
+    let t = form_sound form n.2.0 n.2.1 in (
+      queries.one o (queries.path (record { name = n.0; steps = [] })) t.tail,
+      (kept, (refl, n.1), same ∙ ap one_table (sym t.same), t.whole),
+      ap (λ l. word l ∷ ts) e ∙ ap (λ r. word (word_of o) ∷ r) (m.4 ∙ ap (λ r. r ++ m.1) m.2 ∙ ap (λ r. sign 40 ∷ r) (n.2.2 ∙ ap (λ r. word n.0 ∷ r) t.is)),
+    )
+
+operated_sound : (letters : List ℕ) (found : Option Operator) (new : List Goal) (ts : List Token) → operator_named letters ≡ found → operated found ≡ push new → Meant new ts → Means an_operation (word letters ∷ ts)
+operated_sound letters (Some operators.Select) new ts named e m =
+    operation_sound letters operators.Select forms.criteria ts (operator_word letters operators.Select named) refl tt (pushed (a_sign 40 ∷ a_name ∷ form_goals forms.criteria) new ts e m)
+operated_sound letters (Some operators.Range) new ts named e m =
+    operation_sound letters operators.Range forms.bounds ts (operator_word letters operators.Range named) refl tt (pushed (a_sign 40 ∷ a_name ∷ form_goals forms.bounds) new ts e m)
+operated_sound letters (Some operators.Sort) new ts named e m =
+    operation_sound letters operators.Sort forms.orders ts (operator_word letters operators.Sort named) refl tt (pushed (a_sign 40 ∷ a_name ∷ form_goals forms.orders) new ts e m)
+operated_sound letters None new ts named e m = absurd (cc)
+operated_sound letters (Some _) new ts named e m = absurd (cc)
+
+-- this very word
+this_sound : (b : Bool) (letters other : List ℕ) (new : List Goal) (ts : List Token) → bytes_eq other letters ≡ b → (if b then push [] else wrong) ≡ push new → Meant new ts → word other ∷ ts ≡ word letters ∷ []
+this_sound true letters other new ts same e m = ap (λ l. word l ∷ ts) ((bytes_eq-Decides other letters).0 same) ∙ ap (λ r. word letters ∷ r) (pushed [] new ts e m)
+this_sound false letters other new ts same e m = absurd (cc)
+
+-- a text that is no longer
+short_sound : (b : Bool) (most : ℕ) (content : List ℕ) (new : List Goal) (ts : List Token) → nat_lt (length content) (suc most) ≡ b → (if b then push [] else wrong) ≡ push new → IsText content → Meant new ts → Means (a_text most) (text content ∷ ts)
+short_sound true most content new ts short e whole m =
+    let less : length content < suc most = ltb-true (length content) (suc most) short in inr (content, whole, omega (arith, less), ap (λ r. text content ∷ r) (pushed [] new ts e m))
+short_sound false most content new ts short e whole m = absurd (cc)
+
 -- one token at the front
 pub sound : (g : Goal) (t : Token) (follows : Bool) (new : List Goal) → moved g t follows ≡ push new → is_held t ≡ true → (ts : List Token) → Meant new ts → Means g (t ∷ ts)
 sound (a_sign s) (sign c) follows new e held ts m = elim (sign_split c s [] wrong new e) [
@@ -454,4 +496,43 @@ sound (more item) (sign c) follows new e held ts m =
         | inr none ↦ absurd (cc)
       ]
     ]
+sound (a_word letters) (word other) follows new e held ts m = this_sound (bytes_eq other letters) letters other new ts refl e m
+sound values (number z) follows new e held ts m =
+    let xs = single values ts (pushed (values ∷ []) new ts e m) in (long z ∷ xs.0, All-cons (λ d. IsLiteral max_braces d) (long z) xs.0 (fits_held z held) xs.1, ap (λ r. number z ∷ r) xs.2)
+sound values (text content) follows new e held ts m =
+    let xs = single values ts (pushed (values ∷ []) new ts e m) in (data_.text content ∷ xs.0, All-cons (λ d. IsLiteral max_braces d) (data_.text content) xs.0 (text_held content held) xs.1, ap (λ r. text content ∷ r) xs.2)
+sound values (bytes content) follows new e held ts m =
+    let xs = single values ts (pushed (values ∷ []) new ts e m) in (data_.bytes content ∷ xs.0, All-cons (λ d. IsLiteral max_braces d) (data_.bytes content) xs.0 (bytes_held content held) xs.1, ap (λ r. bytes content ∷ r) xs.2)
+sound values (sign c) follows new e held ts m = elim (sign_split c 123 (rows 7 ∷ values ∷ []) wrong new e) [
+  | inl one ↦ view_first c ts one.0 (newly (rows 7 ∷ values ∷ []) new ts one.1 m)
+  | inr other ↦ absurd (cc)
+]
+  where
+    view_first : (c : ℕ) (ts : List Token) → c ≡ 123 → Meant (rows 7 ∷ values ∷ []) ts → Means values (sign c ∷ ts)
+    view_first c ts e m =
+        let parts = two_of (rows 7) values ts m in
+        let inside = parts.one in
+        let xs = parts.two in
+        let less : 7 ≡ max_braces - 1 = omega arith in (
+          relation inside.0 ∷ xs.0,
+          All-cons (λ d. IsLiteral max_braces d) (relation inside.0) xs.0 (omega arith, subst (λ x. AreLiteralRows x inside.0) less inside.1) xs.1,
+          ap (λ x. sign x ∷ ts) e ∙ ap (λ r. sign 123 ∷ r) parts.is ∙ ap (λ z. z ++ parts.second) inside.2 ∙ ap (λ z. literals.tokens_of (relation inside.0) ++ z) xs.2,
+        )
+sound more_criteria (sign c) follows new e held ts m =
+    elim (sign_split c 44 (member_goals items.Criterion ++ (more_criteria ∷ [])) wrong new e) [
+      | inl one ↦ criterion_first c ts one.0 (newly (member_goals items.Criterion ++ (more_criteria ∷ [])) new ts one.1 m)
+      | inr other ↦ absurd (cc)
+    ]
+  where
+    criterion_first : (c : ℕ) (ts : List Token) → c ≡ 44 → Meant (member_goals items.Criterion ++ (more_criteria ∷ [])) ts → Means more_criteria (sign c ∷ ts)
+    criterion_first c ts e m =
+        let parts = meant_split (member_goals items.Criterion) (more_criteria ∷ []) ts m in
+        let x = criterion_sound parts.0 parts.2 in
+        let xs = single more_criteria parts.1 parts.3 in (
+          x.0 ∷ xs.0,
+          All-cons IsCriterion x.0 xs.0 x.1 xs.1,
+          ap (λ y. sign y ∷ ts) e ∙ list_more criterion_tokens x.0 xs.0 ts parts.0 parts.1 [] parts.4 x.2 (xs.2 ∙ sym (append-nil (listed criterion_tokens xs.0))) ∙ append-nil (listed criterion_tokens (x.0 ∷ xs.0)),
+        )
+sound (a_text most) (text content) follows new e held ts m = short_sound (nat_lt (length content) (suc most)) most content new ts refl e (text_held content held) m
+sound an_operation (word letters) follows new e held ts m = operated_sound letters (operator_named letters) new ts refl e m
 sound _ _ follows new e held ts m = absurd (cc)

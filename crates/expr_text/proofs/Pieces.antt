@@ -16,7 +16,7 @@ use Rattle.tokens.specs.declared.error.PartError.{PartError}
 use Rattle.tokens.specs.declared.error.PartError.TheVariants as errors
 use Rattle.tokens.specs.declared.token.Piece.{Piece}
 use Rattle.expr_text.specs.Readers.{Becomes, Fails, Meets, place_of_first}
-use Rattle.expr_text.specs.Walk.{Goal, Move, Next, a_count, a_key, a_literal, a_name, a_number, a_path, a_query, a_row, a_sign, after_row, after_value, are_met, deepens, followed, goes, is_held, is_opening, more, moved, opens, pass, push, ran, rows, run, step, steps, stops, wrong}
+use Rattle.expr_text.specs.Walk.{Goal, Move, Next, a_count, a_key, a_literal, a_name, a_number, a_path, a_query, a_row, a_sign, a_text, a_word, after_row, after_value, an_operation, are_met, deepens, followed, goes, is_held, is_opening, more, more_criteria, moved, opens, pass, push, ran, rows, run, step, steps, stops, values, wrong}
 use Rattle.expr_text.specs.Walk as walk_
 use Rattle.expr_text.specs.declared.error.ExprError.TheVariants.{Syntax, TooDeep}
 use Rattle.expr_text.proofs.Deeper.{deep_goal, raise, raised, walk_raised}
@@ -57,6 +57,11 @@ moved_flag (a_row depth) (sign c) one two e = refl
 moved_flag (after_value depth) (sign c) one two e = refl
 moved_flag a_key (sign c) one two e = refl
 moved_flag (more item) (sign c) one two e = refl
+moved_flag (a_word letters) (word other) one two e = refl
+moved_flag values (sign c) one two e = refl
+moved_flag more_criteria (sign c) one two e = refl
+moved_flag (a_text most) (text content) one two e = refl
+moved_flag an_operation (word letters) one two e = refl
 moved_flag _ _ one two e = refl
 
 pub step_flag : (goals : List Goal) (t : Token) (one two : Bool) → raised goals ≡ goals → step goals t one ≡ step goals t two

@@ -18,7 +18,7 @@ use Rattle.expr_text.specs.Operators.{form_of, one_table, takes, two_tables, wor
 use Rattle.expr_text.specs.Queries as queries
 use Rattle.expr_text.specs.Queries.{IsQuery, Query}
 use Rattle.expr_text.specs.Spelling.{criterion_tokens, listed, names_tokens, order_tokens, range_tokens, tail_tokens, tokens_of}
-use Rattle.expr_text.specs.Walk.{Goal, Next, a_count, a_key, a_literal, a_name, a_number, a_path, a_query, a_row, a_sign, after_row, after_value, are_met, deepens, end_goals, end_sign, followed, form_goals, goes, is_held, is_opening, member_goals, more, moved, opened, pass, push, rows, some_goals, step, steps, stops, table_goals, wrong}
+use Rattle.expr_text.specs.Walk.{Goal, Next, a_count, a_key, a_literal, a_name, a_number, a_path, a_query, a_row, a_sign, a_text, a_word, after_row, after_value, an_operation, are_met, deepens, end_goals, end_sign, followed, form_goals, goes, is_held, is_opening, member_goals, more, more_criteria, moved, opened, operated, pass, push, rows, some_goals, step, steps, stops, table_goals, values, wrong}
 use Rattle.expr_text.specs.declared.expr.Order.{Order}
 use Rattle.expr_text.specs.declared.list.Item.{Item}
 use Rattle.expr_text.specs.declared.list.Item.TheVariants as items
@@ -46,17 +46,17 @@ walk-goes t ts after goals further held moves =
     ap (λ h. walked h (step goals t (opens_first ts after)) (λ g. walk ts after g)) held ∙ ap (λ n. walked true n (λ g. walk ts after g)) moves
 
 -- a token moves the first goal
-walk_first : (t : Token) (ts : List Token) (after : Bool) (g : Goal) (new others : List Goal) → is_held t ≡ true → moved g t (opens_first ts after) ≡ push new → walk (t ∷ ts) after (g ∷ others) ≡ walk ts after (new ++ others)
+pub walk_first : (t : Token) (ts : List Token) (after : Bool) (g : Goal) (new others : List Goal) → is_held t ≡ true → moved g t (opens_first ts after) ≡ push new → walk (t ∷ ts) after (g ∷ others) ≡ walk ts after (new ++ others)
 walk_first t ts after g new others held moves = walk-goes t ts after (g ∷ others) (new ++ others) held (ap (λ m. followed m others (step others t (opens_first ts after))) moves)
 
-walk_sign : (s : ℕ) (ts : List Token) (after : Bool) (g : Goal) (new others : List Goal) → moved g (sign s) (opens_first ts after) ≡ push new → walk (sign s ∷ ts) after (g ∷ others) ≡ walk ts after (new ++ others)
+pub walk_sign : (s : ℕ) (ts : List Token) (after : Bool) (g : Goal) (new others : List Goal) → moved g (sign s) (opens_first ts after) ≡ push new → walk (sign s ∷ ts) after (g ∷ others) ≡ walk ts after (new ++ others)
 walk_sign s ts after g new others moves = walk_first (sign s) ts after g new others (held_sign s) moves
 
-walk_word : (letters : List ℕ) (ts : List Token) (after : Bool) (others : List Goal) → IsName letters → walk (word letters ∷ ts) after (a_name ∷ others) ≡ walk ts after others
+pub walk_word : (letters : List ℕ) (ts : List Token) (after : Bool) (others : List Goal) → IsName letters → walk (word letters ∷ ts) after (a_name ∷ others) ≡ walk ts after others
 walk_word letters ts after others named = walk_first (word letters) ts after a_name [] others (held_word letters named) refl
 
 -- the tokens in another order of brackets
-along : (xs ys : List Token) (after : Bool) (goals : List Goal) → xs ≡ ys → walk xs after goals ≡ walk ys after goals
+pub along : (xs ys : List Token) (after : Bool) (goals : List Goal) → xs ≡ ys → walk xs after goals ≡ walk ys after goals
 along xs ys after goals e = ap (λ ts. walk ts after goals) e
 
 -- literals
@@ -81,7 +81,7 @@ mutual
       ∙ along _ _ after (rows deep ∷ others) (append_assoc (rows_tokens r) (sign 125 ∷ []) rest)
       ∙ rows_walk r deep (subst (λ d. AreLiteralRows d r) less whole.1) rest after others
 
-  rows_walk : (r : Relation) (deep : ℕ) → AreLiteralRows deep r → (rest : List Token) (after : Bool) (others : List Goal) → walk (rows_tokens r ++ (sign 125 ∷ rest)) after (rows deep ∷ others) ≡ walk rest after others
+  pub rows_walk : (r : Relation) (deep : ℕ) → AreLiteralRows deep r → (rest : List Token) (after : Bool) (others : List Goal) → walk (rows_tokens r ++ (sign 125 ∷ rest)) after (rows deep ∷ others) ≡ walk rest after others
   rows_walk no_tuples deep whole rest after others = walk_sign 125 rest after (rows deep) [] others refl
   rows_walk (tuple t r) deep whole rest after others =
       along _ _ after (rows deep ∷ others) (append_assoc (row_tokens t) (more_rows r) (sign 125 ∷ rest))
@@ -172,7 +172,7 @@ some_walk item P f member (x ∷ xs) some whole rest after others =
     ∙ member x (All-head P x xs whole) behind after (more item ∷ others)
     ∙ more_walk item P f member xs (All-tail P x xs whole) rest after others
 
-criterion_walks : (c : Criterion) → IsCriterion c → (rest : List Token) (after : Bool) (others : List Goal) → walk (criterion_tokens c ++ rest) after (member_goals items.Criterion ++ others) ≡ walk rest after others
+pub criterion_walks : (c : Criterion) → IsCriterion c → (rest : List Token) (after : Bool) (others : List Goal) → walk (criterion_tokens c ++ rest) after (member_goals items.Criterion ++ others) ≡ walk rest after others
 criterion_walks c whole rest after others =
     walk_word c.prop (sign 61 ∷ (literals.tokens_of c.value ++ rest)) after (a_sign 61 ∷ a_literal max_braces ∷ others) whole.0
     ∙ walk_sign 61 (literals.tokens_of c.value ++ rest) after (a_sign 61) [] (a_literal max_braces ∷ others) refl
@@ -300,6 +300,34 @@ query_walks (queries.one o q t) (suc deep) whole rest parted after others =
     ∙ tail_walks t whole.1.1 rest after others
 query_walks (queries.two o p q t) zero whole rest parted after others = absurd whole
 query_walks (queries.two o p q t) (suc deep) whole rest parted after others =
+    let behind = tail_tokens t ++ (sign 41 ∷ rest) in
+    let second = tokens_of q ++ (tail_tokens t ++ (sign 41 ∷ [])) in
+    open_walks o ((tokens_of p ++ (sign 44 ∷ second)) ++ rest) after deep others
+    ∙ ap (λ x. walk ((tokens_of p ++ (sign 44 ∷ second)) ++ rest) after (table_goals deep x ++ others)) whole.1.1.0
+    ∙ along _ _ after (a_query deep ∷ a_sign 44 ∷ a_query deep ∷ (form_goals (form_of t) ++ others)) (append_assoc (tokens_of p) (sign 44 ∷ second) rest)
+    ∙ query_walks p deep whole.0 (sign 44 ∷ (second ++ rest)) (comma_parts (second ++ rest)) after (a_sign 44 ∷ a_query deep ∷ (form_goals (form_of t) ++ others))
+    ∙ walk_sign 44 (second ++ rest) after (a_sign 44) [] (a_query deep ∷ (form_goals (form_of t) ++ others)) refl
+    ∙ along _ _ after (a_query deep ∷ (form_goals (form_of t) ++ others)) (append_assoc (tokens_of q) (tail_tokens t ++ (sign 41 ∷ [])) rest ∙ ap (λ ts. tokens_of q ++ ts) (append_assoc (tail_tokens t) (sign 41 ∷ []) rest))
+    ∙ query_walks q deep whole.1.0 behind (tail_parts t rest) after (form_goals (form_of t) ++ others)
+    ∙ tail_walks t whole.1.1.1 rest after others
+
+-- what an operator gives, whatever stands behind
+abbrev pub IsApplied : Query → Type 0
+IsApplied (queries.path r) = ⊥
+IsApplied _ = Unit {0}
+
+pub applied_walks : (q : Query) (deep : ℕ) → IsApplied q → IsQuery q deep → (rest : List Token) (after : Bool) (others : List Goal) → walk (tokens_of q ++ rest) after (a_query deep ∷ others) ≡ walk rest after others
+applied_walks (queries.path r) deep applied whole rest after others = absurd applied
+applied_walks (queries.one o q t) zero applied whole rest after others = absurd whole
+applied_walks (queries.one o q t) (suc deep) applied whole rest after others =
+    let behind = tail_tokens t ++ (sign 41 ∷ rest) in
+    open_walks o ((tokens_of q ++ (tail_tokens t ++ (sign 41 ∷ []))) ++ rest) after deep others
+    ∙ ap (λ x. walk ((tokens_of q ++ (tail_tokens t ++ (sign 41 ∷ []))) ++ rest) after (table_goals deep x ++ others)) whole.1.0
+    ∙ along _ _ after (a_query deep ∷ (form_goals (form_of t) ++ others)) (append_assoc (tokens_of q) (tail_tokens t ++ (sign 41 ∷ [])) rest ∙ ap (λ ts. tokens_of q ++ ts) (append_assoc (tail_tokens t) (sign 41 ∷ []) rest))
+    ∙ query_walks q deep whole.0 behind (tail_parts t rest) after (form_goals (form_of t) ++ others)
+    ∙ tail_walks t whole.1.1 rest after others
+applied_walks (queries.two o p q t) zero applied whole rest after others = absurd whole
+applied_walks (queries.two o p q t) (suc deep) applied whole rest after others =
     let behind = tail_tokens t ++ (sign 41 ∷ rest) in
     let second = tokens_of q ++ (tail_tokens t ++ (sign 41 ∷ [])) in
     open_walks o ((tokens_of p ++ (sign 44 ∷ second)) ++ rest) after deep others

@@ -1,19 +1,23 @@
 -- Goals one after another: what meets them, that they can be met, and what stands behind them.
-use Rattle.std.proofs.Common.{◌≡◌, ◌⊎◌, inl, inr, ℕ, zero, suc, pos, ◌+◌, ◌<◌, ◌≤◌, ◌==◌, Bool, true, false, List, [], ◌∷◌, ◌++◌, Option, Some, None, refl, sym, ap, subst, ◌∙◌, append_assoc, append-nil, arith, true≢false, lit<, if◌then◌else◌}
+use Rattle.std.proofs.Common.{◌≡◌, ◌⊎◌, inl, inr, ℕ, zero, suc, pos, ◌+◌, ◌<◌, ◌≤◌, ◌==◌, Bool, true, false, nat_lt, List, [], ◌∷◌, ◌++◌, length, Option, Some, None, refl, sym, ap, subst, ◌∙◌, append_assoc, append-nil, arith, true≢false, lit<, if◌then◌else◌}
 use Rattle.std.proofs.lemmas.Bool.{false≢true}
+use Rattle.std.specs.Str.{bytes_eq}
 use Rattle.std.proofs.lemmas.List.Elements.{All-nil}
 use Rattle.mk_value.specs.Data.{long, no_values, no_tuples, value}
 use Rattle.mk_value.specs.Names.{IsName}
 use Rattle.mk_value.specs.Tokens.{Token, word, number, text, bytes, sign}
 use Rattle.tokens.specs.Fronts.{IsFront}
+use Rattle.tokens.specs.Literals.{IsLiteral, max_braces}
 use Rattle.tokens.specs.Paths.{IsStep}
+use Rattle.expr_text.specs.Arguments as arguments
 use Rattle.expr_text.specs.Arguments.{IsCriterion, IsOrder, IsRange}
 use Rattle.expr_text.specs.Queries as queries
-use Rattle.expr_text.specs.Walk.{Goal, Move, Next, a_count, a_key, a_literal, a_name, a_number, a_path, a_query, a_row, a_sign, after_row, after_value, are_met, brace, begun, deepens, followed, goes, is_held, is_opening, more, moved, opened, operator_named, pass, push, rows, step, steps, stops, wrong}
+use Rattle.expr_text.specs.Walk.{Goal, Move, Next, a_count, a_key, a_literal, a_name, a_number, a_path, a_query, a_row, a_sign, a_text, a_word, after_row, after_value, an_operation, are_met, begun, brace, deepens, followed, goes, is_held, is_opening, member_goals, more, more_criteria, moved, opened, operated, operator_named, pass, push, rows, step, steps, stops, values, wrong}
 use Rattle.expr_text.specs.Walk as walk_
 use Rattle.expr_text.specs.declared.list.Item.{Item}
 use Rattle.expr_text.specs.declared.list.Item.TheVariants as items
 use Rattle.expr_text.specs.declared.operator.Operator.{Operator}
+use Rattle.expr_text.specs.declared.operator.Operator.TheVariants as operators
 use Rattle.expr_text.proofs.Held.{IsName-from_is_name, fits_held}
 use Rattle.expr_text.proofs.Meaning.{Means, Meant, MeansMore, meant_split, sound}
 use Rattle.expr_text.proofs.Walking.{opens_first, walk, walk-goes, walked}
@@ -35,6 +39,13 @@ brace_no_pass false depth e = cc
 
 wrong_no_pass : wrong ≡ pass → ⊥
 wrong_no_pass e = cc
+
+operated_no_pass : (found : Option Operator) → operated found ≡ pass → ⊥
+operated_no_pass (Some operators.Select) e = cc
+operated_no_pass (Some operators.Range) e = cc
+operated_no_pass (Some operators.Sort) e = cc
+operated_no_pass None e = cc
+operated_no_pass (Some _) e = cc
 
 pub pass_steps : (g : Goal) (t : Token) (follows : Bool) → moved g t follows ≡ pass → g ≡ steps
 pass_steps (a_sign s) (sign c) follows e = absurd (no_push (c == s) [] wrong wrong_no_pass e)
@@ -60,6 +71,14 @@ pass_steps (after_value depth) (sign c) follows e = absurd (no_push (c == 41) []
 pass_steps a_key (word letters) follows e = cc
 pass_steps a_key (sign c) follows e = absurd (no_push (c == 45) _ wrong wrong_no_pass e)
 pass_steps (more item) (sign c) follows e = absurd (no_push (c == 44) _ _ (no_push (c == walk_.end_sign item) _ wrong wrong_no_pass) e)
+pass_steps (a_word letters) (word other) follows e = absurd (no_push (bytes_eq other letters) [] wrong wrong_no_pass e)
+pass_steps values (sign c) follows e = absurd (no_push (c == 123) _ wrong wrong_no_pass e)
+pass_steps values (number z) follows e = cc
+pass_steps values (text content) follows e = cc
+pass_steps values (bytes content) follows e = cc
+pass_steps more_criteria (sign c) follows e = absurd (no_push (c == 44) _ wrong wrong_no_pass e)
+pass_steps (a_text most) (text content) follows e = absurd (no_push (nat_lt (length content) (suc most)) [] wrong wrong_no_pass e)
+pass_steps an_operation (word letters) follows e = absurd (operated_no_pass (operator_named letters) e)
 pass_steps _ _ follows e = cc
 
 pass_means : (g : Goal) → g ≡ steps → Means g []
@@ -124,6 +143,14 @@ goal_met (a_row depth) = (_, (value (long (pos 0)) no_values, (fits_held (pos 0)
 goal_met (after_value depth) = (_, (no_values, tt, refl))
 goal_met a_key = (_, (record { prop = 97 ∷ []; down = false }, one_letter, refl))
 goal_met (more item) = more_met item
+goal_met (a_word letters) = (word letters ∷ [], refl)
+goal_met values = ([], ([], All-nil (λ d. IsLiteral max_braces d), refl))
+goal_met more_criteria = ([], ([], All-nil IsCriterion, refl))
+goal_met (a_text most) = ([], inl refl)
+goal_met an_operation = (
+  _,
+  (queries.one operators.Sort (queries.path (record { name = 97 ∷ []; steps = [] })) (arguments.orders []), (tt, (refl, one_letter), refl, All-nil IsOrder), refl),
+)
 
 pub met : (goals : List Goal) → (ts : List Token) × Meant goals ts
 met [] = ([], refl)
@@ -140,13 +167,23 @@ pub walk_front : (g : Goal) (ts : List Token) (after : Bool) (next : List Goal) 
 walk_front g ts after next e = let rest = met next in (rest.0, single g (ts ++ rest.0) (walk_sound ts after (g ∷ []) next e rest.0 rest.1))
 
 -- goals that are met at the end
-met_empty : (goals : List Goal) → are_met goals ≡ true → Meant goals []
+pub met_empty : (goals : List Goal) → are_met goals ≡ true → Meant goals []
 met_empty [] e = refl
 met_empty (steps ∷ goals) e = ([], [], ([], All-nil IsStep, refl), met_empty goals e, refl)
+met_empty (values ∷ goals) e = ([], [], ([], All-nil (λ d. IsLiteral max_braces d), refl), met_empty goals e, refl)
+met_empty (more_criteria ∷ goals) e = ([], [], ([], All-nil IsCriterion, refl), met_empty goals e, refl)
+met_empty (a_text most ∷ goals) e = ([], [], inl refl, met_empty goals e, refl)
 met_empty (_ ∷ goals) e = absurd (cc)
 
 pub walk_whole : (g : Goal) (ts : List Token) (after : Bool) (next : List Goal) → walk ts after (g ∷ []) ≡ goes next → are_met next ≡ true → Means g ts
 walk_whole g ts after next e whole = subst (Means g) (append-nil ts) (single g (ts ++ []) (walk_sound ts after (g ∷ []) next e [] (met_empty next whole)))
+
+-- the same of goals one after another
+pub walk_front_of : (goals : List Goal) (ts : List Token) (after : Bool) (next : List Goal) → walk ts after goals ≡ goes next → IsFront (Meant goals) ts
+walk_front_of goals ts after next e = let rest = met next in (rest.0, walk_sound ts after goals next e rest.0 rest.1)
+
+pub walk_whole_of : (goals : List Goal) (ts : List Token) (after : Bool) (next : List Goal) → walk ts after goals ≡ goes next → are_met next ≡ true → Meant goals ts
+walk_whole_of goals ts after next e whole = subst (Meant goals) (append-nil ts) (walk_sound ts after goals next e [] (met_empty next whole))
 
 -- tokens behind tokens
 pub joined_next : Next → (List Goal → Next) → Next
@@ -234,6 +271,9 @@ walk_others (t ∷ ts) after goals others next e =
 pub unmet_others : (goals others : List Goal) → are_met goals ≡ false → are_met (goals ++ others) ≡ false
 unmet_others [] others e = absurd (true≢false e)
 unmet_others (steps ∷ goals) others e = unmet_others goals others e
+unmet_others (values ∷ goals) others e = unmet_others goals others e
+unmet_others (more_criteria ∷ goals) others e = unmet_others goals others e
+unmet_others (a_text most ∷ goals) others e = unmet_others goals others e
 unmet_others (_ ∷ goals) others e = refl
 
 -- a goal before others is met only where it may be left out

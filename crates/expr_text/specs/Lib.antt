@@ -1,5 +1,6 @@
 pub mod Arguments
 pub mod Grammar
+pub mod InLines
 pub mod Meanings
 pub mod Operators
 pub mod Queries

@@ -4,10 +4,16 @@ use Rattle.mk_value.specs.Tokens.{Token}
 use Rattle.tokens.specs.Cutting.{Piece}
 use Rattle.tokens.specs.Fronts.{tokens_in}
 use Rattle.tokens.specs.Meanings.{pieces_of}
+use Rattle.expr_text.specs.Operators as forms
+use Rattle.expr_text.specs.Operators.{Form}
 use Rattle.expr_text.specs.Walk.{Goal, Rest, offence_of}
 use Rattle.expr_text.specs.declared.error.ExprError.{ExprError}
 use Rattle.expr_text.specs.declared.error.ExprError.TheVariants.{Memory, Syntax, TooDeep}
 use Rattle.expr_text.specs.declared.expr.Expr.{Expr}
+use Rattle.expr_text.specs.declared.kept_up.KeptUp.{KeptUp}
+use Rattle.expr_text.specs.declared.kept_up.KeptUp.TheVariants as kept
+use Rattle.expr_text.specs.declared.operator.Operator.{Operator}
+use Rattle.expr_text.specs.declared.operator.Operator.TheVariants as operators
 use Rattle.expr_text.specs.declared.reader.Reader.{Reader}
 
 abbrev pub rest_of : Reader → Rest
@@ -41,3 +47,14 @@ flawed_as (Ok e) flaw = Syntax flaw
 flawed_as (Err (Syntax place)) flaw = Syntax flaw
 flawed_as (Err (TooDeep place)) flaw = TooDeep place
 flawed_as (Err Memory) flaw = Memory
+
+-- the operators whose rows may be kept up to date, and what each takes behind its table
+abbrev pub operator_of : KeptUp → Operator
+operator_of kept.Select = operators.Select
+operator_of kept.Range = operators.Range
+operator_of kept.Sort = operators.Sort
+
+abbrev pub kept_form : KeptUp → Form
+kept_form kept.Select = forms.criteria
+kept_form kept.Range = forms.bounds
+kept_form kept.Sort = forms.orders

@@ -18,7 +18,9 @@ use Rattle.expr_text.specs.declared.operator.Operator.{Operator}
 use Rattle.expr_text.specs.declared.operator.Operator.TheVariants.{Select, Range, Sort, Project, Without, Rename, Slice, Concat, Pair, Product, Unique, Union, Intersect, Minus, Different, GroupBy, Counts, Join, OuterJoin, JoinProp, OuterJoinProp, Calc, Keep}
 
 -- What is still to come: a sign; a name; a number without a sign, and any; an expression with at most so many operators inside one another; a path
--- and its further steps; a literal with braces at most so deep and its parts; a key to sort by; the further members of a list and its end.
+-- and its further steps; a literal with braces at most so deep and its parts; a key to sort by; the further members of a list and its end. In a line
+-- stand also a word of its own; a selection, a range or a sorting of what a name stands for; and, up to its end, any number of literals, the further
+-- criteria, or a text of at most so many bytes, which may be left out.
 pub data Goal : Type 0 where
   a_sign : ℕ → Goal
   a_name : Goal
@@ -34,6 +36,11 @@ pub data Goal : Type 0 where
   after_value : ℕ → Goal
   a_key : Goal
   more : Item → Goal
+  a_word : List ℕ → Goal
+  values : Goal
+  more_criteria : Goal
+  a_text : ℕ → Goal
+  an_operation : Goal
 
 -- a token moves the first goal: it cannot, it opens too deep, it meets the goal up to these, or the goal was met before it
 pub data Move : Type 0 where
@@ -67,6 +74,10 @@ end_goals items.Named = a_name ∷ a_sign 41 ∷ []
 -- one member or more, each behind a comma, and the end
 abbrev pub some_goals : Item → List Goal
 some_goals item = a_sign 44 ∷ (member_goals item ++ (more item ∷ []))
+
+-- one criterion or more, up to the end of a line
+abbrev pub criteria_goals : List Goal
+criteria_goals = member_goals items.Criterion ++ (more_criteria ∷ [])
 
 -- what stands behind the tables of an operator, up to the closing parenthesis
 abbrev pub form_goals : Form → List Goal
@@ -115,6 +126,13 @@ abbrev pub brace : ℕ → Move
 brace zero = wrong
 brace (suc depth) = push (rows depth ∷ [])
 
+-- what is done with a name: a selection, a range or a sorting
+abbrev pub operated : Option Operator → Move
+operated (Some Select) = push (a_sign 40 ∷ a_name ∷ form_goals forms.criteria)
+operated (Some Range) = push (a_sign 40 ∷ a_name ∷ form_goals forms.bounds)
+operated (Some Sort) = push (a_sign 40 ∷ a_name ∷ form_goals forms.orders)
+operated _ = wrong
+
 -- the move of a goal at a token, which an opening parenthesis follows or not
 abbrev pub moved : Goal → Token → Bool → Move
 moved (a_sign s) (sign c) follows = if c == s then push [] else wrong
@@ -138,6 +156,14 @@ moved a_key (word letters) follows = push []
 moved a_key (sign c) follows = if c == 45 then push (a_name ∷ []) else wrong
 moved (more item) (sign c) follows =
     if c == 44 then push (member_goals item ++ (more item ∷ [])) else (if c == end_sign item then push (end_goals item) else wrong)
+moved (a_word letters) (word other) follows = if bytes_eq other letters then push [] else wrong
+moved values (number z) follows = push (values ∷ [])
+moved values (text content) follows = push (values ∷ [])
+moved values (bytes content) follows = push (values ∷ [])
+moved values (sign c) follows = if c == 123 then push (rows 7 ∷ values ∷ []) else wrong
+moved more_criteria (sign c) follows = if c == 44 then push (member_goals items.Criterion ++ (more_criteria ∷ [])) else wrong
+moved (a_text most) (text content) follows = if nat_lt (length content) (suc most) then push [] else wrong
+moved an_operation (word letters) follows = operated (operator_named letters)
 moved _ _ follows = wrong
 
 -- what a token makes of the goals
@@ -182,10 +208,13 @@ abbrev pub opens : List Piece → Bool
 opens [] = false
 opens (p ∷ pieces) = is_opening p.token
 
--- the goals that stand alone at the end of a text are met
+-- the goals that nothing need meet at the end of a text are met
 abbrev pub are_met : List Goal → Bool
 are_met [] = true
 are_met (steps ∷ goals) = are_met goals
+are_met (values ∷ goals) = are_met goals
+are_met (more_criteria ∷ goals) = are_met goals
+are_met (a_text most ∷ goals) = are_met goals
 are_met _ = false
 
 -- what is left of a text to read: pieces, and the length of the text

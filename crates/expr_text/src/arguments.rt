@@ -17,7 +17,7 @@ impl<'a> Reader<'a> {
     ghost use Rattle.expr_text.specs.Readers.{Becomes, Fails, Meets, rest_of, tokens_left};
 
     /// Reads a property and the value that is asked for.
-    fn criterion(&mut self) -> Result<Crit, ExprError>
+    pub(crate) fn criterion(&mut self) -> Result<Crit, ExprError>
         ensures whole { IfOk result IsCriterion }
         ensures spells { IfOk result (λ c. tokens_left self.old ≡ criterion_tokens c ++ tokens_left self.new) }
         ensures meets { OnOk result (Meets (member_goals items.Criterion) (rest_of self.old) (rest_of self.new)) }

@@ -1,5 +1,5 @@
 //! Reading the parts of an expression from the pieces of its text.
-ghost use Rattle.std.specs.Prelude.{◌≡◌, ◌↔◌, ◌<◌, ◌++◌, ◌-◌, ◌∷◌, [], ℕ, ℤ, List, FitsSigned, IfOk, IfErr, IfSome, IsNone, IsTrue, IsFalse, OnOk, Some};
+ghost use Rattle.std.specs.Prelude.{◌≡◌, ◌↔◌, ◌<◌, ◌++◌, ◌-◌, ◌∷◌, [], ℕ, ℤ, List, FitsSigned, IfOk, IfErr, IfSome, IsNone, IsOk, IsTrue, IsFalse, OnOk, Some};
 ghost use Rattle.std.specs.Int.{w64};
 ghost use Rattle.mk_value.specs.LiteralValues.{literal_of};
 ghost use Rattle.mk_value.specs.Literals.{tokens_of as literal_tokens};
@@ -20,19 +20,20 @@ use mk_value::{Literal, Name, Path};
 use std::alloc::Global;
 use tokens::{PartError, Piece, Sign, Token, count_of, literal_at, name_of, path_at};
 
-/// The pieces of a text that are left to read, and the text's length.
+/// The pieces of a text that are left to read, and the text's length. Each call reads one part from the front: where it does, its goals are met
+/// and the rest is what stands behind; where it refuses, they fail there.
 #[derive(Drop)]
-pub(crate) struct Reader<'a> {
-    pub(crate) alloc: Global,
-    pub(crate) rest: &'a [Piece<'a>],
-    pub(crate) end: usize,
+pub struct Reader<'a> {
+    pub alloc: Global,
+    pub rest: &'a [Piece<'a>],
+    pub end: usize,
 }
 
 impl<'a> Reader<'a> {
     ghost use Rattle.expr_text.specs.Readers.{Becomes, Fails, Meets, place_behind as place_of, rest_of, tokens_left};
 
     /// Reads a name.
-    pub(crate) fn name(&mut self) -> Result<Name, ExprError>
+    pub fn name(&mut self) -> Result<Name, ExprError>
         ensures whole { IfOk result IsName }
         ensures spells { IfOk result (λ name. tokens_left self.old ≡ word name ∷ tokens_left self.new) }
         ensures meets { OnOk result (Meets (a_name ∷ []) (rest_of self.old) (rest_of self.new)) }
@@ -49,7 +50,7 @@ impl<'a> Reader<'a> {
     }
 
     /// Reads a number without a sign.
-    pub(crate) fn count(&mut self) -> Result<u64, ExprError>
+    pub fn count(&mut self) -> Result<u64, ExprError>
         ensures whole { IfOk result IsCount }
         ensures spells { IfOk result (λ n. tokens_left self.old ≡ count_token n ∷ tokens_left self.new) }
         ensures meets { OnOk result (Meets (a_count ∷ []) (rest_of self.old) (rest_of self.new)) }
@@ -99,7 +100,7 @@ impl<'a> Reader<'a> {
     }
 
     /// Reads a path.
-    pub(crate) fn path(&mut self) -> Result<Path, ExprError>
+    pub fn path(&mut self) -> Result<Path, ExprError>
         ensures whole { IfOk result IsPath }
         ensures spells { IfOk result (λ path. tokens_left self.old ≡ path_tokens path ++ tokens_left self.new) }
         ensures meets { OnOk result (Meets (a_path ∷ []) (rest_of self.old) (rest_of self.new)) }
@@ -116,7 +117,7 @@ impl<'a> Reader<'a> {
     }
 
     /// Reads a literal.
-    pub(crate) fn literal(&mut self) -> Result<Literal, ExprError>
+    pub fn literal(&mut self) -> Result<Literal, ExprError>
         ensures whole { IfOk result (λ literal. IsLiteral max_braces (literal_of literal)) }
         ensures spells { IfOk result (λ literal. tokens_left self.old ≡ literal_tokens (literal_of literal) ++ tokens_left self.new) }
         ensures meets { OnOk result (Meets (a_literal max_braces ∷ []) (rest_of self.old) (rest_of self.new)) }
@@ -208,9 +209,10 @@ impl<'a> Reader<'a> {
     }
 
     /// Tests that nothing is left.
-    pub(crate) fn over(&self) -> Result<(), ExprError>
+    pub fn over(&self) -> Result<(), ExprError>
         ensures spells { OnOk result (tokens_left self.now ≡ []) }
         ensures fails { IfErr result (λ error. offence_of (rest_of self.now) [] ≡ Some error) }
+        ensures in_place { tokens_left self.now ≡ [] → IsOk result }
     {
         let Some(first) = self.rest.first() else {
             return Ok(());

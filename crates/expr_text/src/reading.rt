@@ -71,7 +71,7 @@ impl<'a> Reader<'a> {
 
     /// Reads an expression with at most `depth` operators inside one another.
     #[cycle(expr)]
-    pub(crate) fn expr(&mut self, depth: usize) -> Result<Expr, ExprError>
+    pub fn expr(&mut self, depth: usize) -> Result<Expr, ExprError>
         ensures whole { IfOk result (λ e. IsQuery (query_of e) depth) }
         ensures spells { IfOk result (λ e. tokens_left self.old ≡ tokens_of (query_of e) ++ tokens_left self.new) }
         ensures meets { OnOk result (Meets (a_query depth ∷ []) (rest_of self.old) (rest_of self.new)) }
@@ -185,7 +185,7 @@ impl<'a> Reader<'a> {
     }
 }
 
-fn in_a_box(alloc: Global, expr: Expr) -> Result<Box<Expr>, Memory>
+pub(crate) fn in_a_box(alloc: Global, expr: Expr) -> Result<Box<Expr>, Memory>
     ensures { IfOk result (λ e. e.value ≡ expr) }
 {
     let boxed = Box::new(alloc, expr)?;
