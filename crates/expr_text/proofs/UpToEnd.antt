@@ -185,8 +185,8 @@ pub next_fails : (old : Rest) (pieces : List Piece) (end : ℕ) (mid : Rest) (xs
 next_fails old pieces end mid xs error some read meets (inl memory) = inl memory
 next_fails old pieces end mid xs error some read meets (inr fails) =
     inr (λ others.
-        read.same.same others ∙ comma_comes pieces end others some ∙ meets.same (criteria_goals ++ others)
-        ∙ ap (λ g. offence_of mid g) (append_assoc (member_goals items.Criterion) (more_criteria ∷ []) others) ∙ fails (more_criteria ∷ others))
+    read.same.same others ∙ comma_comes pieces end others some ∙ meets.same (criteria_goals ++ others)
+    ∙ ap (λ g. offence_of mid g) (append_assoc (member_goals items.Criterion) (more_criteria ∷ []) others) ∙ fails (more_criteria ∷ others))
 
 pub criteria_end : (old : Rest) (pieces : List Piece) (end : ℕ) (xs : List Criterion) → length pieces ≡ 0 → CriteriaRead old xs (rest_at end pieces) → Meets criteria_goals old (rest_at end pieces)
 criteria_end old [] end xs none read = record { same = λ others. read.same.same others ∙ end_run end (more_criteria ∷ others) others refl }

@@ -25,6 +25,6 @@ pub use error::ExprError;
 pub use expr::{Bound, Bounds, Crit, Crits, Expr, NameList, Order, Orders};
 pub use laws::{one_reading, some_reading};
 pub use operator::Operator;
-pub use reader::Reader;
 pub use printing::print_expr;
+pub use reader::Reader;
 pub use reading::parse_expr;
