@@ -22,7 +22,7 @@ kept_among : (k : Key) (name : List ℕ) (keys : List Key) → same_bytes k.prop
 kept_among k name [] h = refl
 kept_among k name (o ∷ keys) h = cases (same_bytes k.prop o.prop)
     (λ e. cases (same_bytes o.prop name)
-        (λ f. absurd (false≢true (sym h ∙ ap (λ n. same_bytes n name) (same_text k.prop o.prop e) ∙ f)))
+        (λ f. absurd (false≢true (sym h ∙ ap (λ n. same_bytes n name) (same_text k.prop o.prop (sym e)) ∙ f)))
         (λ f. rw e (rw f (kept_among k name keys h))))
     (λ e. rw e (ap (λ b. same_bytes o.prop name || b) (kept_among k name keys h)))
 

@@ -1,5 +1,5 @@
 //! The names that a question may use.
-ghost use Rattle.std.specs.Prelude.{◌≡◌, find, MatchOption, None, Some, true};
+ghost use Rattle.std.specs.Prelude.{◌≡◌, find, position, MatchOption, None, Some, true};
 ghost use Rattle.derived.specs.Layers.{table_of as derived_table};
 ghost use Rattle.expr_text.specs.Meanings.{query_of};
 ghost use Rattle.eval.specs.Names.{Named};
@@ -55,9 +55,10 @@ impl<'a> Known<'a> {
     fn view_of(&self, name: &Name) -> Option<&'a Shared>
         ensures { MatchOption result (view_named self.now.views.now name.now ≡ None) (λ table. view_named self.now.views.now name.now ≡ Some table.now) }
     {
-        let views = self.views;
-        let at = views.names().as_slice().iter().position(|known| known.as_bytes() == name.as_bytes())?;
-        Some(&views.tables()[at])
+        match place_in(self.views.names(), name) {
+            Some(at) => Some(&self.views.tables()[at]),
+            None => None,
+        }
     }
 
     /// The table that an expression asks for.
@@ -71,6 +72,16 @@ impl<'a> Known<'a> {
     {
         Ok(eval(alloc, expr, self)?)
     }
+}
+
+/// The place of a name among those of views.
+fn place_in(names: &view_store::Names, name: &Name) -> Option<usize>
+    ensures { result ≡ position (λ known. same_bytes known name.now) names.now }
+{
+    names
+        .as_slice()
+        .iter()
+        .position(|known| known.as_bytes() == name.as_bytes())
 }
 
 /// The table of the first snapshot of a name.
