@@ -10,7 +10,7 @@ use std::alloc::Global;
 
 /// A property, and the least and the greatest literal that are asked for. They are lent by an expression.
 #[derive(Clone, Copy)]
-pub(crate) struct Asked<'a> {
+pub struct Asked<'a> {
     prop: &'a Name,
     low: &'a Literal,
     high: &'a Literal,
@@ -42,7 +42,7 @@ impl LiteralBounds for Asked<'_> {
 }
 
 /// Criteria: each literal is the least and the greatest that is asked for.
-pub(crate) fn criteria_asked(alloc: Global, criteria: &[Crit]) -> Result<Vec<Asked<'_>>, Memory>
+pub fn criteria_asked(alloc: Global, criteria: &[Crit]) -> Result<Vec<Asked<'_>>, Memory>
     ensures { IfOk result (λ items. map interval_of items.items ≡ map asked_by criteria.now) }
 {
     let mut items = Vec::new(alloc);

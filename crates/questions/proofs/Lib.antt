@@ -1,0 +1,3 @@
+mod Found
+mod Keys
+mod Steps
