@@ -69,7 +69,7 @@ module _ (cmp : ℕ → ℕ → Ordering) (total : IsTotalOrder cmp) where
   flags_joined before (x ∷ xs) ys = ap (λ fs. begins same before x ∷ fs) (flags_joined (Some x) xs ys)
 
   -- of three in order, the outer two tie where both neighbours do
-  ends_tie : (a b c : ℕ) → IsUpTo (cmp a b) → IsUpTo (cmp b c) → same a c ≡ (same a b && same b c)
+  pub ends_tie : (a b c : ℕ) → IsUpTo (cmp a b) → IsUpTo (cmp b c) → same a c ≡ (same a b && same b c)
   ends_tie a b c p q = at (cmp a b) (cmp b c) refl refl p q
     where
       at : (u v : Ordering) → cmp a b ≡ u → cmp b c ≡ v → IsUpTo u → IsUpTo v → same a c ≡ (is_eq u && is_eq v)
