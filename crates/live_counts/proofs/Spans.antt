@@ -1,6 +1,6 @@
 -- A run of equal keys has all rows of its key.
-use Rattle.std.proofs.Common.{◌≡◌, ◌≢◌, ◌⊎◌, ℕ, zero, suc, ◌+◌, ◌-◌, ◌<◌, ◌≤◌, Bool, true, false, not, ◌&&◌, if◌then◌else◌, ltb, cond, List, [], ◌∷◌, ◌++◌, length, get_or, map, take, drop, All, Option, Some, None, refl, ap, sym, subst, ◌∙◌, arith, inl, inr}
-use Rattle.std.specs.List.{AllPairs, count_by, filter}
+use Rattle.std.proofs.Common.{◌≡◌, ℕ, zero, suc, ◌+◌, ◌-◌, ◌<◌, ◌≤◌, Bool, true, false, not, ◌&&◌, if◌then◌else◌, ltb, List, [], length, get_or, take, drop, None, refl, ap, sym, subst, ◌∙◌, arith, inl, inr}
+use Rattle.std.specs.List.{count_by}
 use Rattle.std.specs.declared.cmp.Ordering.{Ordering}
 use Rattle.std.specs.declared.cmp.Ordering.TheVariants.{Less, Equal, Greater}
 use Rattle.std.specs.Ordering.{is_eq, nat_cmp, ordering_reverse, ordering_then}
@@ -11,10 +11,10 @@ use Rattle.std.proofs.lemmas.List.{get_or-drop, get_or-take, get_or_default, len
 use Rattle.std.proofs.lemmas.List.Sums.{length-filter}
 use Rattle.mk_value.specs.Data.{Datum}
 use Rattle.mk_value.specs.Heading.{Attribute}
-use Rattle.relations.specs.Positions.{passing, place_cmp}
+use Rattle.relations.specs.Positions.{passing}
 use Rattle.relations.specs.Sorting.{row_cmp}
 use Rattle.relations.specs.declared.criteria.Key.{Key}
-use Rattle.relations.proofs.Ascending.{Ascends, IsIn, ascends_from_pairs, in_at, place_of}
+use Rattle.relations.proofs.Ascending.{IsIn, ascends_from_pairs, in_at, place_of}
 use Rattle.relations.proofs.Filtering.{rows_passing}
 use Rattle.relations.proofs.RowOrder.{row_cmp_total}
 use Rattle.live.specs.Watching.{position_cmp, positions}
