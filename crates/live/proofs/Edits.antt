@@ -1,5 +1,5 @@
 -- Edits of a list of rows are events of it.
-use Rattle.std.proofs.Common.{◌≡◌, ℕ, suc, ◌+◌, ◌<◌, ◌≤◌, List, ◌∷◌, ◌++◌, length, set, take, drop, Option, Some, None, refl, ap, sym, ◌∙◌, arith}
+use Rattle.std.proofs.Common.{◌≡◌, ℕ, suc, ◌<◌, ◌≤◌, List, ◌++◌, length, set, take, drop, refl, ap, sym, ◌∙◌, arith}
 use Rattle.std.specs.List.{insert, remove}
 use Rattle.std.proofs.lemmas.List.{drop-set-lt, length-set, length-take-le, take-append-drop, take-set}
 use Rattle.std.proofs.lemmas.List.Edits.{length-insert, length-remove}

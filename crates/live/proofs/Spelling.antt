@@ -7,7 +7,7 @@ use Rattle.std.proofs.lemmas.List.Elements.{All-map, filter_more}
 use Rattle.mk_value.specs.Heading.{Attribute, HaveDistinctNames}
 use Rattle.relations.specs.Fitting.{is_view}
 use Rattle.relations.specs.Keys.{ArePlain}
-use Rattle.relations.specs.Refusals.{a_view, absent, range_due, sort_due}
+use Rattle.relations.specs.Refusals.{a_view, absent, sort_due}
 use Rattle.relations.specs.Rows.{domain_of, has}
 use Rattle.relations.specs.Sorting.{all_keys, keys_or_all}
 use Rattle.relations.specs.declared.criteria.Key.{Key}

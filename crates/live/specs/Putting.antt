@@ -2,7 +2,6 @@
 use Rattle.std.specs.Prelude.{◌≡◌, ◌<◌, ◌≤◌, ◌-◌, ◌++◌, ℕ, min, nat_lt, if◌then◌else◌, List, [], ◌∷◌, map, remove, Option, Some, None, Result, Err, IfErr}
 use Rattle.std.specs.Option.{option_map, option_or}
 use Rattle.mk_value.specs.Heading.{Attribute}
-use Rattle.relations.specs.Refusals.{range_due, sort_due}
 use Rattle.relations.specs.Sorting.{keys_or_all}
 use Rattle.relations.specs.declared.error.DerivedError.{DerivedError}
 use Rattle.relations.specs.declared.error.DerivedError.TheVariants.{NoProp}

@@ -1,5 +1,5 @@
 -- One element that goes from a list in order takes out one flag of its runs.
-use Rattle.std.proofs.Common.{◌≡◌, ◌≢◌, ◌⊎◌, ◌==◌, ℕ, zero, suc, ◌+◌, ◌<◌, ◌≤◌, Bool, true, false, not, ◌||◌, ◌&&◌, if◌then◌else◌, List, [], ◌∷◌, ◌++◌, length, get_or, take, drop, Option, Some, None, refl, ap, sym, subst, ◌∙◌, arith, inl, inr}
+use Rattle.std.proofs.Common.{◌≡◌, ◌≢◌, ◌⊎◌, ℕ, zero, suc, ◌+◌, ◌<◌, Bool, true, false, not, ◌||◌, ◌&&◌, if◌then◌else◌, List, [], ◌∷◌, ◌++◌, length, get_or, take, drop, Option, Some, None, refl, ap, sym, ◌∙◌, arith, inl, inr}
 use Rattle.std.specs.List.{insert, remove}
 use Rattle.std.specs.Option.{ForSome}
 use Rattle.std.specs.declared.cmp.Ordering.{Ordering}
@@ -8,7 +8,7 @@ use Rattle.std.specs.Ordering.{is_eq}
 use Rattle.std.specs.Cmp.{IsTotalOrder}
 use Rattle.std.proofs.lemmas.Bool.{eq-eqb, ne_eqb}
 use Rattle.std.proofs.lemmas.Cmp.{alike_right}
-use Rattle.std.proofs.lemmas.List.{append-nil, append_assoc, drop_at, drop_more, get_or-append-add, get_or_append_left, length-append, length-take-le, take-append-drop, take_at}
+use Rattle.std.proofs.lemmas.List.{append-nil, append_assoc, drop_at, drop_more, get_or-append-add, length-append, length-take-le, take-append-drop, take_at}
 use Rattle.relations.proofs.Ascending.{Ascends, IsIn, each_in}
 use Rattle.live.proofs.Picks.{ascends_across, ascends_right}
 use Rattle.live.proofs.Placing.{without_middle}
@@ -69,7 +69,7 @@ module _ (cmp : ℕ → ℕ → Ordering) (total : IsTotalOrder cmp) where
   flags_joined before (x ∷ xs) ys = ap (λ fs. begins same before x ∷ fs) (flags_joined (Some x) xs ys)
 
   -- of three in order, the outer two tie where both neighbours do
-  ends_tie : (a b c : ℕ) → IsUpTo (cmp a b) → IsUpTo (cmp b c) → same a c ≡ (same a b && same b c)
+  pub ends_tie : (a b c : ℕ) → IsUpTo (cmp a b) → IsUpTo (cmp b c) → same a c ≡ (same a b && same b c)
   ends_tie a b c p q = at (cmp a b) (cmp b c) refl refl p q
     where
       at : (u v : Ordering) → cmp a b ≡ u → cmp b c ≡ v → IsUpTo u → IsUpTo v → same a c ≡ (is_eq u && is_eq v)

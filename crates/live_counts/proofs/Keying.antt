@@ -1,5 +1,5 @@
 -- Keys in columns that are no views may be asked.
-use Rattle.std.proofs.Common.{◌≡◌, ℕ, ◌<◌, false, true, List, [], length, get_or, map, All, None, ap, sym, ◌∙◌}
+use Rattle.std.proofs.Common.{◌≡◌, ℕ, ◌<◌, false, true, List, [], length, get_or, All, None, ap, sym, ◌∙◌}
 use Rattle.std.specs.Cmp.Lexicographic.{nat_list_eq_equiv}
 use Rattle.std.proofs.lemmas.List.Elements.{All-map}
 use Rattle.std.proofs.lemmas.List.Folds.{list_any_at}
@@ -9,7 +9,6 @@ use Rattle.relations.specs.Fitting.{is_view}
 use Rattle.relations.specs.Keys.{IsPlainKey}
 use Rattle.relations.specs.Refusals.{sort_due}
 use Rattle.relations.specs.Rows.{domain_of, has, is_named}
-use Rattle.relations.specs.declared.criteria.Key.{Key}
 use Rattle.relations.proofs.Headings.{column_here}
 use Rattle.relations.proofs.Names.{property_at_column}
 use Rattle.live.proofs.Spelling.{plain_names}

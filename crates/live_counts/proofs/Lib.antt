@@ -2,3 +2,4 @@ pub mod Flagging
 pub mod Following
 pub mod Keying
 pub mod Numbering
+pub mod Spans

@@ -1,14 +1,13 @@
 -- Raised flags by their places: one flag taken out, and one put in.
-use Rattle.std.proofs.Common.{◌≡◌, ◌≢◌, ◌⊎◌, ◌==◌, ℕ, suc, ◌+◌, ◌<◌, ◌≤◌, ◌^◌, Bool, true, false, List, [], ◌∷◌, ◌++◌, length, get_or, is_some, map, take, drop, Some, None, refl, ap, sym, subst, ◌∙◌, arith, inl, inr}
-use Rattle.std.specs.List.{AllPairs, insert, position, remove}
-use Rattle.std.specs.declared.cmp.Ordering.TheVariants.{Less, Equal}
+use Rattle.std.proofs.Common.{◌≡◌, ◌≢◌, ◌==◌, ℕ, ◌+◌, ◌<◌, ◌≤◌, Bool, true, false, List, ◌∷◌, ◌++◌, length, get_or, is_some, map, take, drop, Some, refl, ap, sym, subst, ◌∙◌, arith, inl, inr}
+use Rattle.std.specs.List.{insert, position, remove}
+use Rattle.std.specs.declared.cmp.Ordering.TheVariants.{Equal}
 use Rattle.std.specs.Ordering.{nat_cmp}
-use Rattle.std.proofs.lemmas.Bool.{cases_lt, cases_eq}
+use Rattle.std.proofs.lemmas.Bool.{cases_lt}
 use Rattle.std.proofs.lemmas.Bool.Decides.{nat_tests}
-use Rattle.std.proofs.lemmas.List.{drop_more, get_or-append-add, get_or-drop, get_or-map, get_or-take, get_or_default, get_or_past, length-drop, length-map, length-take-le, take-append-drop}
+use Rattle.std.proofs.lemmas.List.{drop_more, get_or-append-add, get_or-drop, get_or-map, get_or-take, get_or_past, length-drop, length-map, length-take-le, take-append-drop}
 use Rattle.std.proofs.lemmas.List.Edits.{length-insert}
-use Rattle.relations.specs.Positions.{passing, place_cmp}
-use Rattle.relations.proofs.Ascending.{Ascends, IsIn, in_at, less_nat, nat_less, place_of}
+use Rattle.relations.proofs.Ascending.{IsIn, in_at, less_nat, nat_less, place_of}
 use Rattle.live.specs.Placing.{closed, opened, without}
 use Rattle.live.specs.Watching.{placed}
 use Rattle.live.proofs.Members.{in_right}

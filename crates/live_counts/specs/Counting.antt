@@ -1,5 +1,5 @@
 -- Counts of the rows of a table by their keys.
-use Rattle.std.specs.Prelude.{◌≡◌, ◌<◌, ◌≤◌, ◌-◌, ◌+◌, ℕ, Bool, true, false, nat_lt, if◌then◌else◌, List, [], length, map, slice_index_or, All, Option, Some, None}
+use Rattle.std.specs.Prelude.{◌≡◌, ◌<◌, ◌≤◌, ◌-◌, ◌+◌, ℕ, true, false, nat_lt, if◌then◌else◌, List, [], length, map, slice_index_or, All, Option, Some, None}
 use Rattle.std.specs.Option.{ForSome}
 use Rattle.mk_value.specs.Data.{Datum}
 use Rattle.mk_value.specs.Heading.{Attribute, Domain}
@@ -7,7 +7,6 @@ use Rattle.mk_value.specs.Limits.{max_rows}
 use Rattle.relations.specs.declared.criteria.Key.{Key}
 use Rattle.live.specs.Watching.{IsAsked, IsTurn, goes_from, is_sorting, placed, positions, root_turn}
 use Rattle.live.specs.declared.event.Event.{Event}
-use Rattle.live.specs.declared.op.WatchOp.{WatchOp}
 use Rattle.live_counts.specs.Runs.{starts, ties}
 use Rattle.live_counts.specs.States.{CountsState}
 

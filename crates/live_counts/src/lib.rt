@@ -8,6 +8,8 @@
 mod beside;
 mod counts;
 mod flags;
+mod laws;
 mod making;
 
 pub use counts::LiveCounts;
+pub use laws::runs_count_rows;

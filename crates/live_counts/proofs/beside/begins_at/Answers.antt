@@ -1,4 +1,4 @@
-use Rattle.std.proofs.Common.{◌<◌, false, length, get_or, not, arith, ap, sym, ◌∙◌}
+use Rattle.std.proofs.Common.{false, get_or, not, arith, ap, sym, ◌∙◌}
 use Rattle.live_counts.specs.Runs.{flags, ties}
 use Rattle.live_counts.proofs.Flagging.{flag_first}
 use Rattle.live_counts.proofs.Following.{flag_at}

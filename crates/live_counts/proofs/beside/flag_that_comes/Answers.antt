@@ -1,5 +1,5 @@
-use Rattle.std.proofs.Common.{◌≡◌, ◌≢◌, ◌<◌, Bool, List, None, suc, ◌+◌, false, length, get_or, arith, ap, sym, ◌∙◌}
-use Rattle.live_counts.specs.Runs.{flags, going_flag, ties}
+use Rattle.std.proofs.Common.{◌≡◌, Bool, List, None, suc, ◌+◌, false, get_or, arith, ap, sym, ◌∙◌}
+use Rattle.live_counts.specs.Runs.{flags, ties}
 use Rattle.live_counts.proofs.Flagging.{length-flags}
 use Rattle.live_counts.proofs.Following.{going_alone, going_last, going_lowered, going_next}
 use Rattle.live_counts.proofs.beside.flag_that_comes.Goals as goal

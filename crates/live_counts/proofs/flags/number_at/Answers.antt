@@ -1,4 +1,4 @@
-use Rattle.std.proofs.Common.{◌≡◌, ◌≢◌, ◌<◌, length, get_or, arith, sym}
+use Rattle.std.proofs.Common.{◌≢◌, ◌<◌, length, get_or, arith, sym}
 use Rattle.live.proofs.Placing.{position_absent}
 use Rattle.live_counts.proofs.Numbering.{absent_from, found_at}
 use Rattle.live_counts.proofs.flags.number_at.Goals as goal

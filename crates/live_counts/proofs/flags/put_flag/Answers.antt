@@ -1,9 +1,8 @@
-use Rattle.std.proofs.Common.{◌≡◌, ◌<◌, ◌++◌, ℕ, List, length, get_or, map, take, drop, ap, arith, sym, subst, ◌∙◌}
+use Rattle.std.proofs.Common.{◌≡◌, ◌<◌, ℕ, List, length, get_or, map, ap, sym, subst, ◌∙◌}
 use Rattle.std.specs.List.{insert}
 use Rattle.std.proofs.lemmas.List.{length-map}
 use Rattle.live.specs.Placing.{opened}
 use Rattle.live.proofs.Turning.{written}
-use Rattle.live_counts.specs.Runs.{raised}
 use Rattle.live_counts.proofs.Numbering.{opened_order, put_lowered, put_raised}
 use Rattle.live_counts.proofs.flags.put_flag.Goals as goal
 

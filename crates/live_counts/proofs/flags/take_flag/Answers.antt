@@ -1,4 +1,4 @@
-use Rattle.std.proofs.Common.{◌≡◌, ◌==◌, ◌++◌, ℕ, List, length, map, take, drop, ap, sym, ◌∙◌}
+use Rattle.std.proofs.Common.{◌==◌, ℕ, List, length, map, ap, sym, ◌∙◌}
 use Rattle.std.specs.List.{position}
 use Rattle.std.proofs.lemmas.List.{length-map}
 use Rattle.live.specs.Placing.{closed, without}

@@ -1,4 +1,4 @@
-use Rattle.std.proofs.Common.{◌≡◌, Bool, false, get_or}
+use Rattle.std.proofs.Common.{◌≡◌, false, get_or}
 use Rattle.std.specs.List.{filter}
 use Rattle.relations.specs.Positions.{numbers}
 use Rattle.live_counts.specs.Runs.{flags, ties}

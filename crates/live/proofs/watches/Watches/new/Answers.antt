@@ -1,4 +1,4 @@
-use Rattle.std.proofs.Common.{[], ap, sym, subst}
+use Rattle.std.proofs.Common.{sym, subst}
 use Rattle.live.specs.Chains.{AreNow}
 use Rattle.live.proofs.Standing.{now_none}
 use Rattle.live.proofs.watches.Watches.new.Goals as goal

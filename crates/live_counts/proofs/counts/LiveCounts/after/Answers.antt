@@ -1,4 +1,4 @@
-use Rattle.std.proofs.Common.{◌≡◌, ◌-◌, ◌+◌, ◌<◌, ◌≤◌, ℕ, Bool, List, None, Some, All, length, get_or, ap, arith, sym, subst, ◌∙◌}
+use Rattle.std.proofs.Common.{◌≡◌, ◌-◌, ◌<◌, ℕ, Bool, List, None, All, length, get_or, ap, arith, sym, subst, ◌∙◌}
 use Rattle.std.specs.Option.{ForSome}
 use Rattle.live.specs.Placing.{without}
 use Rattle.live.specs.Watching.{IsAsked, comes_to, goes_from, is_sorting, placed, positions, root_turn, stays}

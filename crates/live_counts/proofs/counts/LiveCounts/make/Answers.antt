@@ -1,6 +1,5 @@
-use Rattle.std.proofs.Common.{◌≡◌, ◌^◌, ◌<◌, ◌≤◌, [], ℕ, Bool, List, None, false, All, length, get_or, refl, ap, arith, sym, subst, ◌∙◌}
+use Rattle.std.proofs.Common.{◌≡◌, ◌<◌, [], ℕ, Bool, List, None, All, length, get_or, refl, ap, arith, sym, subst, ◌∙◌}
 use Rattle.mk_value.specs.Heading.{Attribute}
-use Rattle.mk_value.specs.Limits.{max_rows}
 use Rattle.relations.specs.Positions.{order_of}
 use Rattle.relations.specs.Refusals.{sort_due}
 use Rattle.relations.specs.Sorting.{row_cmp}
