@@ -1,4 +1,0 @@
-pub mod Answers
-pub mod Kept
-pub mod Places
-pub mod Told
