@@ -1,12 +1,17 @@
 -- Laws of bytes that are written piece by piece.
-use Rattle.std.proofs.Common.{◌≡◌, ℕ, ◌+◌, ◌-◌, ◌<◌, ◌≤◌, List, [], ◌∷◌, ◌++◌, length, min, Bool, cond, get_or, take, drop, inl, inr, refl, sym, ap, ◌∙◌, arith}
+use Rattle.std.proofs.Common.{◌≡◌, ℕ, zero, suc, ◌+◌, ◌-◌, ◌<◌, ◌≤◌, ℤ, pos, ◌≤ℤ◌, List, [], ◌∷◌, ◌++◌, length, min, Bool, true, false, not, cond, get_or, take, drop, inl, inr, refl, sym, ap, subst, ◌∙◌, arith, rules}
+use Rattle.std.proofs.lemmas.Int.{ints}
 use Rattle.std.proofs.lemmas.Bool.{cases_lt}
-use Rattle.std.proofs.lemmas.List.{append-nil, take-append-le, length-append, length-drop, length-take-le, take_all, drop-append-le, drop-drop, drop_at, take_more, map-id}
+use Rattle.std.proofs.lemmas.List.{append-nil, take-append-le, length-append, length-drop, length-take-le, take_all, drop-append-le, drop-drop, drop_at, take_more, map-id, get_or-map, length-map}
 use Rattle.std.proofs.lemmas.List.Elements.{filter-append}
 use Rattle.std.proofs.lemmas.List.FromFn.{map-range_with_len_more}
 use Rattle.std.specs.List.{filter, range_with_len}
 use Rattle.segments.proofs.Lists.{take-append-more}
-use Rattle.bytes_col.specs.Strings.{short_bytes}
+use Rattle.bit_pack.specs.declared.widths.Width.{Width}
+use Rattle.bit_pack.specs.declared.widths.Width.TheVariants.{W8}
+use Rattle.bit_pack.specs.Width.{bit_count, Holds, IsLeastWidth}
+use Rattle.bit_pack.proofs.LeastWidth.{highest-rises}
+use Rattle.bytes_col.specs.Strings.{is_short, memo_rows, short_bytes, sizes_of}
 use Rattle.segments.specs.Joined.{joined}
 use Rattle.bytes_col.proofs.Short.{short-append}
 use Rattle.segments.proofs.Joined.{joined-append}
@@ -79,3 +84,24 @@ range_more n =
 pub rows_more : (p : ℕ → Bool) (n : ℕ) (b : Bool) → b ≡ p n → filter p (range_with_len 0 (n + 1)) ≡ filter p (range_with_len 0 n) ++ cond b (n ∷ []) []
 rows_more p n b is =
     ap (filter p) (range_more n) ∙ filter-append p (range_with_len 0 n) (n ∷ []) ∙ ap (λ x. filter p (range_with_len 0 n) ++ cond x (n ∷ []) []) (sym is)
+
+no_rows : (p : ℕ → Bool) (n : ℕ) → ((k : ℕ) → k < n → p k ≡ false) → filter p (range_with_len 0 n) ≡ []
+no_rows p zero none = refl
+no_rows p (suc n) none =
+    ap (λ k. filter p (range_with_len 0 k)) (let e : suc n ≡ n + 1 = omega arith in e)
+    ∙ rows_more p n false (sym (none n (omega arith)))
+    ∙ append-nil (filter p (range_with_len 0 n))
+    ∙ no_rows p n (λ k below. none k (omega arith))
+
+narrow_is_short : (w : Width) (values : List (List ℕ)) (row : ℕ) → IsLeastWidth w (sizes_of values) → bit_count w ≤ 8 → row < length values → not (is_short (get_or values row [])) ≡ false
+narrow_is_short w values row least narrow within =
+    let size : ℤ = pos (length (get_or values row [])) in
+    let held : Holds w size =
+    subst (Holds w) (get_or-map (λ value. pos (length value)) values row [] (pos 0) within) (least.held.each row (pos 0) (omega (arith, length-map values (λ value. pos (length value))))) in
+    let small : length (get_or values row []) ≤ 512 = omega (arith, ints, held.high, highest-rises w W8 narrow) in
+    grind (rules, small)
+
+-- sizes of 8 bits are those of short values
+pub no_memos : (w : Width) (values : List (List ℕ)) → IsLeastWidth w (sizes_of values) → bit_count w ≤ 8 → memo_rows values ≡ []
+no_memos w values least narrow =
+    no_rows (λ row. not (is_short (get_or values row []))) (length values) (λ row. narrow_is_short w values row least narrow)

@@ -1,5 +1,6 @@
 //! A column of texts or byte strings.
 ghost use Rattle.std.specs.Prelude.{◌≡◌, ℕ, pos, ◌+◌, ◌-◌, ◌<◌, ◌≤◌, ◌==◌, [], ◌∷◌, ◌++◌, length, take, drop, map, replicate, slice_set, slice_index_or, Some, None, IfOk, IfErr, OnOk, OnErr, IfSome, IfNone, sum, nat_le, not, if◌then◌else◌};
+ghost use Rattle.std.specs.Bool.{OnTrue};
 ghost use Rattle.std.specs.List.{filter};
 ghost use Rattle.std.specs.Ordering.{nat_cmp};
 ghost use Rattle.std.specs.Cmp.Lexicographic.{slice_cmp};
@@ -310,7 +311,8 @@ impl BytesCol {
         self.chunks.short_len() as u64
     }
 
-    /// The rows of the memos, ascending. It costs a look at each value.
+    /// The rows of the memos, ascending. It costs a look at each segment of the sizes, and at each value where some size takes more
+    /// than 8 bits.
     ///
     /// # Errors
     ///
@@ -319,10 +321,20 @@ impl BytesCol {
         ensures { IfOk result (λ rows. rows ≡ memo_rows self.now.values) }
     {
         let mut rows = Positions::new(alloc);
+        if self.are_sizes_narrow() {
+            return Ok(rows);
+        }
         for row in 0..self.len() {
             push_where(&mut rows, self.is_memo(row), row as u32)?;
         }
         Ok(rows)
+    }
+
+    /// Whether each size is one of 8 bits, so that no value is a memo.
+    fn are_sizes_narrow(&self) -> bool
+        ensures { OnTrue result (memo_rows self.now.values ≡ []) }
+    {
+        self.sizes.width().bits() <= 8
     }
 
     /// Whether a value is a memo.
