@@ -1,5 +1,5 @@
 -- A literal that a line may hold is proper.
-use Rattle.std.proofs.Common.{◌≡◌, ◌≤◌, ◌-◌, ℕ, List, length, length-drop, inl, inr, sym, ap, subst, ◌∙◌, All, arith}
+use Rattle.std.proofs.Common.{◌≡◌, ◌≤◌, ◌-◌, ℕ, List, [], ◌∷◌, length, length-drop, inl, inr, sym, ap, subst, ◌∙◌, All, arith}
 use Rattle.std.proofs.lemmas.List.Elements.{All-weaker}
 use Rattle.mk_value.specs.Conversions.{IsProper, IsProperRow, AreProper}
 use Rattle.mk_value.specs.Data.{Datum, integer, long, text, bytes, relation, Tuple, no_values, value, Relation, no_tuples, tuple}
@@ -7,8 +7,12 @@ use Rattle.mk_value.specs.Heading.{Attribute}
 use Rattle.struct_text.specs.Spelling.{spelling}
 use Rattle.mk_value.specs.Tokens.{Token}
 use Rattle.tokens.specs.Literals.{IsLiteral, IsLiteralRow, AreLiteralRows, AreLiterals, max_braces}
-use Rattle.cmd_text.specs.Grammar.{SpellsCommand}
-use Rattle.cmd_text.specs.Laws.{HasProperLiterals}
+use Rattle.expr_text.specs.Arguments.{Criterion, IsCriterion}
+use Rattle.expr_text.specs.Queries.{max_operators}
+use Rattle.cmd_text.specs.Arguments as arguments
+use Rattle.cmd_text.specs.Arguments.{AreArguments, Argument, IsArgument, IsLast, Last}
+use Rattle.cmd_text.specs.Grammar.{Call, SpellsCall, SpellsCommand, call, call_of, nothing, structure}
+use Rattle.cmd_text.specs.Laws.{AreProperArguments, HasProperArguments, HasProperLiterals, IsProperArgument, IsProperLast}
 use Rattle.cmd_text.specs.Lines.{Reads, ReadsStructure, ReadsTokens, behind_run, first_run, structure_text, without_leading}
 use Rattle.cmd_text.specs.declared.command.Command.{Command}
 use Rattle.cmd_text.specs.declared.command.Command.TheVariants as commands
@@ -37,28 +41,38 @@ mutual
 all_proper : (literals : List Datum) → All (λ d. IsLiteral max_braces d) literals → All (λ d. IsProper d) literals
 all_proper literals h = All-weaker (λ d. IsLiteral max_braces d) (λ d. IsProper d) (λ d l. proper d max_braces l) literals h
 
+all_criteria : (list : List Criterion) → All IsCriterion list → All (λ c. IsProper c.value) list
+all_criteria list h = All-weaker IsCriterion (λ c. IsProper c.value) (λ c l. proper c.value max_braces l.1) list h
+
+proper_argument : (deep : ℕ) (a : Argument) → IsArgument deep a → IsProperArgument a
+proper_argument deep (arguments.literal d) whole = proper d max_braces whole
+proper_argument deep (arguments.name letters) whole = tt
+proper_argument deep (arguments.count n) whole = tt
+proper_argument deep (arguments.path r) whole = tt
+proper_argument deep (arguments.expression q) whole = tt
+proper_argument deep (arguments.operation q) whole = tt
+
+proper_arguments : (deep : ℕ) (list : List Argument) → AreArguments deep list → AreProperArguments list
+proper_arguments deep [] whole = tt
+proper_arguments deep (a ∷ list) whole = (proper_argument deep a whole.0, proper_arguments deep list whole.1)
+
+proper_last : (last : Last) → IsLast last → IsProperLast last
+proper_last arguments.nothing whole = tt
+proper_last (arguments.values list) whole = all_proper list whole
+proper_last (arguments.criteria list) whole = all_criteria list whole.1
+proper_last (arguments.note content) whole = whole
+
+proper_call : (c : Call) (tokens : List Token) → SpellsCall max_operators c tokens → HasProperArguments c
+proper_call nothing tokens spells = tt
+proper_call (structure letters schema) tokens spells = tt
+proper_call (call verb list last) tokens spells = (proper_arguments max_operators list spells.1.whole, proper_last last spells.1.last)
+
 proper_command : (command : Command) (tokens : List Token) → SpellsCommand tokens command → HasProperLiterals command
-proper_command commands.Nothing tokens spells = tt
-proper_command (commands.Getas name schema) tokens spells = tt
-proper_command (commands.Drop name) tokens spells = tt
-proper_command commands.Struct tokens spells = tt
-proper_command (commands.Add path values) tokens spells = all_proper values spells.whole.1
-proper_command (commands.Insert path place copies values) tokens spells = all_proper values spells.whole.1.1.1
-proper_command (commands.Set path row prop given) tokens spells = proper _ max_braces spells.whole.1.1.1
-proper_command (commands.Remove path place rows) tokens spells = tt
-proper_command (commands.Commit note) tokens spells = spells.whole
-proper_command commands.Log tokens spells = tt
-proper_command commands.Rollback tokens spells = tt
-proper_command commands.Reopen tokens spells = tt
-proper_command commands.Revert tokens spells = tt
-proper_command commands.Space tokens spells = tt
-proper_command (commands.Size path) tokens spells = tt
-proper_command (commands.Show path) tokens spells = tt
-proper_command commands.Quit tokens spells = tt
+proper_command command tokens spells = proper_call (call_of command) tokens spells
 
 pub proper_line : (line : List ℕ) (command : Command) → Reads line command → HasProperLiterals command
 proper_line line command reads = elim reads.reads [
-  | inl structure ↦ subst HasProperLiterals (sym structure.spells.1.1.0) tt
+  | inl given ↦ subst (λ c. HasProperLiterals c) (sym given.spells.1.1.0) tt
   | inr pieces ↦ proper_command command _ pieces.spells
 ]
 
@@ -74,17 +88,17 @@ text_short line =
     )
 
 no_structure : (line name : List ℕ) (schema : List Attribute) → ReadsTokens line (commands.Getas name schema) → ⊥
-no_structure line name schema reads = reads.spells.whole
+no_structure line name schema reads = reads.spells
 
 pub short_line : (line name : List ℕ) (schema : List Attribute) → Reads line (commands.Getas name schema) → length (spelling name schema) ≤ length line
 short_line line name schema reads = elim reads.reads [
-  | inl structure ↦ spelled structure
+  | inl given ↦ spelled given
   | inr pieces ↦ absurd (no_structure line name schema pieces)
 ]
   where
     spelled : ReadsStructure line (commands.Getas name schema) → length (spelling name schema) ≤ length line
-    spelled structure =
-        let read = structure.spells in
+    spelled given =
+        let read = given.spells in
         let same_name : name ≡ read.0 = cc (read.1.1.0) in
         let same_schema : schema ≡ read.1.0 = cc (read.1.1.0) in
         let is : structure_text line ≡ spelling name schema = read.1.1.1.is ∙ ap (λ n. spelling n read.1.0) (sym same_name) ∙ ap (λ s. spelling name s) (sym same_schema) in

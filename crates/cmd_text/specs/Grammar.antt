@@ -1,91 +1,91 @@
 -- The commands, each by the tokens that spell it.
-use Rattle.std.specs.Prelude.{◌≡◌, ◌⊎◌, ℕ, ◌<◌, ◌^◌, pos, List, [], ◌∷◌, ◌++◌, All, codes}
-use Rattle.std.specs.List.{flat_map}
-use Rattle.mk_value.specs.Data.{Datum}
-use Rattle.mk_value.specs.Literals.{tokens_of}
+use Rattle.std.specs.Prelude.{◌≡◌, ◌⊎◌, ℕ, true, List, [], ◌∷◌}
+use Rattle.mk_value.specs.Heading.{Attribute}
 use Rattle.mk_value.specs.LiteralValues.{literal_of}
-use Rattle.mk_value.specs.Names.{IsName}
-use Rattle.mk_value.specs.Tokens.{Token, word, number, text}
+use Rattle.mk_value.specs.Tokens.{Token, word}
 use Rattle.tokens.specs.Fronts.{Language}
-use Rattle.tokens.specs.Literals.{IsLiteral, max_braces}
-use Rattle.tokens.specs.Paths.{IsPath, path_tokens}
-use Rattle.cmd_text.specs.Notes.{IsNote}
+use Rattle.expr_text.specs.Meanings.{query_of}
+use Rattle.expr_text.specs.Queries.{max_operators}
+use Rattle.cmd_text.specs.Arguments as arguments
+use Rattle.cmd_text.specs.Arguments.{AreArguments, Argument, IsLast, Last, MayBeLeftOut, ending_of, name, count, path, literal, expression, operation, parts_of, with_arguments, with_last}
+use Rattle.cmd_text.specs.Words.{form_of, is_known, word_of}
 use Rattle.cmd_text.specs.declared.command.Command.{Command}
-use Rattle.cmd_text.specs.declared.command.Command.TheVariants.{Nothing, Getas, Drop, Struct, Add, Insert, Set, Remove, Size, Show, Commit, Log, Rollback, Reopen, Revert, Space, Quit}
+use Rattle.cmd_text.specs.declared.command.Command.TheVariants as commands
+use Rattle.cmd_text.specs.declared.verb.Verb.{Verb}
+use Rattle.cmd_text.specs.declared.verb.Verb.TheVariants as verbs
 
--- a number without a sign, of 63 bits
-abbrev pub IsCount : ℕ → Type 0
-IsCount n = n < 2 ^ 63
+-- what a line asks for: nothing; a structure under a name; or what a word and its arguments say
+pub data Call : Type 0 where
+  nothing : Call
+  structure : List ℕ → List Attribute → Call
+  call : Verb → List Argument → Last → Call
 
-abbrev pub AreLiterals : List Datum → Type 0
-AreLiterals literals = All (λ d. IsLiteral max_braces d) literals
-
--- What stands in the command is what a line may hold. A line that gives a structure is not cut into tokens.
-abbrev pub IsCommand : Command → Type 0
-IsCommand Nothing = Unit {0}
-IsCommand (Getas name schema) = ⊥
-IsCommand (Drop name) = IsName name
-IsCommand Struct = Unit {0}
-IsCommand (Add path values) = IsPath path × AreLiterals values
-IsCommand (Insert path place copies values) = IsPath path × (IsCount place × (IsCount copies × AreLiterals values))
-IsCommand (Set path row prop value) = IsPath path × (IsCount row × (IsName prop × IsLiteral max_braces (literal_of value)))
-IsCommand (Remove path place rows) = IsPath path × (IsCount place × IsCount rows)
-IsCommand (Size path) = IsPath path
-IsCommand (Show path) = IsPath path
-IsCommand (Commit note) = IsNote note
-IsCommand Log = Unit {0}
-IsCommand Rollback = Unit {0}
-IsCommand Reopen = Unit {0}
-IsCommand Revert = Unit {0}
-IsCommand Space = Unit {0}
-IsCommand Quit = Unit {0}
+abbrev pub call_of : Command → Call
+call_of commands.Nothing = nothing
+call_of (commands.Getas letters schema) = structure letters schema
+call_of (commands.Drop view) = call verbs.Drop (name view ∷ []) arguments.nothing
+call_of commands.Struct = call verbs.Struct [] arguments.nothing
+call_of (commands.Add route list) = call verbs.Add (path route ∷ []) (arguments.values list)
+call_of (commands.Insert route place copies list) = call verbs.Insert (path route ∷ count place ∷ count copies ∷ []) (arguments.values list)
+call_of (commands.Set route row prop value) = call verbs.Set (path route ∷ count row ∷ name prop ∷ literal (literal_of value) ∷ []) arguments.nothing
+call_of (commands.Remove route place rows) = call verbs.Remove (path route ∷ count place ∷ count rows ∷ []) arguments.nothing
+call_of (commands.Size e) = call verbs.Size (expression (query_of e) ∷ []) arguments.nothing
+call_of (commands.Show e) = call verbs.Show (expression (query_of e) ∷ []) arguments.nothing
+call_of (commands.Find e start list) = call verbs.Find (expression (query_of e) ∷ count start ∷ []) (arguments.criteria list)
+call_of (commands.Search e list) = call verbs.Search (expression (query_of e) ∷ []) (arguments.criteria list)
+call_of (commands.Locate e list) = call verbs.Locate (expression (query_of e) ∷ []) (arguments.criteria list)
+call_of (commands.Dup new e) = call verbs.Dup (name new ∷ expression (query_of e) ∷ []) arguments.nothing
+call_of (commands.Undup snapshot) = call verbs.Undup (name snapshot ∷ []) arguments.nothing
+call_of (commands.Watch new e) = call verbs.Watch (name new ∷ operation (query_of e) ∷ []) arguments.nothing
+call_of (commands.Unwatch watch) = call verbs.Unwatch (name watch ∷ []) arguments.nothing
+call_of (commands.Hash view keys) = call verbs.Hash (name view ∷ count keys ∷ []) arguments.nothing
+call_of (commands.Ordered view keys) = call verbs.Ordered (name view ∷ count keys ∷ []) arguments.nothing
+call_of (commands.Unmap view) = call verbs.Unmap (name view ∷ []) arguments.nothing
+call_of (commands.Cursor new target) = call verbs.Cursor (name new ∷ name target ∷ []) arguments.nothing
+call_of (commands.Uncursor cursor) = call verbs.Uncursor (name cursor ∷ []) arguments.nothing
+call_of (commands.Next cursor) = call verbs.Next (name cursor ∷ []) arguments.nothing
+call_of (commands.Prev cursor) = call verbs.Prev (name cursor ∷ []) arguments.nothing
+call_of (commands.Row cursor) = call verbs.Row (name cursor ∷ []) arguments.nothing
+call_of (commands.Commit content) = call verbs.Commit [] (arguments.note content)
+call_of commands.Log = call verbs.Log [] arguments.nothing
+call_of commands.Rollback = call verbs.Rollback [] arguments.nothing
+call_of commands.Reopen = call verbs.Reopen [] arguments.nothing
+call_of commands.Revert = call verbs.Revert [] arguments.nothing
+call_of commands.Space = call verbs.Space [] arguments.nothing
+call_of commands.Quit = call verbs.Quit [] arguments.nothing
 
 -- a word of the commands' own
 abbrev pub keyword : List ℕ → Token
 keyword letters = word letters
 
-abbrev pub count : ℕ → Token
-count n = number (pos n)
+-- The arguments are those that stand behind the word, with at most so many operators inside one another.
+pub record Behind (deep : ℕ) (verb : Verb) (list : List Argument) (final : Last) : Type 0 where
+  pub parts : parts_of list ≡ (form_of verb).parts
+  pub ending : ending_of final ≡ (form_of verb).ending
+  pub whole : AreArguments deep list
+  pub last : IsLast final
 
--- literals with nothing between them
-abbrev pub literals_tokens : List Datum → List Token
-literals_tokens literals = flat_map tokens_of literals
+-- the tokens of the arguments, where an empty note may be left out
+abbrev pub SpellsArguments : List Argument → Last → Language
+SpellsArguments list last tokens =
+    (tokens ≡ with_arguments list (with_last last [])) ⊎ (MayBeLeftOut last × (tokens ≡ with_arguments list []))
 
--- the list of tokens that spells the command
-abbrev pub command_tokens : Command → List Token
-command_tokens Nothing = []
-command_tokens (Getas name schema) = []
-command_tokens (Drop name) = keyword (codes "drop") ∷ word name ∷ []
-command_tokens Struct = keyword (codes "struct") ∷ []
-command_tokens (Add path values) = keyword (codes "add") ∷ (path_tokens path ++ literals_tokens values)
-command_tokens (Insert path place copies values) =
-    keyword (codes "insert") ∷ (path_tokens path ++ (count place ∷ count copies ∷ literals_tokens values))
-command_tokens (Set path row prop value) =
-    keyword (codes "set") ∷ (path_tokens path ++ (count row ∷ word prop ∷ tokens_of (literal_of value)))
-command_tokens (Remove path place rows) = keyword (codes "remove") ∷ (path_tokens path ++ (count place ∷ count rows ∷ []))
-command_tokens (Size path) = keyword (codes "size") ∷ path_tokens path
-command_tokens (Show path) = keyword (codes "show") ∷ path_tokens path
-command_tokens (Commit note) = keyword (codes "commit") ∷ text note ∷ []
-command_tokens Log = keyword (codes "log") ∷ []
-command_tokens Rollback = keyword (codes "rollback") ∷ []
-command_tokens Reopen = keyword (codes "reopen") ∷ []
-command_tokens Revert = keyword (codes "revert") ∷ []
-command_tokens Space = keyword (codes "space") ∷ []
-command_tokens Quit = keyword (codes "quit") ∷ []
+-- The tokens spell the call. A line that gives a structure is not cut into tokens.
+abbrev pub SpellsCall : ℕ → Call → Language
+SpellsCall deep nothing tokens = tokens ≡ []
+SpellsCall deep (structure letters schema) tokens = ⊥
+SpellsCall deep (call verb list last) tokens =
+    (is_known verb ≡ true) × Behind deep verb list last × ((rest : List Token) × (tokens ≡ keyword (word_of verb) ∷ rest) × SpellsArguments list last rest)
 
--- A commit leaves out its note, which is empty.
-abbrev pub LeavesOutNote : List ℕ → Language
-LeavesOutNote note tokens = (note ≡ []) × (tokens ≡ keyword (codes "commit") ∷ [])
+abbrev pub SpellsCommand : List Token → Command → Type 0
+SpellsCommand tokens command = SpellsCall max_operators (call_of command) tokens
 
--- The tokens are those that spell the command. A commit with the empty note has two spellings, every other command has one.
-abbrev pub AreTokensOf : Command → Language
-AreTokensOf (Commit note) = λ tokens. (tokens ≡ command_tokens (Commit note)) ⊎ LeavesOutNote note tokens
-AreTokensOf command = λ tokens. tokens ≡ command_tokens command
+-- the tokens of commands: of those whose expressions are no deeper, of those within the limit, and of those of any depth
+abbrev pub CommandIn : ℕ → Language
+CommandIn deep tokens = (c : Call) × SpellsCall deep c tokens
 
-pub record SpellsCommand (tokens : List Token) (command : Command) : Type 0 where
-  pub whole : IsCommand command
-  pub is : AreTokensOf command tokens
-
--- the tokens of commands
 abbrev pub CommandTokens : Language
-CommandTokens tokens = (command : Command) × SpellsCommand tokens command
+CommandTokens tokens = CommandIn max_operators tokens
+
+abbrev pub DeepCommandTokens : Language
+DeepCommandTokens tokens = (deep : ℕ) × CommandIn deep tokens

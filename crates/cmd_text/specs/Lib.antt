@@ -1,4 +1,4 @@
-pub mod Forms
+pub mod Arguments
 pub mod Grammar
 pub mod Laws
 pub mod Lines
@@ -7,3 +7,4 @@ pub mod OneWord
 pub mod Readers
 pub mod Replies
 pub mod Structures
+pub mod Words

@@ -8,8 +8,9 @@ use Rattle.struct_text.specs.Spelling.{Spells}
 use Rattle.struct_text.specs.declared.error.StructError.{StructError}
 use Rattle.struct_text.specs.declared.error.StructError.TheVariants as offences
 use Rattle.tokens.specs.Cutting.{Piece, Cuts, space, begins_with}
-use Rattle.tokens.specs.Fronts.{IsFirstOffence, tokens_in}
-use Rattle.cmd_text.specs.Grammar.{CommandTokens, SpellsCommand}
+use Rattle.tokens.specs.Depths.{IsFirstOffence, Offence, syntax, too_deep}
+use Rattle.tokens.specs.Fronts.{tokens_in}
+use Rattle.cmd_text.specs.Grammar.{CommandTokens, DeepCommandTokens, SpellsCommand}
 use Rattle.cmd_text.specs.declared.command.Command.{Command}
 use Rattle.cmd_text.specs.declared.command.Command.TheVariants.{Getas, Quit}
 use Rattle.cmd_text.specs.declared.error.CmdError.{CmdError}
@@ -87,10 +88,18 @@ RefusesStructure line error =
     × (((StandsAlone line → ⊥) × (error ≡ Syntax (first_place line)))
     ⊎ (StandsAlone line × ((offence : StructError) × (IsStructureOffence (structure_text line) offence × (error ≡ error_of (structure_place line) offence)))))
 
--- any other line is refused at its first offence against the commands
+-- how an offence against the commands is refused
+abbrev pub refused_as : Offence → CmdError
+refused_as (syntax place) = Syntax place
+refused_as (too_deep place) = TooLarge
+
+-- the tokens of a line are refused at its first offence: what opens too deep in an expression decides by its place against what is wrong
+abbrev pub RefusesPieces : List ℕ → CmdError → Type 0
+RefusesPieces line error = (offence : Offence) × IsFirstOffence CommandTokens DeepCommandTokens line offence × (error ≡ refused_as offence)
+
+-- any other line is refused so
 abbrev pub RefusesTokens : List ℕ → CmdError → Type 0
-RefusesTokens line error =
-    (gives_structure line ≡ false) × ((place : ℕ) × (IsFirstOffence CommandTokens line place × (error ≡ Syntax place)))
+RefusesTokens line error = (gives_structure line ≡ false) × RefusesPieces line error
 
 -- The line is refused so. One that is not UTF-8 is refused at the end of its longest front that is.
 abbrev pub IsRefusedAs : List ℕ → CmdError → Type 0

@@ -3,32 +3,38 @@ use Rattle.std.specs.Prelude.{◌≡◌, ◌⊎◌, ℕ, List, [], ◌∷◌}
 use Rattle.mk_value.specs.Tokens.{text}
 use Rattle.tokens.specs.Cutting.{Piece, Cuts}
 use Rattle.tokens.specs.Fronts.{Language, tokens_in}
-use Rattle.cmd_text.specs.Forms.{Form, nothing, optional, note}
-use Rattle.cmd_text.specs.Grammar.{SpellsCommand}
+use Rattle.cmd_text.specs.Arguments as arguments
+use Rattle.cmd_text.specs.Arguments.{Argument, Last}
+use Rattle.cmd_text.specs.Grammar.{Call, SpellsCommand, call, call_of, nothing, structure}
+use Rattle.cmd_text.specs.Words.{Ending, Form, a_note, no_more}
 use Rattle.cmd_text.specs.declared.command.Command.{Command}
-use Rattle.cmd_text.specs.declared.command.Command.TheVariants.{Nothing, Struct, Commit, Log, Rollback, Reopen, Revert, Space, Quit}
+
+-- nothing stands behind the word, or an empty note
+abbrev pub IsBareLast : Last → Type 0
+IsBareLast arguments.nothing = Unit {0}
+IsBareLast (arguments.note content) = content ≡ []
+IsBareLast _ = ⊥
 
 -- The line of the command is one word, or nothing; behind `commit` an empty note may stand.
+abbrev pub IsOneWordCall : Call → Type 0
+IsOneWordCall nothing = Unit {0}
+IsOneWordCall (structure letters schema) = ⊥
+IsOneWordCall (call verb list last) = (list ≡ []) × IsBareLast last
+
 abbrev pub IsOneWord : Command → Type 0
-IsOneWord Nothing = Unit {0}
-IsOneWord Struct = Unit {0}
-IsOneWord (Commit content) = content ≡ []
-IsOneWord Log = Unit {0}
-IsOneWord Rollback = Unit {0}
-IsOneWord Reopen = Unit {0}
-IsOneWord Revert = Unit {0}
-IsOneWord Space = Unit {0}
-IsOneWord Quit = Unit {0}
-IsOneWord _ = ⊥
+IsOneWord command = IsOneWordCall (call_of command)
 
 -- what stands behind the word on such a line
 abbrev pub EmptyNoteTokens : Language
 EmptyNoteTokens tokens = (tokens ≡ []) ⊎ (tokens ≡ text [] ∷ [])
 
+abbrev pub IsBareEnding : Ending → Language
+IsBareEnding no_more tokens = tokens ≡ []
+IsBareEnding a_note tokens = EmptyNoteTokens tokens
+IsBareEnding _ tokens = ⊥
+
 abbrev pub IsBehindOneWord : Form → Language
-IsBehindOneWord nothing = λ tokens. tokens ≡ []
-IsBehindOneWord (optional note) = EmptyNoteTokens
-IsBehindOneWord _ = λ tokens. ⊥
+IsBehindOneWord form tokens = (form.parts ≡ []) × IsBareEnding form.ending tokens
 
 -- the line is the command that its tokens spell
 abbrev pub ReadsPieces : List ℕ → Command → Type 0

@@ -3,7 +3,7 @@ use Rattle.std.specs.Prelude.{ℕ, List, [], ◌∷◌, ◌++◌, length, map, c
 use Rattle.std.specs.List.{flat_map}
 use Rattle.mk_value.specs.Buffer.{Buffer}
 use Rattle.cmd_text.specs.declared.reply.Reply.{Reply}
-use Rattle.cmd_text.specs.declared.reply.Reply.TheVariants.{Silent, Plain, Count, Pair, NotFound, Lines, One, Commit, Rollback, Reopen, Revert, Space, Quit, Refused}
+use Rattle.cmd_text.specs.declared.reply.Reply.TheVariants.{Silent, Plain, Count, Pair, NotFound, Lines, One, Row, Commit, Rollback, Reopen, Revert, Space, Quit, Refused}
 use Rattle.cmd_text.specs.declared.refusal.Refusal.{Refusal}
 use Rattle.cmd_text.specs.declared.refusal.Refusal.TheVariants as refusals
 
@@ -48,6 +48,7 @@ reply_bytes (Pair a b) = reply_line (codes "ok " ++ (decimal a ++ (codes " " ++ 
 reply_bytes NotFound = reply_line (codes "ok none")
 reply_bytes (Lines texts) = lines_text (contents texts)
 reply_bytes (One text) = reply_line (codes "ok " ++ text.bytes)
+reply_bytes (Row text) = reply_line (codes "ok " ++ text.bytes)
 reply_bytes (Commit n) = reply_line (codes "ok commit " ++ decimal n)
 reply_bytes (Rollback n) = reply_line (codes "ok rollback " ++ decimal n)
 reply_bytes (Reopen n) = reply_line (codes "ok reopen " ++ decimal n)

@@ -1,131 +1,206 @@
 //! Reading what stands behind a command's first word.
-ghost use Rattle.std.specs.Prelude.{◌≡◌, ◌∷◌, [], IfOk, IfErr, IsOk};
-ghost use Rattle.tokens.specs.Fronts.{tokens_in};
-ghost use Rattle.cmd_text.specs.Forms.{Refuses, nothing, form_of, word_of};
-ghost use Rattle.cmd_text.specs.Grammar.{SpellsCommand, keyword};
+ghost use Rattle.std.specs.Prelude.{◌≡◌, ◌⊎◌, ◌∷◌, [], IfOk, IfErr, IsOk, OnOk};
+ghost use Rattle.mk_value.specs.Tokens.{text};
+ghost use Rattle.expr_text.specs.Queries.{max_operators};
+ghost use Rattle.expr_text.specs.Readers.{Fails, Meets, rest_of, tokens_left};
+ghost use Rattle.expr_text.specs.Walk.{a_text};
+ghost use Rattle.cmd_text.specs.Grammar.{call_of};
+ghost use Rattle.cmd_text.specs.Notes.{IsNote, max_note};
 ghost use Rattle.cmd_text.specs.OneWord.{EmptyNoteTokens, IsBehindOneWord};
-ghost use Rattle.cmd_text.specs.Readers.{rest_of};
+ghost use Rattle.cmd_text.specs.Readers.{IsCallOf, Spelled, goals_of};
+ghost use Rattle.cmd_text.specs.Words.{form_of};
 ghost use Rattle.cmd_text.specs.declared.verb.Verb.TheVariants as verbs;
 
-use crate::reader::Reader;
+use crate::note::note_of;
 use crate::verb::Verb;
-use crate::{CmdError, Command, Note};
+use crate::{Command, Note};
+use expr_text::{ExprError, Reader};
 
-/// Reads what stands behind the first word of a command, to the line's end.
-pub(crate) fn read_arguments(verb: Verb, reader: &mut Reader<'_>) -> Result<Command, CmdError>
-    ensures reads { IfOk result (λ command. SpellsCommand (keyword (word_of verb) ∷ tokens_in (rest_of reader.old).pieces) command) }
-    ensures refused { IfErr result (λ error. Refuses (form_of verb) (rest_of reader.old) error) }
-    ensures in_place { IsBehindOneWord (form_of verb) (tokens_in (rest_of reader.old).pieces) → IsOk result }
+/// How many operators may stand inside one another in an expression.
+const MAX_OPERATORS: usize = 15;
+
+/// Reads what stands behind the first word of a command.
+pub(crate) fn arguments(verb: Verb, reader: &mut Reader<'_>) -> Result<Command, ExprError>
+    ensures whole { IfOk result (λ command. IsCallOf verb (call_of command)) }
+    ensures spells { IfOk result (λ command. Spelled (call_of command) (tokens_left reader.old) (tokens_left reader.new)) }
+    ensures meets { OnOk result (Meets (goals_of max_operators (form_of verb)) (rest_of reader.old) (rest_of reader.new)) }
+    ensures fails { IfErr result (Fails (goals_of max_operators (form_of verb)) (rest_of reader.old)) }
+    ensures in_place { IsBehindOneWord (form_of verb) (tokens_left reader.old) → IsOk result }
 {
     match verb {
-        Verb::Drop => read_drop(reader),
-        Verb::Struct => read_alone(reader, Command::Struct),
+        Verb::Drop => Ok(Command::Drop(reader.name()?)),
+        Verb::Struct => Ok(Command::Struct),
         Verb::Add => read_add(reader),
         Verb::Insert => read_insert(reader),
         Verb::Set => read_set(reader),
         Verb::Remove => read_remove(reader),
-        Verb::Size => read_size(reader),
-        Verb::Show => read_show(reader),
-        Verb::Commit => read_commit(reader),
-        Verb::Log => read_alone(reader, Command::Log),
-        Verb::Rollback => read_alone(reader, Command::Rollback),
-        Verb::Reopen => read_alone(reader, Command::Reopen),
-        Verb::Revert => read_alone(reader, Command::Revert),
-        Verb::Space => read_alone(reader, Command::Space),
-        Verb::Quit => read_alone(reader, Command::Quit),
+        Verb::Size => Ok(Command::Size(reader.expr(MAX_OPERATORS)?)),
+        Verb::Show => Ok(Command::Show(reader.expr(MAX_OPERATORS)?)),
+        Verb::Find => read_find(reader),
+        Verb::Search => read_search(reader),
+        Verb::Locate => read_locate(reader),
+        Verb::Dup => read_dup(reader),
+        Verb::Undup => Ok(Command::Undup(reader.name()?)),
+        Verb::Watch => read_watch(reader),
+        Verb::Unwatch => Ok(Command::Unwatch(reader.name()?)),
+        Verb::Hash => read_hash(reader),
+        Verb::Ordered => read_ordered(reader),
+        Verb::Unmap => Ok(Command::Unmap(reader.name()?)),
+        Verb::Cursor => read_cursor(reader),
+        Verb::Uncursor => Ok(Command::Uncursor(reader.name()?)),
+        Verb::Next => Ok(Command::Next(reader.name()?)),
+        Verb::Prev => Ok(Command::Prev(reader.name()?)),
+        Verb::Row => Ok(Command::Row(reader.name()?)),
+        Verb::Commit => Ok(Command::Commit(note(reader)?)),
+        Verb::Log => Ok(Command::Log),
+        Verb::Rollback => Ok(Command::Rollback),
+        Verb::Reopen => Ok(Command::Reopen),
+        Verb::Revert => Ok(Command::Revert),
+        Verb::Space => Ok(Command::Space),
+        Verb::Quit => Ok(Command::Quit),
     }
 }
 
-/// Reads a command behind whose word nothing stands.
-fn read_alone(reader: &Reader<'_>, command: Command) -> Result<Command, CmdError>
-    ensures same { IfOk result (λ read. read ≡ command) }
-    ensures alone { IfOk result (λ _. tokens_in (rest_of reader.now).pieces ≡ []) }
-    ensures refused { IfErr result (λ error. Refuses nothing (rest_of reader.now) error) }
-    ensures in_place { tokens_in (rest_of reader.now).pieces ≡ [] → IsOk result }
-{
-    reader.over()?;
-    Ok(command)
-}
-
-fn read_drop(reader: &mut Reader<'_>) -> Result<Command, CmdError>
-    ensures reads { IfOk result (λ command. SpellsCommand (keyword (word_of verbs.Drop) ∷ tokens_in (rest_of reader.old).pieces) command) }
-    ensures refused { IfErr result (λ error. Refuses (form_of verbs.Drop) (rest_of reader.old) error) }
-{
-    let name = reader.name()?;
-    reader.over()?;
-    Ok(Command::Drop(name))
-}
-
-fn read_add(reader: &mut Reader<'_>) -> Result<Command, CmdError>
-    ensures reads { IfOk result (λ command. SpellsCommand (keyword (word_of verbs.Add) ∷ tokens_in (rest_of reader.old).pieces) command) }
-    ensures refused { IfErr result (λ error. Refuses (form_of verbs.Add) (rest_of reader.old) error) }
+fn read_add(reader: &mut Reader<'_>) -> Result<Command, ExprError>
+    ensures whole { IfOk result (λ command. IsCallOf verbs.Add (call_of command)) }
+    ensures spells { IfOk result (λ command. Spelled (call_of command) (tokens_left reader.old) (tokens_left reader.new)) }
+    ensures meets { OnOk result (Meets (goals_of max_operators (form_of verbs.Add)) (rest_of reader.old) (rest_of reader.new)) }
+    ensures fails { IfErr result (Fails (goals_of max_operators (form_of verbs.Add)) (rest_of reader.old)) }
 {
     let path = reader.path()?;
-    let values = reader.values()?;
-    Ok(Command::Add(path, values))
+    Ok(Command::Add(path, reader.values()?))
 }
 
-fn read_insert(reader: &mut Reader<'_>) -> Result<Command, CmdError>
-    ensures reads { IfOk result (λ command. SpellsCommand (keyword (word_of verbs.Insert) ∷ tokens_in (rest_of reader.old).pieces) command) }
-    ensures refused { IfErr result (λ error. Refuses (form_of verbs.Insert) (rest_of reader.old) error) }
+fn read_insert(reader: &mut Reader<'_>) -> Result<Command, ExprError>
+    ensures whole { IfOk result (λ command. IsCallOf verbs.Insert (call_of command)) }
+    ensures spells { IfOk result (λ command. Spelled (call_of command) (tokens_left reader.old) (tokens_left reader.new)) }
+    ensures meets { OnOk result (Meets (goals_of max_operators (form_of verbs.Insert)) (rest_of reader.old) (rest_of reader.new)) }
+    ensures fails { IfErr result (Fails (goals_of max_operators (form_of verbs.Insert)) (rest_of reader.old)) }
 {
     let path = reader.path()?;
-    let place = reader.number()?;
-    let copies = reader.number()?;
-    let values = reader.values()?;
-    Ok(Command::Insert(path, place, copies, values))
+    let place = reader.count()?;
+    let copies = reader.count()?;
+    Ok(Command::Insert(path, place, copies, reader.values()?))
 }
 
-fn read_set(reader: &mut Reader<'_>) -> Result<Command, CmdError>
-    ensures reads { IfOk result (λ command. SpellsCommand (keyword (word_of verbs.Set) ∷ tokens_in (rest_of reader.old).pieces) command) }
-    ensures refused { IfErr result (λ error. Refuses (form_of verbs.Set) (rest_of reader.old) error) }
+fn read_set(reader: &mut Reader<'_>) -> Result<Command, ExprError>
+    ensures whole { IfOk result (λ command. IsCallOf verbs.Set (call_of command)) }
+    ensures spells { IfOk result (λ command. Spelled (call_of command) (tokens_left reader.old) (tokens_left reader.new)) }
+    ensures meets { OnOk result (Meets (goals_of max_operators (form_of verbs.Set)) (rest_of reader.old) (rest_of reader.new)) }
+    ensures fails { IfErr result (Fails (goals_of max_operators (form_of verbs.Set)) (rest_of reader.old)) }
 {
     let path = reader.path()?;
-    let row = reader.number()?;
+    let row = reader.count()?;
     let prop = reader.name()?;
-    let value = reader.literal()?;
-    reader.over()?;
-    Ok(Command::Set(path, row, prop, value))
+    Ok(Command::Set(path, row, prop, reader.literal()?))
 }
 
-fn read_remove(reader: &mut Reader<'_>) -> Result<Command, CmdError>
-    ensures reads { IfOk result (λ command. SpellsCommand (keyword (word_of verbs.Remove) ∷ tokens_in (rest_of reader.old).pieces) command) }
-    ensures refused { IfErr result (λ error. Refuses (form_of verbs.Remove) (rest_of reader.old) error) }
+fn read_remove(reader: &mut Reader<'_>) -> Result<Command, ExprError>
+    ensures whole { IfOk result (λ command. IsCallOf verbs.Remove (call_of command)) }
+    ensures spells { IfOk result (λ command. Spelled (call_of command) (tokens_left reader.old) (tokens_left reader.new)) }
+    ensures meets { OnOk result (Meets (goals_of max_operators (form_of verbs.Remove)) (rest_of reader.old) (rest_of reader.new)) }
+    ensures fails { IfErr result (Fails (goals_of max_operators (form_of verbs.Remove)) (rest_of reader.old)) }
 {
     let path = reader.path()?;
-    let place = reader.number()?;
-    let rows = reader.number()?;
-    reader.over()?;
-    Ok(Command::Remove(path, place, rows))
+    let place = reader.count()?;
+    Ok(Command::Remove(path, place, reader.count()?))
 }
 
-fn read_size(reader: &mut Reader<'_>) -> Result<Command, CmdError>
-    ensures reads { IfOk result (λ command. SpellsCommand (keyword (word_of verbs.Size) ∷ tokens_in (rest_of reader.old).pieces) command) }
-    ensures refused { IfErr result (λ error. Refuses (form_of verbs.Size) (rest_of reader.old) error) }
+fn read_find(reader: &mut Reader<'_>) -> Result<Command, ExprError>
+    ensures whole { IfOk result (λ command. IsCallOf verbs.Find (call_of command)) }
+    ensures spells { IfOk result (λ command. Spelled (call_of command) (tokens_left reader.old) (tokens_left reader.new)) }
+    ensures meets { OnOk result (Meets (goals_of max_operators (form_of verbs.Find)) (rest_of reader.old) (rest_of reader.new)) }
+    ensures fails { IfErr result (Fails (goals_of max_operators (form_of verbs.Find)) (rest_of reader.old)) }
 {
-    let path = reader.path()?;
-    reader.over()?;
-    Ok(Command::Size(path))
+    let expr = reader.expr(MAX_OPERATORS)?;
+    let start = reader.count()?;
+    Ok(Command::Find(expr, start, reader.last_criteria()?))
 }
 
-fn read_show(reader: &mut Reader<'_>) -> Result<Command, CmdError>
-    ensures reads { IfOk result (λ command. SpellsCommand (keyword (word_of verbs.Show) ∷ tokens_in (rest_of reader.old).pieces) command) }
-    ensures refused { IfErr result (λ error. Refuses (form_of verbs.Show) (rest_of reader.old) error) }
+fn read_search(reader: &mut Reader<'_>) -> Result<Command, ExprError>
+    ensures whole { IfOk result (λ command. IsCallOf verbs.Search (call_of command)) }
+    ensures spells { IfOk result (λ command. Spelled (call_of command) (tokens_left reader.old) (tokens_left reader.new)) }
+    ensures meets { OnOk result (Meets (goals_of max_operators (form_of verbs.Search)) (rest_of reader.old) (rest_of reader.new)) }
+    ensures fails { IfErr result (Fails (goals_of max_operators (form_of verbs.Search)) (rest_of reader.old)) }
 {
-    let path = reader.path()?;
-    reader.over()?;
-    Ok(Command::Show(path))
+    let expr = reader.expr(MAX_OPERATORS)?;
+    Ok(Command::Search(expr, reader.last_criteria()?))
 }
 
-fn read_commit(reader: &mut Reader<'_>) -> Result<Command, CmdError>
-    ensures reads { IfOk result (λ command. SpellsCommand (keyword (word_of verbs.Commit) ∷ tokens_in (rest_of reader.old).pieces) command) }
-    ensures refused { IfErr result (λ error. Refuses (form_of verbs.Commit) (rest_of reader.old) error) }
-    ensures in_place { EmptyNoteTokens (tokens_in (rest_of reader.old).pieces) → IsOk result }
+fn read_locate(reader: &mut Reader<'_>) -> Result<Command, ExprError>
+    ensures whole { IfOk result (λ command. IsCallOf verbs.Locate (call_of command)) }
+    ensures spells { IfOk result (λ command. Spelled (call_of command) (tokens_left reader.old) (tokens_left reader.new)) }
+    ensures meets { OnOk result (Meets (goals_of max_operators (form_of verbs.Locate)) (rest_of reader.old) (rest_of reader.new)) }
+    ensures fails { IfErr result (Fails (goals_of max_operators (form_of verbs.Locate)) (rest_of reader.old)) }
 {
-    if reader.rest.is_empty() {
-        return Ok(Command::Commit(Note::none(reader.alloc)));
-    }
-    let note = reader.note()?;
-    reader.over()?;
-    Ok(Command::Commit(note))
+    let expr = reader.expr(MAX_OPERATORS)?;
+    Ok(Command::Locate(expr, reader.last_criteria()?))
+}
+
+fn read_dup(reader: &mut Reader<'_>) -> Result<Command, ExprError>
+    ensures whole { IfOk result (λ command. IsCallOf verbs.Dup (call_of command)) }
+    ensures spells { IfOk result (λ command. Spelled (call_of command) (tokens_left reader.old) (tokens_left reader.new)) }
+    ensures meets { OnOk result (Meets (goals_of max_operators (form_of verbs.Dup)) (rest_of reader.old) (rest_of reader.new)) }
+    ensures fails { IfErr result (Fails (goals_of max_operators (form_of verbs.Dup)) (rest_of reader.old)) }
+{
+    let new = reader.name()?;
+    Ok(Command::Dup(new, reader.expr(MAX_OPERATORS)?))
+}
+
+fn read_watch(reader: &mut Reader<'_>) -> Result<Command, ExprError>
+    ensures whole { IfOk result (λ command. IsCallOf verbs.Watch (call_of command)) }
+    ensures spells { IfOk result (λ command. Spelled (call_of command) (tokens_left reader.old) (tokens_left reader.new)) }
+    ensures meets { OnOk result (Meets (goals_of max_operators (form_of verbs.Watch)) (rest_of reader.old) (rest_of reader.new)) }
+    ensures fails { IfErr result (Fails (goals_of max_operators (form_of verbs.Watch)) (rest_of reader.old)) }
+{
+    let new = reader.name()?;
+    Ok(Command::Watch(new, reader.operation()?))
+}
+
+fn read_hash(reader: &mut Reader<'_>) -> Result<Command, ExprError>
+    ensures whole { IfOk result (λ command. IsCallOf verbs.Hash (call_of command)) }
+    ensures spells { IfOk result (λ command. Spelled (call_of command) (tokens_left reader.old) (tokens_left reader.new)) }
+    ensures meets { OnOk result (Meets (goals_of max_operators (form_of verbs.Hash)) (rest_of reader.old) (rest_of reader.new)) }
+    ensures fails { IfErr result (Fails (goals_of max_operators (form_of verbs.Hash)) (rest_of reader.old)) }
+{
+    let view = reader.name()?;
+    Ok(Command::Hash(view, reader.count()?))
+}
+
+fn read_ordered(reader: &mut Reader<'_>) -> Result<Command, ExprError>
+    ensures whole { IfOk result (λ command. IsCallOf verbs.Ordered (call_of command)) }
+    ensures spells { IfOk result (λ command. Spelled (call_of command) (tokens_left reader.old) (tokens_left reader.new)) }
+    ensures meets { OnOk result (Meets (goals_of max_operators (form_of verbs.Ordered)) (rest_of reader.old) (rest_of reader.new)) }
+    ensures fails { IfErr result (Fails (goals_of max_operators (form_of verbs.Ordered)) (rest_of reader.old)) }
+{
+    let view = reader.name()?;
+    Ok(Command::Ordered(view, reader.count()?))
+}
+
+fn read_cursor(reader: &mut Reader<'_>) -> Result<Command, ExprError>
+    ensures whole { IfOk result (λ command. IsCallOf verbs.Cursor (call_of command)) }
+    ensures spells { IfOk result (λ command. Spelled (call_of command) (tokens_left reader.old) (tokens_left reader.new)) }
+    ensures meets { OnOk result (Meets (goals_of max_operators (form_of verbs.Cursor)) (rest_of reader.old) (rest_of reader.new)) }
+    ensures fails { IfErr result (Fails (goals_of max_operators (form_of verbs.Cursor)) (rest_of reader.old)) }
+{
+    let new = reader.name()?;
+    Ok(Command::Cursor(new, reader.name()?))
+}
+
+/// Reads the note of a commit, if one stands there. An empty one takes no memory.
+fn note(reader: &mut Reader<'_>) -> Result<Note, ExprError>
+    ensures whole { IfOk result IsNote }
+    ensures spells { IfOk result (λ note. (tokens_left reader.old ≡ text note ∷ tokens_left reader.new) ⊎ ((note ≡ []) × (tokens_left reader.old ≡ tokens_left reader.new))) }
+    ensures meets { OnOk result (Meets (a_text max_note ∷ []) (rest_of reader.old) (rest_of reader.new)) }
+    ensures fails { IfErr result (Fails (a_text max_note ∷ []) (rest_of reader.old)) }
+    ensures in_place { EmptyNoteTokens (tokens_left reader.old) → IsOk result }
+{
+    let Some(first) = reader.rest.first() else {
+        return Ok(Note::none(reader.alloc));
+    };
+    let Some(note) = note_of(reader.alloc, &first.token)? else {
+        return Err(ExprError::Syntax(first.place));
+    };
+    reader.rest = &reader.rest[1..];
+    Ok(note)
 }

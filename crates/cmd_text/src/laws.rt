@@ -1,6 +1,7 @@
 ghost use Rattle.std.specs.Prelude.{◌≡◌, ◌≤◌, ℕ, List, length};
 ghost use Rattle.mk_value.specs.Heading.{Attribute};
 ghost use Rattle.struct_text.specs.Spelling.{spelling};
+ghost use Rattle.cmd_text.specs.Grammar.{call_of};
 ghost use Rattle.cmd_text.specs.Laws.{HasProperLiterals};
 ghost use Rattle.cmd_text.specs.Lines.{IsRefusedAs, Reads};
 ghost use Rattle.cmd_text.specs.declared.command.Command.{Command as TheCommand};
@@ -14,6 +15,13 @@ pub fn one_offence()
 {
     struct_text::one_structure();
     struct_text::one_first_offence();
+}
+
+/// A law of command lines: a line that reads as two commands asks for the same, the same word with the same arguments.
+pub fn one_meaning()
+    ensures { (line : List ℕ) (one two : TheCommand) → Reads line one → Reads line two → call_of one ≡ call_of two }
+{
+    struct_text::one_structure();
 }
 
 /// A law of lines that give a structure: its spelling is no longer than the line.

@@ -1,24 +1,26 @@
 //! Reading command lines.
-ghost use Rattle.std.specs.Prelude.{◌≡◌, ◌⊎◌, ◌≤◌, ◌+◌, ◌-◌, ◌<◌, ◌^◌, ◌∷◌, ◌↔◌, ◌++◌, [], ℕ, List, true, false, length, codes, IsTrue, IfOk, IfErr, IsOk, IfSome, IsNone};
+ghost use Rattle.std.specs.Prelude.{◌≡◌, ◌⊎◌, ◌≤◌, ◌+◌, ◌-◌, ◌<◌, ◌^◌, ◌∷◌, ◌↔◌, ◌++◌, [], ℕ, List, true, false, length, codes, None, Some, IsTrue, IfOk, IfErr, IsOk, OnOk, IfSome, IsNone};
 ghost use Rattle.std.specs.Str.{IsUtf8, bytes_eq};
+ghost use Rattle.expr_text.specs.declared.error.ExprError.TheVariants as failures;
 ghost use Rattle.mk_value.specs.Names.{is_name_byte as name_byte};
 ghost use Rattle.struct_text.specs.Offences.{place_of};
 ghost use Rattle.tokens.specs.Cutting.{begins_with};
-ghost use Rattle.tokens.specs.Fronts.{IsFirstOffence, tokens_in};
+ghost use Rattle.tokens.specs.Fronts.{tokens_in};
 ghost use Rattle.tokens.specs.Meanings.{pieces_of, token_of};
-ghost use Rattle.cmd_text.specs.Forms.{RefusesCommand, word_of};
-ghost use Rattle.cmd_text.specs.Grammar.{CommandTokens, SpellsCommand, keyword};
-ghost use Rattle.cmd_text.specs.Lines.{IsRefusedAs, Reads, ReadsStructure, RefusesStructure, error_of, gives_structure, is_space, without_leading, without_trailing};
+ghost use Rattle.cmd_text.specs.Grammar.{SpellsCommand, keyword};
+ghost use Rattle.cmd_text.specs.Lines.{IsRefusedAs, Reads, ReadsStructure, RefusesPieces, RefusesStructure, error_of, gives_structure, is_space, without_leading, without_trailing};
 ghost use Rattle.cmd_text.specs.OneWord.{IsOneWord, ReadsPieces};
+ghost use Rattle.cmd_text.specs.Readers.{failed_as, line_run};
 ghost use Rattle.cmd_text.specs.Structures.{IsBehindGetas};
+ghost use Rattle.cmd_text.specs.Words.{is_known, word_of};
 ghost use Rattle.cmd_text.specs.declared.command.Command.{Command as TheCommand};
-ghost use Rattle.cmd_text.specs.declared.error.CmdError.TheVariants.{Memory as want_of_memory, Syntax};
+ghost use Rattle.cmd_text.specs.declared.error.CmdError.TheVariants.{Memory as want_of_memory};
 ghost use Rattle.cmd_text.specs.declared.verb.Verb.{Verb as TheVerb};
 
-use crate::arguments::read_arguments;
-use crate::reader::Reader;
+use crate::arguments::arguments;
 use crate::verb::Verb;
 use crate::{CmdError, Command};
+use expr_text::{ExprError, Reader};
 use std::alloc::Global;
 use struct_text::{StructError, parse};
 use tokens::{Piece, Token, cut};
@@ -140,48 +142,71 @@ fn of_structure(start: usize, error: StructError) -> CmdError
 /// Reads a line by its tokens.
 fn read_tokens(alloc: Global, line: &str) -> Result<Command, CmdError>
     ensures reads { IfOk result (ReadsPieces line.now) }
-    ensures refused { IfErr result (λ error. (error ≡ want_of_memory) ⊎ ((place : ℕ) × (IsFirstOffence CommandTokens line.now place × (error ≡ Syntax place)))) }
+    ensures refused { IfErr result (λ error. (error ≡ want_of_memory) ⊎ RefusesPieces line.now error) }
     ensures in_place { (command : TheCommand) → IsOneWord command → ReadsPieces line.now command → IsOk result }
 {
     let cutting = cut(alloc, line)?;
-    if let Some(place) = cutting.flaw {
-        return Err(CmdError::Syntax(place));
+    match read_pieces(alloc, cutting.pieces.as_slice(), line.len()) {
+        Ok(command) => match cutting.flaw {
+            None => Ok(command),
+            Some(flaw) => {
+                drop(command);
+                Err(CmdError::Syntax(flaw))
+            }
+        },
+        Err(error) => Err(of_failure(error, cutting.flaw)),
     }
-    read_pieces(alloc, cutting.pieces.as_slice(), line.len())
+}
+
+/// How a line is refused whose pieces, up to its first that is no token if it has one, were refused so.
+fn of_failure(error: ExprError, flaw: Option<usize>) -> CmdError
+    ensures { result ≡ failed_as error flaw }
+{
+    match error {
+        ExprError::TooDeep(_) => CmdError::TooLarge,
+        ExprError::Memory => CmdError::Memory,
+        ExprError::Syntax(place) => match flaw {
+            None => CmdError::Syntax(place),
+            Some(flaw) => CmdError::Syntax(flaw),
+        },
+    }
 }
 
 /// Reads the pieces of a line of so many bytes.
-fn read_pieces(alloc: Global, pieces: &[Piece<'_>], end: usize) -> Result<Command, CmdError>
+fn read_pieces(alloc: Global, pieces: &[Piece<'_>], end: usize) -> Result<Command, ExprError>
     ensures reads { IfOk result (SpellsCommand (tokens_in (pieces_of pieces.now))) }
-    ensures refused { IfErr result (RefusesCommand (record { pieces = pieces_of pieces.now; end = end })) }
+    ensures met { OnOk result (line_run (pieces_of pieces.now) end ≡ None) }
+    ensures fails { IfErr result (λ error. (error ≡ failures.Memory) ⊎ (line_run (pieces_of pieces.now) end ≡ Some error)) }
     ensures in_place { (command : TheCommand) → IsOneWord command → SpellsCommand (tokens_in (pieces_of pieces.now)) command → IsOk result }
 {
     let Some((first, rest)) = pieces.split_first() else {
         return Ok(Command::Nothing);
     };
-    let verb = first_verb(first)?;
+    let Some(verb) = verb_of(&first.token) else {
+        return Err(ExprError::Syntax(first.place));
+    };
     let mut reader = Reader { alloc, rest, end };
-    read_arguments(verb, &mut reader)
-}
-
-/// The command whose first word a piece is.
-fn first_verb(first: &Piece<'_>) -> Result<Verb, CmdError>
-    ensures known { IfOk result (λ verb. token_of first.now.token ≡ keyword (word_of verb)) }
-    ensures unknown { IfErr result (λ error. (error ≡ Syntax first.now.place) × ((verb : TheVerb) → token_of first.now.token ≡ keyword (word_of verb) → ⊥)) }
-{
-    match verb_of(&first.token) {
-        Some(verb) => Ok(verb),
-        None => Err(CmdError::Syntax(first.place)),
+    let command = arguments(verb, &mut reader)?;
+    match reader.over() {
+        Ok(()) => Ok(command),
+        Err(error) => {
+            drop(command);
+            Err(error)
+        }
     }
 }
 
-/// The command whose first word a token is.
+/// The command whose first word a token is, if the program knows it.
 fn verb_of(token: &Token<'_>) -> Option<Verb>
-    ensures some { IfSome result (λ verb. token_of token.now ≡ keyword (word_of verb)) }
-    ensures none { IsNone result → (verb : TheVerb) → token_of token.now ≡ keyword (word_of verb) → ⊥ }
+    ensures some { IfSome result (λ verb. (is_known verb ≡ true) × (token_of token.now ≡ keyword (word_of verb))) }
+    ensures none { IsNone result → (verb : TheVerb) → is_known verb ≡ true → token_of token.now ≡ keyword (word_of verb) → ⊥ }
 {
     let Token::Word(word) = token else {
         return None;
     };
-    Verb::of(word)
+    let verb = Verb::of(word)?;
+    if !verb.is_known() {
+        return None;
+    }
+    Some(verb)
 }

@@ -32,6 +32,8 @@ pub enum Reply {
     Lines(Texts),
     /// `ok` and a text.
     One(Text),
+    /// `ok` and the text of a row, which may be longer than a line.
+    Row(Text),
     /// `ok commit` and its number.
     Commit(u64),
     /// `ok rollback` and the number of the commit.
@@ -78,7 +80,7 @@ fn append_reply(reply: &Reply, out: &mut Text) -> Result<(), Memory>
         Reply::Pair(first, second) => append_pair_line("ok ", *first, *second, out),
         Reply::NotFound => append_line("ok none", out),
         Reply::Lines(texts) => append_lines(texts, out),
-        Reply::One(text) => append_text_line("ok ", text.as_str(), out),
+        Reply::One(text) | Reply::Row(text) => append_text_line("ok ", text.as_str(), out),
         Reply::Commit(number) => append_numbered_line("ok commit ", *number, out),
         Reply::Rollback(number) => append_numbered_line("ok rollback ", *number, out),
         Reply::Reopen(number) => append_numbered_line("ok reopen ", *number, out),

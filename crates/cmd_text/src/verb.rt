@@ -1,6 +1,6 @@
-ghost use Rattle.std.specs.Prelude.{◌≡◌, IfSome, IsNone, ◌↔◌};
+ghost use Rattle.std.specs.Prelude.{◌≡◌, true, IfSome, IsNone};
+ghost use Rattle.cmd_text.specs.Words.{is_known as known_verb, word_of};
 ghost use Rattle.cmd_text.specs.declared.verb.Verb.{Verb as TheVerb};
-ghost use Rattle.cmd_text.specs.Forms.{word_of};
 
 /// The first word of a command that is cut into tokens.
 #[derive(Clone, Copy, Debug, PartialEq, Eq)]
@@ -13,6 +13,21 @@ pub(crate) enum Verb {
     Remove,
     Size,
     Show,
+    Find,
+    Search,
+    Locate,
+    Dup,
+    Undup,
+    Watch,
+    Unwatch,
+    Hash,
+    Ordered,
+    Unmap,
+    Cursor,
+    Uncursor,
+    Next,
+    Prev,
+    Row,
     Commit,
     Log,
     Rollback,
@@ -25,8 +40,8 @@ pub(crate) enum Verb {
 impl Verb {
     /// The command that a word begins.
     pub(crate) fn of(word: &str) -> Option<Verb>
-        ensures known { IfSome result (λ verb. word.now ≡ word_of verb) }
-        ensures unknown { IsNone result → (verb : TheVerb) → word.now ≡ word_of verb → ⊥ }
+        ensures word { IfSome result (λ verb. word.now ≡ word_of verb) }
+        ensures none { IsNone result → (verb : TheVerb) → word.now ≡ word_of verb → ⊥ }
     {
         Some(match word {
             "drop" => Verb::Drop,
@@ -37,6 +52,21 @@ impl Verb {
             "remove" => Verb::Remove,
             "size" => Verb::Size,
             "show" => Verb::Show,
+            "find" => Verb::Find,
+            "search" => Verb::Search,
+            "locate" => Verb::Locate,
+            "dup" => Verb::Dup,
+            "undup" => Verb::Undup,
+            "watch" => Verb::Watch,
+            "unwatch" => Verb::Unwatch,
+            "hash" => Verb::Hash,
+            "ordered" => Verb::Ordered,
+            "unmap" => Verb::Unmap,
+            "cursor" => Verb::Cursor,
+            "uncursor" => Verb::Uncursor,
+            "next" => Verb::Next,
+            "prev" => Verb::Prev,
+            "row" => Verb::Row,
             "commit" => Verb::Commit,
             "log" => Verb::Log,
             "rollback" => Verb::Rollback,
@@ -46,5 +76,16 @@ impl Verb {
             "quit" => Verb::Quit,
             _ => return None,
         })
+    }
+
+    /// Whether the program knows the command. The words that it does not know yet are these alone: a word moves in or out here and in the same list
+    /// of the table.
+    pub(crate) fn is_known(self) -> bool
+        ensures { result ≡ known_verb self }
+    {
+        !matches!(
+            self,
+            Verb::Watch | Verb::Unwatch | Verb::Hash | Verb::Ordered | Verb::Unmap
+        )
     }
 }
