@@ -1,0 +1,5 @@
+mod Answering
+mod Firsts
+mod Found
+mod Keys
+mod Steps

@@ -1,0 +1,32 @@
+-- What a question is answered: what it asks for, or the refusal; or memory was wanting.
+use Rattle.std.specs.Prelude.{◌≡◌, ◌⊎◌, ℕ, List, length, map, Result, Ok, Err}
+use Rattle.std.specs.Result.{result_map_both}
+use Rattle.mk_value.specs.Buffer.{Buffer}
+use Rattle.mk_value.specs.Literals.{row_text}
+use Rattle.mk_value.specs.Tables.{Table}
+use Rattle.eval.specs.Names.{Named, continued}
+use Rattle.eval.specs.Values.{value}
+use Rattle.expr_text.specs.Queries.{Query}
+use Rattle.questions.specs.declared.error.QuestionError.{QuestionError}
+use Rattle.questions.specs.declared.error.QuestionError.TheVariants.{Memory}
+use Rattle.questions.specs.Told.{told}
+
+-- a call gives what is due, seen as this; or memory was wanting
+abbrev pub Answers : {X Y : Type 0} → (X → Y) → Result Y QuestionError → Result X QuestionError → Type 0
+Answers see due (Ok x) = due ≡ Ok (see x)
+Answers see due (Err e) = (e ≡ Memory) ⊎ (due ≡ Err e)
+
+-- the table that an expression asks for among these names, or the refusal as it is told
+abbrev pub answer : List Named → Query → Result Table QuestionError
+answer names q = result_map_both (λ t. t) told (value names q)
+
+-- the number of its rows, and their texts
+abbrev pub size_due : List Named → Query → Result ℕ QuestionError
+size_due names q = continued (answer names q) (λ t. Ok (length t.rows))
+
+abbrev pub rows_due : List Named → Query → Result (List (List ℕ)) QuestionError
+rows_due names q = continued (answer names q) (λ t. Ok (map row_text t.rows))
+
+-- the bytes of texts
+abbrev pub contents : List Buffer → List (List ℕ)
+contents texts = map (λ (text : Buffer). text.bytes) texts

@@ -1,0 +1,5 @@
+pub mod Answers
+pub mod Cursors
+pub mod Kept
+pub mod Places
+pub mod Told

@@ -1,0 +1,92 @@
+-- Where the value of an expression has the values that criteria ask for.
+use Rattle.std.specs.Prelude.{◌≡◌, ◌⊎◌, ℕ, Bool, true, false, ◌&&◌, not, nat_le, if◌then◌else◌, List, [], ◌∷◌, count_by, filter, length, map, Option, Some, None, Result, Ok, Err}
+use Rattle.mk_value.specs.Heading.{Attribute}
+use Rattle.mk_value.specs.Names.{same_bytes}
+use Rattle.mk_value.specs.Tables.{Table}
+use Rattle.relations.specs.declared.criteria.Key.{Key}
+use Rattle.relations.specs.declared.error.DerivedError.{DerivedError}
+use Rattle.relations.specs.Criteria.{Interval, is_in_range, valued}
+use Rattle.relations.specs.Positions.{first_passing}
+use Rattle.relations.specs.Refusals.{literals_due}
+use Rattle.relations.specs.Searching.{rows_before}
+use Rattle.relations.specs.Sorting.{keys_or_all}
+use Rattle.expr_text.specs.Arguments.{Criterion, orders}
+use Rattle.expr_text.specs.Queries.{Query, one}
+use Rattle.expr_text.specs.declared.operator.Operator.TheVariants as operators
+use Rattle.eval.specs.Names.{Named, continued}
+use Rattle.eval.specs.Values.{asked, key_of}
+use Rattle.questions.specs.declared.error.QuestionError.{QuestionError}
+use Rattle.questions.specs.declared.error.QuestionError.TheVariants.{Memory, Range, Unsorted}
+use Rattle.questions.specs.declared.places.Located.{Located}
+use Rattle.questions.specs.Answers.{answer}
+use Rattle.questions.specs.Told.{told_of_operator}
+
+-- what criteria are due of a schema, and else this
+abbrev pub unless_due : {Y : Type 0} → Option DerivedError → Result Y QuestionError → Result Y QuestionError
+unless_due (Some e) due = Err (told_of_operator e 0)
+unless_due None due = due
+
+-- the criteria, each literal as the value that it becomes
+abbrev pub values_of : List Attribute → List Criterion → List Interval
+values_of schema criteria = map (valued schema) (map asked criteria)
+
+-- what is asked of the value of an expression, where criteria are due no refusal
+abbrev pub asked_with : {Y : Type 0} → List Named → Query → List Criterion → (Table → Result Y QuestionError) → Result Y QuestionError
+asked_with names q criteria due =
+    continued (answer names q) (λ t. unless_due (literals_due (map asked criteria) t.schema) (due t))
+
+-- the refusal is this, as it is told
+abbrev pub IsTold : Option DerivedError → QuestionError → Type 0
+IsTold (Some due) e = e ≡ told_of_operator due 0
+IsTold None e = ⊥
+
+-- a call gives the criteria as values, or the refusal that they are due; or memory was wanting
+abbrev pub Tests : List Attribute → List Criterion → Result (List Interval) QuestionError → Type 0
+Tests schema criteria (Ok values) = (literals_due (map asked criteria) schema ≡ None) × (values ≡ values_of schema criteria)
+Tests schema criteria (Err e) = (e ≡ Memory) ⊎ IsTold (literals_due (map asked criteria) schema) e
+
+-- `find`: the first row that passes, not before a start that is within the rows
+abbrev pub found_from : ℕ → List Criterion → Table → Result (Option ℕ) QuestionError
+found_from start criteria t =
+    if nat_le start (length t.rows) then Ok (first_passing (is_in_range t.schema (values_of t.schema criteria)) t.rows start)
+    else Err (Range (length t.rows))
+
+abbrev pub find_due : List Named → Query → ℕ → List Criterion → Result (Option ℕ) QuestionError
+find_due names q start criteria = asked_with names q criteria (found_from start criteria)
+
+-- keys, each property once: the first of it decides
+abbrev pub first_keys : List Key → List Key
+first_keys [] = []
+first_keys (k ∷ keys) = k ∷ filter (λ other. not (same_bytes k.prop other.prop)) (first_keys keys)
+
+-- the keys by which the value of an expression is known to be sorted: those of a sorting. Any other is known to be sorted by none
+abbrev pub known_keys : Query → List Attribute → List Key
+known_keys (one operators.Sort q (orders list)) schema = first_keys (keys_or_all schema (map key_of list))
+known_keys _ schema = []
+
+-- the criteria name the first keys, in order
+abbrev pub begin : List Criterion → List Key → Bool
+begin [] keys = true
+begin (c ∷ criteria) [] = false
+begin (c ∷ criteria) (k ∷ keys) = same_bytes c.prop k.prop && begin criteria keys
+
+-- where they do, this
+abbrev pub where_sorted : {Y : Type 0} → Query → List Criterion → Table → Y → Result Y QuestionError
+where_sorted q criteria t done = if begin criteria (known_keys q t.schema) then Ok done else Err Unsorted
+
+-- `search`: how many rows come before the values in the order of the keys
+abbrev pub before_values : Query → List Criterion → Table → ℕ
+before_values q criteria t = rows_before t.schema (known_keys q t.schema) (values_of t.schema criteria) t.rows
+
+abbrev pub search_due : List Named → Query → List Criterion → Result ℕ QuestionError
+search_due names q criteria = asked_with names q criteria (λ t. where_sorted q criteria t (before_values q criteria t))
+
+-- `locate`: and how many have the values
+abbrev pub located : Query → List Criterion → Table → Located
+located q criteria t = record {
+  position = before_values q criteria t;
+  count = count_by (is_in_range t.schema (values_of t.schema criteria)) t.rows;
+}
+
+abbrev pub locate_due : List Named → Query → List Criterion → Result Located QuestionError
+locate_due names q criteria = asked_with names q criteria (λ t. where_sorted q criteria t (located q criteria t))

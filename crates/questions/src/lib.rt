@@ -1,0 +1,23 @@
+//! Questions: what is asked of views and snapshots by expressions and by cursors, and changes neither view nor snapshot.
+//!
+//! The names of an expression are those of the views, and then those of snapshots: tables that were kept under a name. A question is a size,
+//! the rows, a table of its own, or where a table has values that are asked for. It stands on `eval` for the value of an expression and
+//! on the views of `view_store`; it knows nothing of lines or of replies.
+#![tactic(auto)]
+
+mod cursor;
+mod error;
+mod known;
+mod places;
+mod rows;
+mod snapshot;
+mod sorted;
+mod walk;
+
+pub use cursor::{
+    Cursor, Cursors, MAX_CURSORS, Standing, has_cursor_on, is_cursor, take_out_cursor,
+};
+pub use error::QuestionError;
+pub use known::Known;
+pub use places::Located;
+pub use snapshot::{MAX_SNAPSHOTS, Snapshot, Snapshots, is_snapshot, take_out_snapshot};

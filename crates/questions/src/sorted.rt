@@ -1,0 +1,122 @@
+//! By what the value of an expression is known to be sorted.
+ghost use Rattle.std.specs.Prelude.{◌≡◌, map, IfOk};
+ghost use Rattle.std.specs.List.{list_any};
+ghost use Rattle.expr_text.specs.Meanings.{query_of};
+ghost use Rattle.eval.specs.Values.{key_of};
+ghost use Rattle.mk_value.specs.Names.{same_bytes};
+ghost use Rattle.relations.specs.Sorting.{all_keys, keys_or_all};
+ghost use Rattle.questions.specs.Places.{begin as begin_keys, first_keys as keys_once, known_keys as keys_known};
+
+use expr_text::{Crit, Expr, Order};
+use mk_value::{Kind, Memory, Name, Schema, Sequence};
+use relations::Key;
+use std::alloc::Global;
+
+/// The keys by which the value of an expression is known to be sorted, each property once; none where it is no sorting.
+pub(crate) fn known_keys(
+    alloc: Global,
+    expr: &Expr,
+    schema: &Schema,
+) -> Result<Sequence<Key>, Memory>
+    ensures { IfOk result (λ keys. keys ≡ keys_known (query_of expr.now) schema.now) }
+{
+    match expr {
+        Expr::Sort(_, orders) => {
+            let keys = given_or_all(alloc, orders.as_slice(), schema)?;
+            first_keys(alloc, keys.as_slice())
+        }
+        _ => Ok(Sequence::new(alloc)),
+    }
+}
+
+/// Whether the criteria name the first of the keys, in order.
+pub(crate) fn begin(criteria: &[Crit], keys: &[Key]) -> bool
+    ensures { result ≡ begin_keys criteria.now keys.now }
+{
+    let Some((criterion, criteria)) = criteria.split_first() else {
+        return true;
+    };
+    match keys.split_first() {
+        Some((key, keys)) => criterion.prop == key.prop && begin(criteria, keys),
+        None => false,
+    }
+}
+
+/// The keys, each property once: the first of it decides.
+fn first_keys(alloc: Global, keys: &[Key]) -> Result<Sequence<Key>, Memory>
+    ensures { IfOk result (λ first. first ≡ keys_once keys.now) }
+{
+    let mut first = Sequence::new(alloc);
+    for key in keys {
+        if is_among(first.as_slice(), &key.prop) {
+            continue;
+        }
+        first.push(copy(key)?)?;
+    }
+    Ok(first)
+}
+
+/// Whether one of the keys has this name.
+fn is_among(keys: &[Key], prop: &Name) -> bool
+    ensures { result ≡ list_any (λ key. same_bytes key.prop prop.now) keys.now }
+{
+    keys.iter().any(|key| key.prop == *prop)
+}
+
+fn copy(key: &Key) -> Result<Key, Memory>
+    ensures { IfOk result (λ copy. copy ≡ key.now) }
+{
+    let prop = key.prop.copy()?;
+    Ok(Key {
+        prop,
+        down: key.down,
+    })
+}
+
+/// The keys that are given, or where none is all properties that are no views, upwards.
+fn given_or_all(alloc: Global, orders: &[Order], schema: &Schema) -> Result<Sequence<Key>, Memory>
+    ensures { IfOk result (λ keys. keys ≡ keys_or_all schema.now (map key_of orders.now)) }
+{
+    if orders.is_empty() {
+        return plain_keys(alloc, schema);
+    }
+    keys_given(alloc, orders)
+}
+
+/// The keys that are given.
+fn keys_given(alloc: Global, orders: &[Order]) -> Result<Sequence<Key>, Memory>
+    ensures { IfOk result (λ keys. keys ≡ map key_of orders.now) }
+{
+    let mut keys = Sequence::new(alloc);
+    for order in orders {
+        keys.push(key(order)?)?;
+    }
+    Ok(keys)
+}
+
+/// The key that is given.
+fn key(order: &Order) -> Result<Key, Memory>
+    ensures { IfOk result (λ key. key ≡ key_of order.now) }
+{
+    let prop = order.prop.copy()?;
+    Ok(Key {
+        prop,
+        down: order.down,
+    })
+}
+
+/// All properties that are no views, upwards.
+fn plain_keys(alloc: Global, schema: &Schema) -> Result<Sequence<Key>, Memory>
+    ensures { IfOk result (λ keys. keys ≡ all_keys schema.now) }
+{
+    let mut keys = Sequence::new(alloc);
+    for col in 0..schema.len() {
+        let prop = &schema.as_slice()[col];
+        if matches!(&prop.kind, Kind::V(_)) {
+            continue;
+        }
+        let prop = prop.name.copy()?;
+        keys.push(Key { prop, down: false })?;
+    }
+    Ok(keys)
+}
