@@ -1,0 +1,59 @@
+//! A viewer that asks a stored closure.
+ghost use Rattle.std.specs.Prelude.{◌≡◌, map};
+ghost use Rattle.mk_value.specs.Kinds.{domain_of};
+ghost use Rattle.viewers.specs.Laws.{AreArguments, gives as law_gives};
+
+use crate::{Kinds, Law, Viewer};
+use mk_value::{Kind, Name, Row};
+
+/// A closure that answers rows.
+pub type Call = Box<dyn Fn(&Row) -> i64>;
+
+/// A closure beside its law: each row of the kinds may be asked, and is answered by the law.
+#[derive(Drop)]
+pub struct StoredViewer {
+    name: Name,
+    law: Law,
+    takes: Kinds,
+    call: Call,
+    ghost callable: { (row : _) → AreArguments (map domain_of takes) row.now → Call.pre call row },
+    ghost lawful: { (row : _) (number : _) → AreArguments (map domain_of takes) row.now → Call.post call row number → number ≡ law_gives law row.now },
+}
+
+impl StoredViewer {
+    /// The viewer of this name that asks the closure.
+    pub fn new(name: Name, law: Law, takes: Kinds, call: Call) -> StoredViewer
+        requires callable { (row : _) → AreArguments (map domain_of takes) row.now → Call.pre call row }
+        requires lawful { (row : _) (number : _) → AreArguments (map domain_of takes) row.now → Call.post call row number → number ≡ law_gives law row.now }
+        ensures name { ⟦<StoredViewer as Viewer>⟧.name result ≡ name }
+        ensures takes { ⟦<StoredViewer as Viewer>⟧.takes result ≡ map domain_of takes }
+        ensures gives { ⟦<StoredViewer as Viewer>⟧.gives result ≡ law_gives law }
+    {
+        StoredViewer {
+            name,
+            law,
+            takes,
+            call,
+        }
+    }
+}
+
+impl Viewer for StoredViewer {
+    ghost name = { λ v. v.name };
+
+    ghost takes = { λ v. map domain_of v.takes };
+
+    ghost gives = { λ v. law_gives v.law };
+
+    fn name(&self) -> &Name {
+        &self.name
+    }
+
+    fn takes(&self) -> &[Kind] {
+        self.takes.as_slice()
+    }
+
+    fn answer(&self, row: &Row) -> i64 {
+        (self.call)(row)
+    }
+}
