@@ -1,11 +1,10 @@
 -- What may come of a line over a disk whose bytes are known.
 use Rattle.std.proofs.Common.{ℕ, List, inl, inr}
 use Rattle.cmd_text.specs.declared.command.Command.{Command}
-use Rattle.cmd_text.specs.declared.command.Command.TheVariants as commands
 use Rattle.commit_plan.specs.Plans.{Planned}
 use Rattle.lines.specs.Machine.{State}
-use Rattle.session.specs.Carried.{Acknowledges, BringsBack, Carried, Comes, FailsToReopen, FailsToRevert, FailsUnderWay, FindsDamage, Gives, IsFull, LeavesDiskFor, Reopens}
-use Rattle.session.specs.Commands.{Outcome, gives, commits, reopens, reverts, outcome_of}
+use Rattle.session.specs.Carried.{Acknowledges, BringsBack, Carried, Comes, FailsToReopen, FailsToRevert, FailsUnderWay, FindsDamage, Gives, IsFull, LeavesDiskBy, Reopens}
+use Rattle.session.specs.Commands.{Outcome, Reach, commits, gives, off_disk, opens_disk, outcome_of, reach_of, reads_disk, reopens, reverts, writes_disk}
 use Rattle.session.specs.Disk.{LeavesDisk, ReadsDisk, SettlesAtMost, WritesCommit}
 use Rattle.session.specs.Step.{Step}
 use Rattle.session.specs.World.{World}
@@ -80,28 +79,15 @@ module _ {known : Type 0} (k : known) (old new : State World) where
   known_comes reverts reply (inr (inl f)) = inr (inl (known_damage reply f))
   known_comes reverts reply (inr (inr f)) = inr (inr (known_no_revert reply f))
 
-  known_without : (command : Command) → LeavesDiskFor known command old new → LeavesDiskFor (Unit {0}) command old new
-  known_without commands.Reopen d = known_settles d
-  known_without commands.Revert d = known_reads d
-  known_without commands.Nothing d = known_leaves d
-  known_without (commands.Getas name schema) d = known_leaves d
-  known_without (commands.Drop name) d = known_leaves d
-  known_without commands.Struct d = known_leaves d
-  known_without (commands.Add route literals) d = known_leaves d
-  known_without (commands.Insert route place copies literals) d = known_leaves d
-  known_without (commands.Set route row prop literal) d = known_leaves d
-  known_without (commands.Remove route place rows) d = known_leaves d
-  known_without (commands.Size route) d = known_leaves d
-  known_without (commands.Show route) d = known_leaves d
-  known_without (commands.Commit note) d = known_leaves d
-  known_without commands.Log d = known_leaves d
-  known_without commands.Rollback d = known_leaves d
-  known_without commands.Space d = known_leaves d
-  known_without commands.Quit d = known_leaves d
+  known_left : (reach : Reach) → LeavesDiskBy known reach old new → LeavesDiskBy (Unit {0}) reach old new
+  known_left opens_disk d = known_settles d
+  known_left reads_disk d = known_reads d
+  known_left off_disk d = known_leaves d
+  known_left writes_disk d = known_leaves d
 
   known_carried : (command : Command) (reply : List ℕ) → Carried known command old reply new → Carried (Unit {0}) command old reply new
   known_carried command reply (inl comes) = inl (known_comes (outcome_of old.world command) reply comes)
-  known_carried command reply (inr w) = inr (record { takes = w.takes; answer = w.answer; world = w.world; disk = known_without command w.disk })
+  known_carried command reply (inr w) = inr (record { takes = w.takes; answer = w.answer; world = w.world; disk = known_left (reach_of command) w.disk })
 
   pub known_step : (line reply : List ℕ) → Step known old line reply new → Step (Unit {0}) old line reply new
   known_step line reply (inl c) = inl (record { command = c.command; reads = c.reads; carried = known_carried c.command reply c.carried })

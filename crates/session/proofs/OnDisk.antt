@@ -40,17 +40,18 @@ use Rattle.session.specs.Moments.{IsWithinCommand}
 use Rattle.session.specs.Planning.{IsPlannedNext, IsUnplanned}
 use Rattle.session.specs.Refusals.{first_of, refusal_of_opening, refusal_of_revert, unless}
 use Rattle.session.specs.Step.{machine}
-use Rattle.session.specs.World.{World, with_store, with_tables}
+use Rattle.session.specs.World.{World, with_store, with_tables, without_cursors}
 use Rattle.session.proofs.Outcomes.{goes_always, open_goes, outcome_open, refused_comes, still}
-use Rattle.session.proofs.Ready.{ready_at_rest, ready_same, ready_when_shut}
+use Rattle.session.proofs.Ready.{SameFile, ready_at_rest, ready_same, ready_when_shut}
 use Rattle.session.proofs.Undamaged.{no_cause}
 
 -- `commit`, where the session is not shut
 pub open_commit : (w : World) (note : List ℕ) (o : Option Refusal) → is_shut w.store ≡ false → commit_due w.store ≡ o → outcome_of w (commands.Commit note) ≡ unless_due o w (commits note)
 open_commit w note o unshut due = outcome_open w (commands.Commit note) (open_goes w.store false unshut) ∙ ap (λ d. unless_due d w (commits note)) due
 
-world_is : (w new : World) (s : Stored) → new.store ≡ s → new ≡ with_store w s
-world_is w new s e = ap (λ (x : Stored). with_store w x) e
+-- the views changed, or nothing
+pub views_same : (s new : Stored) (views : List NamedTable) → new ≡ with_views s views → SameFile s new
+views_same s new views is = subst (SameFile s) (sym is) (record { kept = refl; before = refl; attempted = refl; slot = refl; other = refl })
 
 module _ (known : Type 0) (w : World) (note reply : List ℕ) (unshut : is_shut w.store ≡ false) where
   pub commit_refused : (outside : Outside) (refusal : Refusal) → IsUnplanned w.store note refusal → reply ≡ reply_bytes (Refused refusal)
@@ -76,7 +77,7 @@ module _ (known : Type 0) (w : World) (note reply : List ℕ) (unshut : is_shut 
               inr (record { note = note; due = open_commit w note None unshut is_planned.due; planned = planned; next = is_planned.next; stands = h.1 image is });
         }) made.moments
 
-    pub commit_made : (number : ℕ) → number ≡ planned.next.number → reply ≡ reply_bytes (Commit number) → new.store ≡ committed w.store planned.next
+    pub commit_made : (number : ℕ) → number ≡ planned.next.number → reply ≡ reply_bytes (Commit number) → new ≡ with_store w (committed w.store planned.next)
         → {E : Type 0} → (known → Commits {E = E} w.store.kept planned.next from to (Ok number)) → Carried known (commands.Commit note) (state_of w from) reply (state_of new to)
     commit_made number is answer made commits_ =
         inl (subst (λ (o : Outcome). Comes known o (state_of w from) reply (state_of new to)) (sym (open_commit w note None unshut is_planned.due)) (inl (record {
@@ -84,40 +85,40 @@ module _ (known : Type 0) (w : World) (note reply : List ℕ) (unshut : is_shut 
           next = is_planned.next;
           within = is_planned.within;
           answer = answer ∙ ap (λ n. reply_bytes (Commit n)) is;
-          world = world_is w new (committed w.store planned.next) made;
+          world = made;
           stands = λ k. (commits_ k).stands;
           before = λ k. (commits_ k).before;
           writes = record { bytes = places; later = later };
         })))
 
-    pub commit_failed : reply ≡ reply_bytes (Refused refusals.Disk) → new.store ≡ failed w.store planned.next → Rose from.disk_faults to.disk_faults
+    pub commit_failed : reply ≡ reply_bytes (Refused refusals.Disk) → new ≡ with_store w (failed w.store planned.next) → Rose from.disk_faults to.disk_faults
         → Carried known (commands.Commit note) (state_of w from) reply (state_of new to)
     commit_failed answer made rose =
         inl (subst (λ (o : Outcome). Comes known o (state_of w from) reply (state_of new to)) (sym (open_commit w note None unshut is_planned.due)) (inr (inl (record {
           planned = planned;
           next = is_planned.next;
           answer = answer;
-          world = world_is w new (failed w.store planned.next) made;
+          world = made;
           rose = rose;
           writes = record { bytes = places; later = later };
         }))))
 
-    pub commit_goes : {E : Type 0} (number : ℕ) → new.store ≡ committed w.store planned.next → Rests new.store to.now.disk → Commits {E = E} w.store.kept planned.next from to (Ok number)
+    pub commit_goes : {E : Type 0} (number : ℕ) → new ≡ with_store w (committed w.store planned.next) → Rests new.store to.now.disk → Commits {E = E} w.store.kept planned.next from to (Ok number)
         → GoesOn (commands.Commit note) (state_of w from) (state_of new to) from to
     commit_goes number made rests commits_ = record {
       moments = commit_moments (Ok number) commits_;
       said = commits_.said;
       input = commits_.input;
-      ready = ready_at_rest (state_of new to) (subst (λ (s : Stored). StandsFor to.now.disk.seen s.kept) (sym made) commits_.stands) rests;
+      ready = ready_at_rest (state_of new to) (subst (λ (x : World). StandsFor to.now.disk.seen x.store.kept) (sym made) commits_.stands) rests;
     }
 
-    pub commit_goes_wrong : {E : Type 0} (error : E) → new.store ≡ failed w.store planned.next → Commits {T = ℕ} w.store.kept planned.next from to (Err error)
+    pub commit_goes_wrong : {E : Type 0} (error : E) → new ≡ with_store w (failed w.store planned.next) → Commits {T = ℕ} w.store.kept planned.next from to (Err error)
         → GoesOn (commands.Commit note) (state_of w from) (state_of new to) from to
     commit_goes_wrong error made commits_ = record {
       moments = commit_moments (Err error) commits_;
       said = commits_.said;
       input = commits_.input;
-      ready = subst (λ (s : Stored). IsReady machine (state_of (with_store w s) to)) (sym made)
+      ready = subst (λ (x : World). IsReady machine (state_of x to)) (sym made)
           (ready_when_shut (state_of (with_store w (failed w.store planned.next)) to) planned.next refl commits_.left commits_.sound);
     }
 
@@ -198,14 +199,13 @@ module _ (command : Command) (w : World) (from to : Outside) (ready : IsReady ma
     ready = ready_at_rest (state_of new to) (subst (λ (bytes : List ℕ). StandsFor bytes new.store.kept) (sym (seen_same from to shut syncs)) stands) rests;
   }
 
-  -- the views changed, or nothing
-  pub looked_goes : (new : World) → Looks from to → (views : List NamedTable) → new.store ≡ with_views w.store views → GoesOn command (state_of w from) (state_of new to) from to
-  looked_goes new looks views is = record {
+  -- what is known of the file is the same
+  pub looked_goes : (new : World) → Looks from to → SameFile w.store new.store → GoesOn command (state_of w from) (state_of new to) from to
+  looked_goes new looks same = record {
     moments = steps_looks looks;
     said = ap (λ (m : Moment). m.said) looks.still.now;
     input = looks.input;
-    ready = subst (λ (s : Stored). IsReady machine (state_of (with_store w s) to)) (sym is)
-        (ready_same (state_of w from) (state_of (with_tables w views) to) (record { kept = refl; before = refl; attempted = refl; slot = refl; other = refl }) (ap (λ (m : Moment). m.disk) looks.still.now) ready);
+    ready = ready_same (state_of w from) (state_of new to) same (ap (λ (m : Moment). m.disk) looks.still.now) ready;
   }
 
 module _ (known : Type 0) (w : World) (from to : Outside) (reply : List ℕ) (later : from.disk_faults ≤ to.disk_faults) where
@@ -215,7 +215,7 @@ module _ (known : Type 0) (w : World) (from to : Outside) (reply : List ℕ) (la
   settles_of : (known → SyncsAtMost (is_shut w.store) from to) → (new : World) → SettlesAtMost known (state_of w from) (state_of new to)
   settles_of syncs new = record { bytes = λ k. settled_by w new from to (is_shut w.store) refl (syncs k); later = later }
 
-  pub reopen_made : (new : World) (number : ℕ) → new.store ≡ reopened w.store new.store.kept new.store.slot new.store.other → number ≡ new.store.kept.number → reply ≡ reply_bytes (Reopen number)
+  pub reopen_made : (new : World) (number : ℕ) → new ≡ without_cursors (with_store w (reopened w.store new.store.kept new.store.slot new.store.other)) → number ≡ new.store.kept.number → reply ≡ reply_bytes (Reopen number)
       → (known → StandsFor from.now.disk.seen new.store.kept) → (known → Rests new.store to.now.disk) → (known → SyncsAtMost (is_shut w.store) from to)
       → Carried known commands.Reopen (state_of w from) reply (state_of new to)
   reopen_made new number made is answer stands rests syncs =
@@ -226,7 +226,7 @@ module _ (known : Type 0) (w : World) (from to : Outside) (reply : List ℕ) (la
         stands = stands;
         rests = rests;
         answer = answer ∙ ap (λ n. reply_bytes (Reopen n)) is;
-        world = world_is w new (reopened w.store new.store.kept new.store.slot new.store.other) made;
+        world = made;
         disk = settles_of syncs new;
       })))
 
@@ -272,13 +272,13 @@ module _ (known : Type 0) (w : World) (from to : Outside) (reply : List ℕ) (la
       disk_same : known → to.now.disk ≡ from.now.disk
       disk_same k = ap (λ (m : Moment). m.disk) (looks k).still.now
 
-      pub revert_made : (new : World) (number : ℕ) → Reverts known from.now.disk.seen w.store new.store number → reply ≡ reply_bytes (Revert number) → Carried known commands.Revert (state_of w from) reply (state_of new to)
-      revert_made new number made answer =
+      pub revert_made : (new : World) (store : Stored) (number : ℕ) → new ≡ without_cursors (with_store w store) → Reverts known from.now.disk.seen w.store store number → reply ≡ reply_bytes (Revert number) → Carried known commands.Revert (state_of w from) reply (state_of new to)
+      revert_made new store number is made answer =
           inl (subst (λ (o : Outcome). Comes known o (state_of w from) reply (state_of new to)) (sym (open_revert true some)) (inl (record {
             older = made.older;
             before = made.before;
             answer = answer ∙ ap (λ n. reply_bytes (Revert n)) made.number_is;
-            world = world_is w new (with_views w.store (views_without_homes made.older.views)) made.views;
+            world = is ∙ ap (λ (s : Stored). without_cursors (with_store w s)) made.views;
             disk = record { bytes = disk_same; later = later };
           })))
 

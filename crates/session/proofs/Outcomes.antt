@@ -1,22 +1,31 @@
 -- What comes of a command, where the session is shut and where it is not.
-use Rattle.std.proofs.Common.{◌≡◌, ℕ, Bool, true, false, cond, ◌&&◌, List, Option, Some, None, refl, ap, sym, subst, inl, inr}
-use Rattle.std.specs.Prelude.{not, if◌then◌else◌}
-use Rattle.cmd_text.specs.Replies.{reply_bytes}
+use Rattle.std.proofs.Common.{◌≡◌, ℕ, Bool, true, false, cond, ◌&&◌, List, ◌++◌, length, Option, Some, None, Result, Ok, Err, refl, ap, sym, subst, inl, inr}
+use Rattle.std.specs.Prelude.{codes, not, if◌then◌else◌}
+use Rattle.cmd_text.specs.Replies.{lines_text, reply_bytes, reply_line}
 use Rattle.cmd_text.specs.declared.command.Command.{Command}
 use Rattle.cmd_text.specs.declared.command.Command.TheVariants as commands
 use Rattle.cmd_text.specs.declared.refusal.Refusal.{Refusal}
-use Rattle.cmd_text.specs.declared.refusal.Refusal.TheVariants.{Shut}
+use Rattle.cmd_text.specs.declared.refusal.Refusal.TheVariants.{NoName, Shut}
 use Rattle.cmd_text.specs.declared.reply.Reply.{Reply}
-use Rattle.cmd_text.specs.declared.reply.Reply.TheVariants.{Refused}
+use Rattle.cmd_text.specs.declared.reply.Reply.TheVariants.{Count, Refused}
 use Rattle.host_io.specs.Outside.{Outside}
 use Rattle.lines.specs.Machine.{State}
 use Rattle.lines.specs.Served.{state_of}
 use Rattle.storage.specs.Stored.{Stored, is_shut}
 use Rattle.view_store.specs.Views.{NamedTable}
 use Rattle.session.specs.Answered.{Answered, IsGiven}
-use Rattle.session.specs.Carried.{Carried, Comes, LeavesDiskFor}
-use Rattle.session.specs.Commands.{Outcome, gives, commits, reopens, reverts, goes_when_shut, outcome_in, outcome_of, reaches_disk, refused, unless_due}
+use Rattle.expr_text.specs.Meanings.{query_of}
+use Rattle.mk_value.specs.Tables.{Table}
+use Rattle.questions.specs.Answers.{answer, rows_due, size_due}
+use Rattle.questions.specs.Cursors.{next_due, previous_due, row_due, standing_of}
+use Rattle.questions.specs.Places.{find_due, locate_due, search_due}
+use Rattle.questions.specs.declared.cursor.Standing.{Standing}
+use Rattle.questions.specs.declared.error.QuestionError.{QuestionError}
+use Rattle.session.specs.Carried.{Carried, Comes, LeavesDiskBy, LeavesDiskFor}
+use Rattle.session.specs.Commands.{Outcome, Reach, gives, commits, goes_when_shut, moved_in, off_disk, outcome_in, outcome_of, reach_of, refused, reopens, reverts, set_on, told, unless_due, with_cursor, with_snapshot}
 use Rattle.session.specs.Disk.{LeavesDisk}
+use Rattle.session.specs.Naming.{max_cursors, max_snapshots, new_name_due}
+use Rattle.session.specs.Questions.{located_reply, names_in, place_reply, refusal_of_question}
 use Rattle.session.specs.World.{World, with_tables}
 use Rattle.session.proofs.Ready.{SameFile}
 
@@ -38,24 +47,11 @@ goes_always true goes e = ap not e
 goes_always false goes e = refl
 
 -- a command that is none of those that reach the disk reaches none
-pub unreached : (command : Command) → ((note : List ℕ) → command ≡ commands.Commit note → ⊥) → (command ≡ commands.Reopen → ⊥) → (command ≡ commands.Revert → ⊥) → reaches_disk command ≡ false
+pub unreached : (command : Command) → ((note : List ℕ) → command ≡ commands.Commit note → ⊥) → (command ≡ commands.Reopen → ⊥) → (command ≡ commands.Revert → ⊥) → reach_of command ≡ off_disk
 unreached (commands.Commit note) commit reopen revert = absurd (commit note refl)
 unreached commands.Reopen commit reopen revert = absurd (reopen refl)
 unreached commands.Revert commit reopen revert = absurd (revert refl)
-unreached commands.Nothing commit reopen revert = refl
-unreached (commands.Getas name schema) commit reopen revert = refl
-unreached (commands.Drop name) commit reopen revert = refl
-unreached commands.Struct commit reopen revert = refl
-unreached (commands.Add route literals) commit reopen revert = refl
-unreached (commands.Insert route place copies literals) commit reopen revert = refl
-unreached (commands.Set route row prop literal) commit reopen revert = refl
-unreached (commands.Remove route place rows) commit reopen revert = refl
-unreached (commands.Size route) commit reopen revert = refl
-unreached (commands.Show route) commit reopen revert = refl
-unreached commands.Log commit reopen revert = refl
-unreached commands.Rollback commit reopen revert = refl
-unreached commands.Space commit reopen revert = refl
-unreached commands.Quit commit reopen revert = refl
+unreached command commit reopen revert = refl
 
 -- no call of the disk was made
 pub still : {known : Type 0} (old new : World) (outside : Outside) → LeavesDisk known (state_of old outside) (state_of new outside)
@@ -73,27 +69,11 @@ module _ (known : Type 0) (outside : Outside) where
   refused_comes refusal w reply o is answer =
       subst (λ (x : Outcome). Comes known x (state_of w outside) reply (state_of w outside)) (sym is) (record { answer = answer; world = refl; disk = still w w outside })
 
-  without_disk : (command : Command) (old new : State World) → reaches_disk command ≡ false → LeavesDisk known old new → LeavesDiskFor known command old new
-  without_disk commands.Reopen old new none leaves = absurd (let f : true ≡ false = none in cc)
-  without_disk commands.Revert old new none leaves = absurd (let f : true ≡ false = none in cc)
-  without_disk (commands.Commit note) old new none leaves = leaves
-  without_disk commands.Nothing old new none leaves = leaves
-  without_disk (commands.Getas name schema) old new none leaves = leaves
-  without_disk (commands.Drop name) old new none leaves = leaves
-  without_disk commands.Struct old new none leaves = leaves
-  without_disk (commands.Add route literals) old new none leaves = leaves
-  without_disk (commands.Insert route place copies literals) old new none leaves = leaves
-  without_disk (commands.Set route row prop literal) old new none leaves = leaves
-  without_disk (commands.Remove route place rows) old new none leaves = leaves
-  without_disk (commands.Size route) old new none leaves = leaves
-  without_disk (commands.Show route) old new none leaves = leaves
-  without_disk commands.Log old new none leaves = leaves
-  without_disk commands.Rollback old new none leaves = leaves
-  without_disk commands.Space old new none leaves = leaves
-  without_disk commands.Quit old new none leaves = leaves
+  without_disk : (command : Command) (old new : State World) → reach_of command ≡ off_disk → LeavesDisk known old new → LeavesDiskFor known command old new
+  without_disk command old new none leaves = subst (λ (reach : Reach). LeavesDiskBy known reach old new) (sym none) leaves
 
   -- what a command that reaches no disk is answered
-  pub answered_carried : (command : Command) (old : World) (reply : Reply) (new : World) → outcome_of old command ≡ outcome_in old command → reaches_disk command ≡ false
+  pub answered_carried : (command : Command) (old : World) (reply : Reply) (new : World) → outcome_of old command ≡ outcome_in old command → reach_of command ≡ off_disk
       → Answered command old reply new → Carried known command (state_of old outside) (reply_bytes reply) (state_of new outside)
   answered_carried command old reply new is none answered = elim answered.answers [
     | inl given ↦ inl (subst (λ (x : Outcome). Comes known x (state_of old outside) (reply_bytes reply) (state_of new outside)) (sym is) (given_comes (outcome_in old command) old (reply_bytes reply) new given))
@@ -126,6 +106,30 @@ given_unless (Some refusal) w left new said reply given same = given_left w w ne
 changed_views : (w : World) (views : List NamedTable) → SameFile w.store (with_tables w views).store
 changed_views w views = record { kept = refl; before = refl; attempted = refl; slot = refl; other = refl }
 
+-- an answer that changes nothing
+nothing_given : (w new : World) (said reply : List ℕ) → IsGiven (gives said w) reply new → SameFile w.store new.store
+nothing_given w new said reply given = given_left w w new said reply given (nothing_changed w)
+
+given_told : {X : Type 0} (due : Result X QuestionError) (said : X → List ℕ) (w new : World) (reply : List ℕ) → IsGiven (told due w (λ x. gives (said x) w)) reply new → SameFile w.store new.store
+given_told (Ok x) said w new reply given = nothing_given w new (said x) reply given
+given_told (Err e) said w new reply given = nothing_given w new (reply_bytes (Refused (refusal_of_question e))) reply given
+
+given_moved : (due : Result ℕ QuestionError) (w new : World) (reply name : List ℕ) → IsGiven (told due w (λ place. gives (reply_bytes (Count place)) (moved_in w name place))) reply new → SameFile w.store new.store
+given_moved (Ok place) w new reply name given = given_left w (moved_in w name place) new (reply_bytes (Count place)) reply given (nothing_changed w)
+given_moved (Err e) w new reply name given = nothing_given w new (reply_bytes (Refused (refusal_of_question e))) reply given
+
+given_dup : (due : Result Table QuestionError) (w new : World) (reply name : List ℕ)
+    → IsGiven (told due w (λ t. unless_due (new_name_due w name (length w.snapshots) max_snapshots) w (gives (reply_bytes (Count (length t.rows))) (with_snapshot w name t)))) reply new
+    → SameFile w.store new.store
+given_dup (Ok t) w new reply name given =
+    given_unless (new_name_due w name (length w.snapshots) max_snapshots) w (with_snapshot w name t) new (reply_bytes (Count (length t.rows))) reply given (nothing_changed w)
+given_dup (Err e) w new reply name given = nothing_given w new (reply_bytes (Refused (refusal_of_question e))) reply given
+
+given_set : (o : Option Standing) (w new : World) (reply name target : List ℕ) → IsGiven (set_on o w name target) reply new → SameFile w.store new.store
+given_set None w new reply name target given = nothing_given w new (reply_bytes (Refused NoName)) reply given
+given_set (Some standing) w new reply name target given =
+    given_unless (new_name_due w name (length w.cursors) max_cursors) w (with_cursor w name target standing) new (reply_bytes (Count 0)) reply given (nothing_changed w)
+
 pub given_same : (command : Command) (w : World) (reply : List ℕ) (new : World) → IsGiven (outcome_in w command) reply new → SameFile w.store new.store
 given_same commands.Nothing w reply new given = given_left w _ new _ reply given (nothing_changed w)
 given_same (commands.Getas name schema) w reply new given = given_unless _ w _ new _ reply given (changed_views w _)
@@ -135,8 +139,22 @@ given_same (commands.Add route literals) w reply new given = given_unless _ w _ 
 given_same (commands.Insert route place copies literals) w reply new given = given_unless _ w _ new _ reply given (changed_views w _)
 given_same (commands.Set route row prop literal) w reply new given = given_unless _ w _ new _ reply given (changed_views w _)
 given_same (commands.Remove route place rows) w reply new given = given_unless _ w _ new _ reply given (changed_views w _)
-given_same (commands.Size route) w reply new given = given_unless _ w _ new _ reply given (nothing_changed w)
-given_same (commands.Show route) w reply new given = given_unless _ w _ new _ reply given (nothing_changed w)
+given_same (commands.Size e) w reply new given = given_told (size_due (names_in w) (query_of e)) (λ size. reply_bytes (Count size)) w new reply given
+given_same (commands.Show e) w reply new given = given_told (rows_due (names_in w) (query_of e)) lines_text w new reply given
+given_same (commands.Find e start criteria) w reply new given =
+    given_told (find_due (names_in w) (query_of e) start criteria) (λ place. reply_bytes (place_reply place)) w new reply given
+given_same (commands.Search e criteria) w reply new given =
+    given_told (search_due (names_in w) (query_of e) criteria) (λ place. reply_bytes (Count place)) w new reply given
+given_same (commands.Locate e criteria) w reply new given =
+    given_told (locate_due (names_in w) (query_of e) criteria) (λ at. reply_bytes (located_reply at)) w new reply given
+given_same (commands.Dup name e) w reply new given = given_dup (answer (names_in w) (query_of e)) w new reply name given
+given_same (commands.Undup name) w reply new given = given_unless _ w _ new _ reply given (nothing_changed w)
+given_same (commands.Cursor name target) w reply new given = given_set (standing_of w.store.views w.snapshots target) w new reply name target given
+given_same (commands.Uncursor name) w reply new given = given_unless _ w _ new _ reply given (nothing_changed w)
+given_same (commands.Next name) w reply new given = given_moved (next_due w.store.views w.snapshots w.cursors name) w new reply name given
+given_same (commands.Prev name) w reply new given = given_moved (previous_due w.store.views w.snapshots w.cursors name) w new reply name given
+given_same (commands.Row name) w reply new given =
+    given_told (row_due w.store.views w.snapshots w.cursors name) (λ text. reply_line (codes "ok " ++ text)) w new reply given
 given_same (commands.Commit note) w reply new given = given_or_refused _ w new (commits note) reply (λ never. never) given
 given_same commands.Log w reply new given = given_left w _ new _ reply given (nothing_changed w)
 given_same commands.Rollback w reply new given = given_left w _ new _ reply given (changed_views w _)
@@ -144,6 +162,11 @@ given_same commands.Reopen w reply new given = absurd given
 given_same commands.Revert w reply new given = given_or_refused _ w new reverts reply (λ never. never) given
 given_same commands.Space w reply new given = given_left w _ new _ reply given (nothing_changed w)
 given_same commands.Quit w reply new given = given_left w _ new _ reply given (nothing_changed w)
+given_same (commands.Watch name e) w reply new given = given_left w _ new _ reply given (nothing_changed w)
+given_same (commands.Unwatch name) w reply new given = given_left w _ new _ reply given (nothing_changed w)
+given_same (commands.Hash name keys) w reply new given = given_left w _ new _ reply given (nothing_changed w)
+given_same (commands.Ordered name keys) w reply new given = given_left w _ new _ reply given (nothing_changed w)
+given_same (commands.Unmap name) w reply new given = given_left w _ new _ reply given (nothing_changed w)
 
 pub answered_same : (command : Command) (w : World) (reply : Reply) (new : World) → Answered command w reply new → SameFile w.store new.store
 answered_same command w reply new answered = elim answered.answers [

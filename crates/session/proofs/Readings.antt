@@ -18,7 +18,11 @@ use Rattle.mk_value.specs.Tokens.{Token, word, spelling as spelled}
 use Rattle.tokens.specs.Cutting.{Piece, Cuts, begins_with, space}
 use Rattle.tokens.specs.Fronts.{tokens_in}
 use Rattle.tokens.specs.Literals.{IsLiteral, AreLiteralRows, IsLiteralRow, AreLiterals, max_braces}
-use Rattle.cmd_text.specs.Grammar.{IsCommand, SpellsCommand}
+use Rattle.eval.specs.Parts.{IsWhole}
+use Rattle.expr_text.specs.Meanings.{query_of}
+use Rattle.expr_text.specs.Queries.{IsQuery, Query, max_operators}
+use Rattle.cmd_text.specs.Grammar.{Call, SpellsCall, SpellsCommand, call, call_of, keyword, nothing, structure}
+use Rattle.cmd_text.specs.Words.{word_of}
 use Rattle.tokens.proofs.Chains.{cut_once}
 use Rattle.cmd_text.specs.Lines.{Reads, ReadsStructure, behind_run, first_run, gives_structure, is_space, structure_text, without_leading, without_trailing}
 use Rattle.cmd_text.specs.declared.command.Command.{Command}
@@ -118,7 +122,7 @@ blank_reads line h = record {
     other = ap (λ w. bytes_eq (take_while is_name_byte w) (codes "getas")) (nothing_left line h);
     pieces = [];
     cuts = blank_all line h;
-    spells = record { whole = tt; is = refl };
+    spells = refl;
   });
 }
 
@@ -132,30 +136,25 @@ no_structure line command h other = absurd (other h.spells.0 h.spells.1.0 h.spel
 pub reads_blank : (line : List ℕ) → Reads line commands.Nothing → is_blank line ≡ true
 reads_blank line h = elim h.reads [
   | inl s ↦ no_structure line commands.Nothing s (λ name schema e. let f : ◌≡◌ {A = Command} commands.Nothing (commands.Getas name schema) = e in cc)
-  | inr t ↦ no_pieces line t.pieces t.cuts t.spells.is
+  | inr t ↦ no_pieces line t.pieces t.cuts t.spells
 ]
 
 no_first : (t : Token) (rest : List Token) → [] ≡ t ∷ rest → ⊥
 no_first t rest e = cc
 
+-- a call that is spelled by no tokens is that of no line
+no_tokens : (c : Call) → SpellsCall max_operators c [] → c ≡ nothing
+no_tokens nothing h = refl
+no_tokens (structure letters schema) h = absurd h
+no_tokens (call verb list last) h = absurd (no_first (keyword (word_of verb)) h.2.0 h.2.1)
+
+only_nothing : (command : Command) → call_of command ≡ nothing → command ≡ commands.Nothing
+only_nothing commands.Nothing e = refl
+only_nothing (commands.Getas name schema) e = absurd (let f : ◌≡◌ {A = Call} (structure name schema) nothing = e in cc)
+only_nothing command e = absurd (let f : call_of command ≡ nothing = e in cc)
+
 spelled_nothing : (command : Command) → SpellsCommand [] command → command ≡ commands.Nothing
-spelled_nothing commands.Nothing h = refl
-spelled_nothing (commands.Getas name schema) h = absurd h.whole
-spelled_nothing (commands.Drop name) h = absurd (no_first _ _ h.is)
-spelled_nothing commands.Struct h = absurd (no_first _ _ h.is)
-spelled_nothing (commands.Add route literals) h = absurd (no_first _ _ h.is)
-spelled_nothing (commands.Insert route place copies literals) h = absurd (no_first _ _ h.is)
-spelled_nothing (commands.Set route row prop literal) h = absurd (no_first _ _ h.is)
-spelled_nothing (commands.Remove route place rows) h = absurd (no_first _ _ h.is)
-spelled_nothing (commands.Size route) h = absurd (no_first _ _ h.is)
-spelled_nothing (commands.Show route) h = absurd (no_first _ _ h.is)
-spelled_nothing (commands.Commit note) h = absurd (elim h.is [ inl e ↦ no_first _ _ e | inr e ↦ no_first _ _ e.1 ])
-spelled_nothing commands.Log h = absurd (no_first _ _ h.is)
-spelled_nothing commands.Rollback h = absurd (no_first _ _ h.is)
-spelled_nothing commands.Reopen h = absurd (no_first _ _ h.is)
-spelled_nothing commands.Revert h = absurd (no_first _ _ h.is)
-spelled_nothing commands.Space h = absurd (no_first _ _ h.is)
-spelled_nothing commands.Quit h = absurd (no_first _ _ h.is)
+spelled_nothing command h = only_nothing command (no_tokens (call_of command) h)
 
 -- a line of spaces asks for nothing else
 pub blank_only : (line : List ℕ) (command : Command) → is_blank line ≡ true → Reads line command → command ≡ commands.Nothing
@@ -192,7 +191,7 @@ quit_reads line h =
           },
           blank_all b.gap b.blank,
         );
-        spells = record { whole = tt; is = refl };
+        spells = (refl, record { parts = refl; ending = refl; whole = tt; last = tt }, ([], refl, inl refl));
       });
     }
 
@@ -207,12 +206,16 @@ quit_pieces line (p ∷ []) (rest, leads, blank) e =
     ap without_leading (leads.begins.1 ∙ ap (λ w. leads.gap ++ w) inside) ∙ leading_gap leads.gap (quit ++ rest) (all_blank leads.gap leads.blank))
     ∙ trailing_gap quit rest (all_blank rest blank)
 
+quit_tokens : (tokens : List Token) → SpellsCommand tokens commands.Quit → tokens ≡ word quit ∷ []
+quit_tokens tokens (known, behind, (rest, is, inl none)) = is ∙ ap (λ behind_word. word quit ∷ behind_word) none
+quit_tokens tokens (known, behind, (rest, is, inr left_out)) = absurd left_out.0
+
 pub reads_quit : (line : List ℕ) → Reads line commands.Quit → is_quit line ≡ true
 reads_quit line h =
     ap (λ t. t && bytes_eq (without_trailing (without_leading line)) quit) (is_utf8-from_IsUtf8 line h.utf8)
     ∙ (bytes_eq-Decides (without_trailing (without_leading line)) quit).1 (elim h.reads [
       | inl s ↦ no_structure line commands.Quit s (λ name schema e. let f : ◌≡◌ {A = Command} commands.Quit (commands.Getas name schema) = e in cc)
-      | inr t ↦ quit_pieces line t.pieces t.cuts t.spells.is
+      | inr t ↦ quit_pieces line t.pieces t.cuts (quit_tokens (tokens_in t.pieces) t.spells)
     ])
 
 -- what is so tells against what is not
@@ -243,24 +246,26 @@ mutual
 all_proper : (literals : List Datum) → All (λ d. IsLiteral max_braces d) literals → All IsProper literals
 all_proper literals h = λ k d p. literal_proper max_braces (get_or literals k d) (h k d p)
 
-of_tokens : (command : Command) → IsCommand command → IsOfLine command
-of_tokens commands.Nothing h = tt
-of_tokens (commands.Getas name schema) h = absurd h
-of_tokens (commands.Drop name) h = tt
-of_tokens commands.Struct h = tt
-of_tokens (commands.Add route literals) h = all_proper literals h.1
-of_tokens (commands.Insert route place copies literals) h = all_proper literals h.1.1.1
-of_tokens (commands.Set route row prop literal) h = literal_proper max_braces (literal_of literal) h.1.1.1
-of_tokens (commands.Remove route place rows) h = tt
-of_tokens (commands.Size route) h = tt
-of_tokens (commands.Show route) h = tt
-of_tokens (commands.Commit note) h = tt
-of_tokens commands.Log h = tt
-of_tokens commands.Rollback h = tt
-of_tokens commands.Reopen h = tt
-of_tokens commands.Revert h = tt
-of_tokens commands.Space h = tt
-of_tokens commands.Quit h = tt
+whole_at : (deep : ℕ) (q : Query) → IsQuery q deep → IsWhole q
+whole_at deep q h = (deep, h)
+
+of_tokens : (tokens : List Token) (command : Command) → SpellsCommand tokens command → IsOfLine command
+of_tokens tokens (commands.Getas name schema) h = absurd h
+of_tokens tokens (commands.Add route literals) h = all_proper literals h.1.last
+of_tokens tokens (commands.Insert route place copies literals) h = all_proper literals h.1.last
+of_tokens tokens (commands.Set route row prop literal) h = literal_proper max_braces (literal_of literal) h.1.whole.1.1.1.0
+of_tokens tokens (commands.Size e) h = whole_at max_operators (query_of e) h.1.whole.0
+of_tokens tokens (commands.Show e) h = whole_at max_operators (query_of e) h.1.whole.0
+of_tokens tokens (commands.Find e start criteria) h = whole_at max_operators (query_of e) h.1.whole.0
+of_tokens tokens (commands.Search e criteria) h = whole_at max_operators (query_of e) h.1.whole.0
+of_tokens tokens (commands.Locate e criteria) h = whole_at max_operators (query_of e) h.1.whole.0
+of_tokens tokens (commands.Dup name e) h = whole_at max_operators (query_of e) h.1.whole.1.0
+of_tokens tokens (commands.Watch name e) h = absurd (false≢true h.0)
+of_tokens tokens (commands.Unwatch name) h = absurd (false≢true h.0)
+of_tokens tokens (commands.Hash name keys) h = absurd (false≢true h.0)
+of_tokens tokens (commands.Ordered name keys) h = absurd (false≢true h.0)
+of_tokens tokens (commands.Unmap name) h = absurd (false≢true h.0)
+of_tokens tokens command h = tt
 
 -- a structure text is shorter than its line by the word before it
 structure_short : (line name : List ℕ) (schema : List Attribute) → gives_structure line ≡ true → structure_text line ≡ spelling name schema → length line ≤ max_line → length (spelling name schema) + 5 ≤ max_line
@@ -277,5 +282,5 @@ structure_short line name schema gives is short =
 pub of_line : (line : List ℕ) (command : Command) → Reads line command → length line ≤ max_line → IsOfLine command
 of_line line command h short = elim h.reads [
   | inl s ↦ subst IsOfLine (sym s.spells.1.1.0) (structure_short line s.spells.0 s.spells.1.0 s.gives s.spells.1.1.1.is short)
-  | inr t ↦ of_tokens command t.spells.whole
+  | inr t ↦ of_tokens (tokens_in t.pieces) command t.spells
 ]

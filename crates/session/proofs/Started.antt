@@ -18,7 +18,7 @@ use Rattle.storage.specs.Stored.{Rests, opened_store}
 use Rattle.storage.specs.declared.mode.Mode.{Mode}
 use Rattle.session.specs.Starting.{IsStartRefusal, StartsAs, StartsFrom, cause_of_opening}
 use Rattle.session.specs.Step.{machine}
-use Rattle.session.specs.World.{World}
+use Rattle.session.specs.World.{World, world_over}
 use Rattle.session.proofs.Ready.{ready_at_rest, stands_at_rest}
 
 pub start_refused : (mode : Mode) (old new : Outside) (e : OpenError) → old.now.disk.seen ≢ [] → Looks old new → NamesCause old.now.disk.seen e → IsStartRefusal mode old new (cause_of_opening e)
@@ -58,7 +58,7 @@ module _ (w : World) (old new : Outside) (looks : Looks old new) where
   same_disk : new.now.disk ≡ old.now.disk
   same_disk = ap (λ (m : Moment). m.disk) looks.still.now
 
-  pub starts_open : (mode : Mode) (cap : ℕ) → w.store ≡ opened_store w.store.kept w.store.slot w.store.other mode cap → IsCommit w.store.kept → Rests w.store old.now.disk → old.now.disk.seen ≢ []
+  pub starts_open : (mode : Mode) (cap : ℕ) → w ≡ world_over (opened_store w.store.kept w.store.slot w.store.other mode cap) → IsCommit w.store.kept → Rests w.store old.now.disk → old.now.disk.seen ≢ []
       → StartsAs mode cap old.now.disk.seen (state_of w new)
   starts_open mode cap is is_whole rests some = starts_with mode cap old.now.disk.seen (state_of w new) some (record {
     kept = w.store.kept;

@@ -28,22 +28,10 @@ use Rattle.session.proofs.Readings.{blank_only, blank_reads, quit_reads}
 -- a line that reads as one word is read without memory
 takes_of : (line : List ℕ) → ((command : Command) → IsOneWord command → Reads line command → ⊥) → (command : Command) → Reads line command → takes_memory command ≡ true
 takes_of line in_place commands.Nothing reads = absurd (in_place commands.Nothing tt reads)
-takes_of line in_place commands.Rollback reads = absurd (in_place commands.Rollback tt reads)
-takes_of line in_place commands.Space reads = absurd (in_place commands.Space tt reads)
-takes_of line in_place commands.Quit reads = absurd (in_place commands.Quit tt reads)
-takes_of line in_place (commands.Getas name schema) reads = refl
-takes_of line in_place (commands.Drop name) reads = refl
-takes_of line in_place commands.Struct reads = refl
-takes_of line in_place (commands.Add route literals) reads = refl
-takes_of line in_place (commands.Insert route place copies literals) reads = refl
-takes_of line in_place (commands.Set route row prop literal) reads = refl
-takes_of line in_place (commands.Remove route place rows) reads = refl
-takes_of line in_place (commands.Size route) reads = refl
-takes_of line in_place (commands.Show route) reads = refl
-takes_of line in_place (commands.Commit note) reads = refl
-takes_of line in_place commands.Log reads = refl
-takes_of line in_place commands.Reopen reads = refl
-takes_of line in_place commands.Revert reads = refl
+takes_of line in_place commands.Rollback reads = absurd (in_place commands.Rollback (refl, tt) reads)
+takes_of line in_place commands.Space reads = absurd (in_place commands.Space (refl, tt) reads)
+takes_of line in_place commands.Quit reads = absurd (in_place commands.Quit (refl, tt) reads)
+takes_of line in_place command reads = refl
 
 nothing_commits : (w : World) (note : List ℕ) → outcome_of w commands.Nothing ≡ commits note → ⊥
 nothing_commits w note e =

@@ -5,14 +5,13 @@ use Rattle.std.specs.Option.{is_some}
 use Rattle.std.specs.Prelude.{◌⊎◌}
 use Rattle.cmd_text.specs.Lines.{Reads}
 use Rattle.cmd_text.specs.declared.command.Command.{Command}
-use Rattle.cmd_text.specs.declared.command.Command.TheVariants as commands
 use Rattle.host_io.specs.Calls.{Rose}
 use Rattle.lines.specs.Lines.{IsTooLong}
 use Rattle.lines.specs.Machine.{Answers, Run, State, Turn}
 use Rattle.storage.specs.Stored.{is_shut}
 use Rattle.session.specs.Answered.{IsGiven}
-use Rattle.session.specs.Carried.{Carried, Comes, LeavesDiskFor}
-use Rattle.session.specs.Commands.{Outcome, gives, commits, reopens, reverts, goes_when_shut, outcome_in, outcome_of}
+use Rattle.session.specs.Carried.{Carried, Comes, LeavesDiskBy}
+use Rattle.session.specs.Commands.{Outcome, Reach, commits, gives, goes_when_shut, off_disk, opens_disk, outcome_in, outcome_of, reach_of, reads_disk, reopens, reverts, writes_disk}
 use Rattle.session.specs.Disk.{LeavesDisk}
 use Rattle.session.specs.Step.{Step, machine}
 use Rattle.session.specs.Unfaulted.{AreAnswered, ComesWell, StepsWell}
@@ -36,24 +35,11 @@ rose_before a b c first then (inl below) = inl (omega (arith, below, first))
 rose_before a b c first then (inr last) = inr last
 
 module _ (old new : State World) where
-  leaves_faults : (command : Command) → LeavesDiskFor (Unit {0}) command old new → old.disk_faults ≤ new.disk_faults
-  leaves_faults commands.Reopen d = d.later
-  leaves_faults commands.Revert d = d.later
-  leaves_faults commands.Nothing d = let e = d.faults in omega (arith, e)
-  leaves_faults (commands.Getas name schema) d = let e = d.faults in omega (arith, e)
-  leaves_faults (commands.Drop name) d = let e = d.faults in omega (arith, e)
-  leaves_faults commands.Struct d = let e = d.faults in omega (arith, e)
-  leaves_faults (commands.Add route literals) d = let e = d.faults in omega (arith, e)
-  leaves_faults (commands.Insert route place copies literals) d = let e = d.faults in omega (arith, e)
-  leaves_faults (commands.Set route row prop literal) d = let e = d.faults in omega (arith, e)
-  leaves_faults (commands.Remove route place rows) d = let e = d.faults in omega (arith, e)
-  leaves_faults (commands.Size route) d = let e = d.faults in omega (arith, e)
-  leaves_faults (commands.Show route) d = let e = d.faults in omega (arith, e)
-  leaves_faults (commands.Commit note) d = let e = d.faults in omega (arith, e)
-  leaves_faults commands.Log d = let e = d.faults in omega (arith, e)
-  leaves_faults commands.Rollback d = let e = d.faults in omega (arith, e)
-  leaves_faults commands.Space d = let e = d.faults in omega (arith, e)
-  leaves_faults commands.Quit d = let e = d.faults in omega (arith, e)
+  leaves_faults : (reach : Reach) → LeavesDiskBy (Unit {0}) reach old new → old.disk_faults ≤ new.disk_faults
+  leaves_faults opens_disk d = d.later
+  leaves_faults reads_disk d = d.later
+  leaves_faults off_disk d = let e = d.faults in omega (arith, e)
+  leaves_faults writes_disk d = let e = d.faults in omega (arith, e)
 
   left_faults : LeavesDisk (Unit {0}) old new → old.disk_faults ≤ new.disk_faults
   left_faults d = let e = d.faults in omega (arith, e)
@@ -72,7 +58,7 @@ module _ (old new : State World) where
 
   carried_faults : (command : Command) (reply : List ℕ) → Carried (Unit {0}) command old reply new → old.disk_faults ≤ new.disk_faults
   carried_faults command reply (inl comes) = comes_faults (outcome_of old.world command) reply comes
-  carried_faults command reply (inr w) = leaves_faults command w.disk
+  carried_faults command reply (inr w) = leaves_faults (reach_of command) w.disk
 
   step_faults : (line reply : List ℕ) → Step (Unit {0}) old line reply new → old.disk_faults ≤ new.disk_faults
   step_faults line reply (inl c) = carried_faults c.command reply c.carried

@@ -9,7 +9,7 @@ use Rattle.cmd_text.specs.declared.reply.Reply.{Reply}
 use Rattle.cmd_text.specs.declared.reply.Reply.TheVariants.{Refused, Silent}
 use Rattle.lines.specs.Lines.{max_line}
 use Rattle.session.specs.Commands.{Outcome, gives, commits, reopens, reverts, outcome_in, takes_memory}
-use Rattle.session.specs.Saying.{FitsIn, HasLines}
+use Rattle.session.specs.Saying.{FitsIn, IsUnbounded}
 use Rattle.session.specs.World.{World}
 
 -- the reply to what the function of a command gave: one of its value, or the refusal
@@ -28,5 +28,5 @@ IsGiven reverts reply new = ⊥
 pub record Answered (command : Command) (old : World) (reply : Reply) (new : World) : Type 0 where
   pub answers : IsGiven (outcome_in old command) (reply_bytes reply) new ⊎ ((reply ≡ Refused Memory) × (takes_memory command ≡ true) × (new ≡ old))
   pub fits : FitsIn (max_line + 1) reply
-  pub kept : HasLines reply → (takes_memory command ≡ true) × (new ≡ old)
+  pub kept : IsUnbounded reply → (takes_memory command ≡ true) × (new ≡ old)
   pub silent : reply ≡ Silent → command ≡ commands.Nothing

@@ -2,7 +2,6 @@
 use Rattle.std.specs.Prelude.{◌≡◌, ◌⊎◌, ℕ, ◌<◌, ◌≤◌, List, Option, true}
 use Rattle.cmd_text.specs.Replies.{reply_bytes}
 use Rattle.cmd_text.specs.declared.command.Command.{Command}
-use Rattle.cmd_text.specs.declared.command.Command.TheVariants as commands
 use Rattle.cmd_text.specs.declared.refusal.Refusal.TheVariants.{Damaged, Disk, Full, Memory}
 use Rattle.cmd_text.specs.declared.reply.Reply.TheVariants.{Commit as committed_as, Refused, Reopen as reopened_as, Revert as reverted_to}
 use Rattle.commit_marks.specs.declared.mark.Mark.{Mark}
@@ -14,9 +13,9 @@ use Rattle.recovery.specs.Refusals.{IsBefore, broken, whole}
 use Rattle.recovery.specs.Standing.{StandsFor}
 use Rattle.storage.specs.Reverting.{views_without_homes}
 use Rattle.storage.specs.Stored.{Rests, committed, failed, floor_of, reopened}
-use Rattle.session.specs.Commands.{Outcome, gives, commits, reopens, reverts, outcome_of, takes_memory}
+use Rattle.session.specs.Commands.{Outcome, Reach, gives, commits, opens_disk, outcome_of, reach_of, reads_disk, reopens, reverts, takes_memory}
 use Rattle.session.specs.Disk.{IsNext, LeavesDisk, ReadsDisk, SettlesAtMost, WritesCommit}
-use Rattle.session.specs.World.{World, with_store, with_tables}
+use Rattle.session.specs.World.{World, with_store, with_tables, without_cursors}
 
 -- This is said, and this world is left.
 pub record Gives (known : Type 0) (said : List ℕ) (left : World) (old : State World) (reply : List ℕ) (new : State World) : Type 0 where
@@ -59,7 +58,7 @@ pub record Reopens (known : Type 0) (old : State World) (reply : List ℕ) (new 
   pub stands : known → StandsFor old.disk.seen kept
   pub rests : known → Rests new.world.store new.disk
   pub answer : reply ≡ reply_bytes (reopened_as kept.number)
-  pub world : new.world ≡ with_store old.world (reopened old.world.store kept slot other)
+  pub world : new.world ≡ without_cursors (with_store old.world (reopened old.world.store kept slot other))
   pub disk : SettlesAtMost known old new
 
 -- the disk failed while the file was being opened anew, and the session is as it was
@@ -82,7 +81,7 @@ pub record BringsBack (known : Type 0) (old : State World) (reply : List ℕ) (n
   pub older : Commit
   pub before : known → IsBefore old.disk.seen (whole older)
   pub answer : reply ≡ reply_bytes (reverted_to older.number)
-  pub world : new.world ≡ with_tables old.world (views_without_homes older.views)
+  pub world : new.world ≡ without_cursors (with_tables old.world (views_without_homes older.views))
   pub disk : ReadsDisk known old new
 
 -- no commit stands any more where the one before did, and this place is why
@@ -107,10 +106,13 @@ Comes known reopens old reply new = Reopens known old reply new ⊎ (FailsToReop
 Comes known reverts old reply new = BringsBack known old reply new ⊎ (FindsDamage known old reply new ⊎ FailsToRevert known old reply new)
 
 -- the disk where memory was wanting: only a command that opens or reads the file came to it
+abbrev pub LeavesDiskBy : Type 0 → Reach → State World → State World → Type 0
+LeavesDiskBy known opens_disk old new = SettlesAtMost known old new
+LeavesDiskBy known reads_disk old new = ReadsDisk known old new
+LeavesDiskBy known _ old new = LeavesDisk known old new
+
 abbrev pub LeavesDiskFor : Type 0 → Command → State World → State World → Type 0
-LeavesDiskFor known commands.Reopen old new = SettlesAtMost known old new
-LeavesDiskFor known commands.Revert old new = ReadsDisk known old new
-LeavesDiskFor known _ old new = LeavesDisk known old new
+LeavesDiskFor known command old new = LeavesDiskBy known (reach_of command) old new
 
 -- Memory was wanting, and the session is as it was. A command that takes none is never answered so.
 pub record WantsMemory (known : Type 0) (command : Command) (old : State World) (reply : List ℕ) (new : State World) : Type 0 where

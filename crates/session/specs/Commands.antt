@@ -1,5 +1,5 @@
 -- What comes of each command. Want of memory and a disk that fails are left aside here.
-use Rattle.std.specs.Prelude.{ℕ, ◌+◌, ◌-◌, Bool, true, false, ◌&&◌, not, if◌then◌else◌, ◌==◌, List, [], ◌∷◌, ◌++◌, map, reverse, codes, decimal, Option, Some, None}
+use Rattle.std.specs.Prelude.{ℕ, ◌+◌, ◌-◌, Bool, true, false, ◌&&◌, not, if◌then◌else◌, ◌==◌, List, [], ◌∷◌, ◌++◌, length, map, reverse, codes, decimal, Option, Some, None, Result, Ok, Err}
 use Rattle.std.specs.Option.{is_some}
 use Rattle.commit_plan.specs.Plans.{last_number}
 use Rattle.dir_codec.specs.Dir.{NoteEntry}
@@ -14,6 +14,14 @@ use Rattle.cmd_text.specs.declared.command.Command.TheVariants as commands
 use Rattle.cmd_text.specs.declared.refusal.Refusal.{Refusal}
 use Rattle.cmd_text.specs.declared.refusal.Refusal.TheVariants.{LastNumber, NoName, ReadOnly, Shut}
 use Rattle.cmd_text.specs.declared.reply.Reply.TheVariants.{Plain, Count, Quit, Refused, Rollback, Space}
+use Rattle.expr_text.specs.Meanings.{query_of}
+use Rattle.mk_value.specs.Tables.{Table}
+use Rattle.questions.specs.Answers.{answer, rows_due, size_due}
+use Rattle.questions.specs.Cursors.{Placed, moved, next_due, previous_due, row_due, standing_of, without_cursor}
+use Rattle.questions.specs.Kept.{Kept, without_kept}
+use Rattle.questions.specs.Places.{find_due, locate_due, search_due}
+use Rattle.questions.specs.declared.cursor.Standing.{Standing}
+use Rattle.questions.specs.declared.error.QuestionError.{QuestionError}
 use Rattle.cmd_text.specs.declared.reply.Space.{Space as Taken}
 use Rattle.storage.specs.Spaces.{space_of}
 use Rattle.storage.specs.Stored.{Stored, is_shut, rolled_back}
@@ -22,10 +30,12 @@ use Rattle.storage.specs.declared.mode.Mode.TheVariants.{Write, Extend, Read}
 use Rattle.struct_text.specs.Spelling.{spelling}
 use Rattle.view_store.specs.Edits.{Edit}
 use Rattle.view_store.specs.Views.{NamedTable, edited_views, without_view}
-use Rattle.session.specs.Refusals.{add_due, by_rows, drop_due, first_of, getas_due, insert_due, remove_due, set_due, unless}
+use Rattle.session.specs.Naming.{drop_due, getas_due, max_cursors, max_snapshots, new_name_due, uncursor_due, undup_due}
+use Rattle.session.specs.Questions.{located_reply, names_in, place_reply, refusal_of_question}
+use Rattle.session.specs.Refusals.{add_due, first_of, insert_due, remove_due, set_due, unless}
 use Rattle.session.specs.Structures.{structured, structures}
-use Rattle.session.specs.Values.{domain_named, rows_named, schema_named, size_named, values_for}
-use Rattle.session.specs.World.{World, with_store, with_tables}
+use Rattle.session.specs.Values.{domain_named, schema_named, size_named, values_for}
+use Rattle.session.specs.World.{World, with_store, with_tables, without_cursors}
 
 -- What a command asks for: a reply and a world, or something of the disk.
 pub data Outcome : Type 0 where
@@ -46,6 +56,28 @@ refused refusal w = gives (reply_bytes (Refused refusal)) w
 abbrev pub unless_due : Option Refusal → World → Outcome → Outcome
 unless_due (Some refusal) w done = refused refusal w
 unless_due None w done = done
+
+-- what a question is due, and this of its answer
+abbrev pub told : {X : Type 0} → Result X QuestionError → World → (X → Outcome) → Outcome
+told (Ok x) w done = done x
+told (Err e) w done = refused (refusal_of_question e) w
+
+-- a snapshot more; and a cursor more, at the first row of what its name stands for
+abbrev pub with_snapshot : World → List ℕ → Table → World
+with_snapshot w name table = record w { snapshots = w.snapshots ++ (record { name = name; table = table } ∷ []) }
+
+abbrev pub with_cursor : World → List ℕ → List ℕ → Standing → World
+with_cursor w name target standing = record w { cursors = w.cursors ++ (record { name = name; target = target; standing = standing; position = 0 } ∷ []) }
+
+-- `cursor`: what a name stands for comes first
+abbrev pub set_on : Option Standing → World → List ℕ → List ℕ → Outcome
+set_on None w name target = refused NoName w
+set_on (Some standing) w name target =
+    unless_due (new_name_due w name (length w.cursors) max_cursors) w (gives (reply_bytes (Count 0)) (with_cursor w name target standing))
+
+-- a cursor of the world at another position
+abbrev pub moved_in : World → List ℕ → ℕ → World
+moved_in w name position = record w { cursors = moved w.cursors name position }
 
 -- the views after copies of a row of these literals were put before a place; values that are missing at its end are defaults
 abbrev pub inserted : List NamedTable → Route → ℕ → ℕ → List Datum → List NamedTable
@@ -88,9 +120,9 @@ taken s = record { number = s.kept.number; end = s.kept.end; used = (space_of s.
 abbrev pub outcome_in : World → Command → Outcome
 outcome_in w commands.Nothing = gives [] w
 outcome_in w (commands.Getas name schema) =
-    unless_due (getas_due w.store.views name) w
+    unless_due (getas_due w name schema) w
     (gives (reply_line (codes "ok " ++ spelling name schema)) (with_tables w (structured w.store.views name schema)))
-outcome_in w (commands.Drop name) = unless_due (drop_due w.store.views name) w (gives (reply_bytes Plain) (with_tables w (without_view w.store.views name)))
+outcome_in w (commands.Drop name) = unless_due (drop_due w name) w (gives (reply_bytes Plain) (with_tables w (without_view w.store.views name)))
 outcome_in w commands.Struct = gives (lines_text (structures w.store.views)) w
 -- the reply to `add` is the place of the row; the replies to `insert` and `remove` are the sizes after them
 outcome_in w (commands.Add route literals) =
@@ -105,15 +137,38 @@ outcome_in w (commands.Set route row prop literal) =
 outcome_in w (commands.Remove route place rows) =
     unless_due (remove_due w.store.views route place rows) w
     (gives (reply_bytes (Count (size_named w.store.views route - rows))) (with_tables w (removed w.store.views route place rows)))
-outcome_in w (commands.Size route) = unless_due (by_rows w.store.views route) w (gives (reply_bytes (Count (size_named w.store.views route))) w)
-outcome_in w (commands.Show route) = unless_due (by_rows w.store.views route) w (gives (lines_text (map row_text (rows_named w.store.views route))) w)
+outcome_in w (commands.Size e) = told (size_due (names_in w) (query_of e)) w (λ size. gives (reply_bytes (Count size)) w)
+outcome_in w (commands.Show e) = told (rows_due (names_in w) (query_of e)) w (λ rows. gives (lines_text rows) w)
+outcome_in w (commands.Find e start criteria) =
+    told (find_due (names_in w) (query_of e) start criteria) w (λ place. gives (reply_bytes (place_reply place)) w)
+outcome_in w (commands.Search e criteria) =
+    told (search_due (names_in w) (query_of e) criteria) w (λ place. gives (reply_bytes (Count place)) w)
+outcome_in w (commands.Locate e criteria) =
+    told (locate_due (names_in w) (query_of e) criteria) w (λ at. gives (reply_bytes (located_reply at)) w)
+-- the reply to `dup` is the number of rows
+outcome_in w (commands.Dup name e) =
+    told (answer (names_in w) (query_of e)) w (λ t.
+    unless_due (new_name_due w name (length w.snapshots) max_snapshots) w (gives (reply_bytes (Count (length t.rows))) (with_snapshot w name t)))
+outcome_in w (commands.Undup name) =
+    unless_due (undup_due w name) w (gives (reply_bytes Plain) (record w { snapshots = without_kept w.snapshots name }))
+outcome_in w (commands.Cursor name target) = set_on (standing_of w.store.views w.snapshots target) w name target
+outcome_in w (commands.Uncursor name) =
+    unless_due (uncursor_due w name) w (gives (reply_bytes Plain) (record w { cursors = without_cursor w.cursors name }))
+outcome_in w (commands.Next name) =
+    told (next_due w.store.views w.snapshots w.cursors name) w (λ place. gives (reply_bytes (Count place)) (moved_in w name place))
+outcome_in w (commands.Prev name) =
+    told (previous_due w.store.views w.snapshots w.cursors name) w (λ place. gives (reply_bytes (Count place)) (moved_in w name place))
+outcome_in w (commands.Row name) =
+    told (row_due w.store.views w.snapshots w.cursors name) w (λ text. gives (reply_line (codes "ok " ++ text)) w)
 outcome_in w (commands.Commit note) = unless_due (commit_due w.store) w (commits note)
 outcome_in w commands.Log = gives (lines_text (note_texts w.store.kept.notes)) w
-outcome_in w commands.Rollback = gives (reply_bytes (Rollback w.store.kept.number)) (with_store w (rolled_back w.store))
+outcome_in w commands.Rollback = gives (reply_bytes (Rollback w.store.kept.number)) (without_cursors (with_store w (rolled_back w.store)))
 outcome_in w commands.Reopen = reopens
 outcome_in w commands.Revert = unless_due (revert_due w.store) w reverts
 outcome_in w commands.Space = gives (reply_bytes (Space (taken w.store))) w
 outcome_in w commands.Quit = gives (reply_bytes Quit) w
+-- no line reads as one of the others yet
+outcome_in w _ = gives [] w
 
 -- what a session that is shut answers as any other does
 abbrev pub goes_when_shut : Command → Bool
@@ -133,9 +188,15 @@ takes_memory commands.Space = false
 takes_memory commands.Quit = false
 takes_memory _ = true
 
--- a command that reads or writes the disk
-abbrev pub reaches_disk : Command → Bool
-reaches_disk (commands.Commit note) = true
-reaches_disk commands.Reopen = true
-reaches_disk commands.Revert = true
-reaches_disk _ = false
+-- how a command comes to the disk: not at all, or it writes, opens or reads it
+pub data Reach : Type 0 where
+  off_disk : Reach
+  writes_disk : Reach
+  opens_disk : Reach
+  reads_disk : Reach
+
+abbrev pub reach_of : Command → Reach
+reach_of (commands.Commit note) = writes_disk
+reach_of commands.Reopen = opens_disk
+reach_of commands.Revert = reads_disk
+reach_of _ = off_disk

@@ -6,7 +6,9 @@ pub mod Fitting
 pub mod Going
 pub mod Lines
 pub mod Moments
+pub mod Naming
 pub mod Planning
+pub mod Questions
 pub mod Refusals
 pub mod Saying
 pub mod Starting

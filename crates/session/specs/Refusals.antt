@@ -1,10 +1,10 @@
 -- Refusals: which one a command is due, if any. Where several stand together, the first in this order is due: the name, the properties,
 -- the kinds, the rows and places, the limits. A refused command changes nothing.
-use Rattle.std.specs.Prelude.{◌≡◌, ◌⊎◌, ℕ, ◌+◌, Bool, ◌&&◌, ◌||◌, if◌then◌else◌, nat_lt, nat_le, List, [], ◌∷◌, length, Option, Some, None, Result, Ok, Err, MatchResult}
-use Rattle.std.specs.Option.{option_map, is_some}
+use Rattle.std.specs.Prelude.{◌≡◌, ◌⊎◌, ℕ, ◌+◌, Bool, ◌&&◌, if◌then◌else◌, nat_lt, nat_le, List, [], ◌∷◌, length, Option, Some, None, Result, Ok, Err, MatchResult}
+use Rattle.std.specs.Option.{option_map}
 use Rattle.mk_value.specs.Data.{Datum}
 use Rattle.mk_value.specs.Heading.{Attribute, find}
-use Rattle.mk_value.specs.Limits.{max_rows, max_views}
+use Rattle.mk_value.specs.Limits.{max_rows}
 use Rattle.mk_value.specs.Paths.{Route}
 use Rattle.mk_value.specs.Tables.{domain_at}
 use Rattle.cmd_text.specs.declared.error.CmdError.{CmdError}
@@ -20,7 +20,7 @@ use Rattle.storage.specs.declared.error.RevertError.TheVariants as reverting
 use Rattle.view_store.specs.declared.error.EditError.{EditError}
 use Rattle.view_store.specs.declared.error.EditError.TheVariants as edits
 use Rattle.view_store.specs.Refusals.{look_due, schema_of}
-use Rattle.view_store.specs.Views.{NamedTable, table_of}
+use Rattle.view_store.specs.Views.{NamedTable}
 use Rattle.session.specs.Fitting.{all_fit, all_short, fits, is_short}
 use Rattle.session.specs.Values.{size_named}
 
@@ -134,14 +134,6 @@ set_due root route row prop literal =
 -- `remove`: so many rows from a place on
 abbrev pub remove_due : List NamedTable → Route → ℕ → ℕ → Option Refusal
 remove_due root route place rows = first_of (by_rows root route ∷ rows_refusal (size_named root route) place rows ∷ [])
-
--- `getas`: a view of a name, where it has one already or there is room for one more
-abbrev pub getas_due : List NamedTable → List ℕ → Option Refusal
-getas_due root name = unless (is_some (table_of root name) || nat_lt (length root) max_views) Limit
-
--- `drop`: the view of a name
-abbrev pub drop_due : List NamedTable → List ℕ → Option Refusal
-drop_due root name = unless (is_some (table_of root name)) NoName
 
 -- what was done was due no refusal; what was refused is refused as is due, or for want of memory
 abbrev pub AnswersDue : {T : Type 0} → Option Refusal → Result T Refusal → Type 0

@@ -14,7 +14,7 @@ use Rattle.storage.specs.NewStore.{new_file}
 use Rattle.storage.specs.Stored.{Rests, new_store, opened_store}
 use Rattle.storage.specs.declared.mode.Mode.{Mode}
 use Rattle.storage.specs.declared.mode.Mode.TheVariants.{Read}
-use Rattle.session.specs.World.{World}
+use Rattle.session.specs.World.{World, world_over}
 use Rattle.session.specs.declared.starting.StartError.{StartError}
 use Rattle.session.specs.declared.starting.StartError.TheVariants.{Empty, NotAStore, Damaged, Failed, Memory}
 
@@ -24,13 +24,13 @@ pub record StartsFrom (mode : Mode) (cap : ℕ) (file : List ℕ) (new : State W
   pub slot : ℕ
   pub other : Option Mark
   pub stands : StandsFor file kept
-  pub store : new.world.store ≡ opened_store kept slot other mode cap
+  pub store : new.world ≡ world_over (opened_store kept slot other mode cap)
   pub rests : Rests new.world.store new.disk
   pub same : new.disk.seen ≡ file
 
 -- a store without views was made, and it is on the disk
 pub record StartsAnew (mode : Mode) (cap : ℕ) (new : State World) : Type 0 where
-  pub store : new.world.store ≡ new_store mode cap
+  pub store : new.world ≡ world_over (new_store mode cap)
   pub made : new.disk ≡ settled new_file
   pub rests : Rests new.world.store new.disk
 

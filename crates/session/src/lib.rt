@@ -4,13 +4,15 @@
 //! line changes nothing. What comes of each command is one case of `outcome_of` in the definitions, and one function here; a
 //! further command is a case of both.
 //!
-//! It stands on the commands and replies of `cmd_text`, the store of `storage`, the views of `view_store` and the new structures of
-//! `restructure`. The loop of the crate `lines` cuts the input, calls `answer` and says what it gave.
+//! It stands on the commands and replies of `cmd_text`, the store of `storage`, the views of `view_store`, the new structures of
+//! `restructure`, and the questions, snapshots and cursors of `questions`. The loop of the crate `lines` cuts the input, calls `answer` and says what it gave.
 #![tactic(auto)]
 
+mod asking;
 mod edits;
 mod laws;
 mod looks;
+mod names;
 mod refusals;
 mod replies;
 mod saying;

@@ -1,24 +1,21 @@
-//! Looking at views: their sizes, their rows and their structures.
+//! Looking at views, their sizes and their structures, and at the notes of commits.
 ghost use Rattle.std.specs.Prelude.{◌≡◌, map, length, IfOk, None};
 ghost use Rattle.std.specs.Result.{result_err};
-ghost use Rattle.mk_value.specs.Literals.{row_text};
 ghost use Rattle.cmd_text.specs.Replies.{contents};
 ghost use Rattle.struct_text.specs.Spelling.{spelling};
 ghost use Rattle.dir_codec.specs.Values.{note_of};
 ghost use Rattle.session.specs.Commands.{note_text, note_texts, note_texts as texts_of_notes};
 ghost use Rattle.session.specs.Refusals.{AnswersDue, by_rows};
 ghost use Rattle.session.specs.Structures.{structure_texts as texts_of, structures};
-ghost use Rattle.session.specs.Values.{rows_named, size_named};
+ghost use Rattle.session.specs.Values.{size_named};
 
 use crate::Session;
 use crate::refusals::{of_edit, of_memory};
 use cmd_text::Refusal;
 use dir_codec::Note;
-use mk_value::{
-    Memory, Name, Path, Row, Schema, TableRead, Text, Texts, Value, print_row, print_value,
-};
+use mk_value::{Memory, Name, Path, Schema, TableRead, Text, Texts, Value, print_value};
 use std::alloc::Global;
-use tables::{Shared, Table};
+use tables::Shared;
 
 impl Session {
     /// The number of rows of a view.
@@ -28,17 +25,6 @@ impl Session {
     {
         match self.store.views().size(path) {
             Ok(size) => Ok(size as u64),
-            Err(error) => Err(of_edit(error)),
-        }
-    }
-
-    /// The texts of the rows of a view, in order.
-    pub(crate) fn rows_of(&self, path: &Path) -> Result<Texts, Refusal>
-        ensures due { AnswersDue (by_rows self.now.store.views path.now) result }
-        ensures texts { IfOk result (λ texts. contents texts ≡ map row_text (rows_named self.now.store.views path.now)) }
-    {
-        match self.store.views().table_at(path) {
-            Ok(table) => row_texts(self.alloc, table.table()).map_err(of_memory),
             Err(error) => Err(of_edit(error)),
         }
     }
@@ -84,26 +70,6 @@ fn text_of_note(alloc: Global, note: &Note) -> Result<Text, Memory>
     text.push_integer(note.number)?;
     text.push_str(" ")?;
     print_value(&Value::S(note.text.copy()?), &mut text)?;
-    Ok(text)
-}
-
-/// The texts of the rows of a table, in order. Beside the texts one row at a time takes memory.
-fn row_texts(alloc: Global, table: &Table) -> Result<Texts, Memory>
-    ensures { IfOk result (λ texts. contents texts ≡ map row_text table.now.rows) }
-{
-    let mut texts = Texts::new(alloc);
-    for at in 0..table.len() {
-        let row = table.row(alloc, at)?;
-        texts.push(text_of_row(alloc, &row)?)?;
-    }
-    Ok(texts)
-}
-
-fn text_of_row(alloc: Global, row: &Row) -> Result<Text, Memory>
-    ensures { IfOk result (λ text. text.bytes ≡ row_text row.now) }
-{
-    let mut text = Text::new(alloc);
-    print_row(row, &mut text)?;
     Ok(text)
 }
 

@@ -1,9 +1,11 @@
 //! How what the layers below refuse is told.
 ghost use Rattle.std.specs.Prelude.{◌≡◌};
+ghost use Rattle.session.specs.Questions.{refusal_of_question};
 ghost use Rattle.session.specs.Refusals.{refusal_of_edit, refusal_of_opening, refusal_of_plan, refusal_of_reading, refusal_of_revert};
 
 use cmd_text::{CmdError, Refusal};
 use mk_value::Memory;
+use questions::QuestionError;
 use recovery::OpenError;
 use storage::{PlanError, RevertError};
 use view_store::EditError;
@@ -32,6 +34,22 @@ pub fn of_edit(error: EditError) -> Refusal
         EditError::OutOfRange(size) => Refusal::Range(size),
         EditError::TooMany(_) => Refusal::Limit,
         EditError::Memory => Refusal::Memory,
+    }
+}
+
+/// How it is told that a question has no answer.
+pub fn of_question(error: QuestionError) -> Refusal
+    ensures { result ≡ refusal_of_question error }
+{
+    match error {
+        QuestionError::NoName => Refusal::NoName,
+        QuestionError::Exists => Refusal::Exists,
+        QuestionError::NoProp => Refusal::NoProp,
+        QuestionError::Kind => Refusal::Kind,
+        QuestionError::Range(size) => Refusal::Range(size),
+        QuestionError::Limit => Refusal::Limit,
+        QuestionError::Unsorted => Refusal::Unsorted,
+        QuestionError::Memory => Refusal::Memory,
     }
 }
 

@@ -1,13 +1,16 @@
-//! The reply to what the function of a command gave. Each but one of lines is no longer than a line.
+//! The reply to what the function of a command gave. Each but one of lines or of a row is no longer than a line.
 ghost use Rattle.std.specs.Prelude.{◌≡◌, ◌⊎◌, ◌+◌, ◌≤◌, length, IfOk};
 ghost use Rattle.cmd_text.specs.Replies.{reply_bytes};
 ghost use Rattle.lines.specs.Lines.{max_line};
 ghost use Rattle.session.specs.Answered.{reply_of};
-ghost use Rattle.session.specs.Saying.{HasLines, IsOneLine};
+ghost use Rattle.session.specs.Questions.{located_reply, place_reply, refusal_of_question};
+ghost use Rattle.session.specs.Saying.{IsOneLine, IsUnbounded};
 
+use crate::refusals::of_question;
 use crate::saying::{is_short_number, is_short_refusal};
 use cmd_text::{Refusal, Reply, Space};
 use mk_value::{Text, Texts};
+use questions::{Located, QuestionError};
 
 /// Nothing but that it was done, or the refusal.
 pub fn done(answer: Result<(), Refusal>) -> Reply
@@ -46,7 +49,7 @@ pub fn text(answer: Result<Text, Refusal>) -> Reply
 /// Lines, or the refusal.
 pub fn lines(answer: Result<Texts, Refusal>) -> Reply
     ensures value { result ≡ reply_of (λ texts. Reply.Lines texts) answer }
-    ensures short { HasLines result ⊎ (length (reply_bytes result) ≤ max_line) }
+    ensures short { IsUnbounded result ⊎ (length (reply_bytes result) ≤ max_line) }
 {
     match answer {
         Ok(texts) => Reply::Lines(texts),
@@ -54,12 +57,46 @@ pub fn lines(answer: Result<Texts, Refusal>) -> Reply
     }
 }
 
-fn counted(number: u64) -> Reply
+/// A number.
+pub fn counted(number: u64) -> Reply
     ensures value { result ≡ Reply.Count number }
+    ensures one_line { IsOneLine result }
     ensures short { length (reply_bytes result) ≤ max_line }
 {
     is_short_number(number);
     Reply::Count(number)
+}
+
+/// The place of a row, if there is one.
+pub fn place(place: Option<u64>) -> Reply
+    ensures value { result ≡ place_reply place }
+    ensures one_line { IsOneLine result }
+    ensures short { length (reply_bytes result) ≤ max_line }
+{
+    match place {
+        Some(place) => counted(place),
+        None => Reply::NotFound,
+    }
+}
+
+/// A place, and a number of rows.
+pub fn located(at: Located) -> Reply
+    ensures value { result ≡ located_reply at }
+    ensures one_line { IsOneLine result }
+    ensures short { length (reply_bytes result) ≤ max_line }
+{
+    is_short_number(at.position);
+    is_short_number(at.count);
+    Reply::Pair(at.position, at.count)
+}
+
+/// Why a question has no answer.
+pub fn unanswered(error: QuestionError) -> Reply
+    ensures value { result ≡ Reply.Refused (refusal_of_question error) }
+    ensures one_line { IsOneLine result }
+    ensures short { length (reply_bytes result) ≤ max_line }
+{
+    refused(of_question(error))
 }
 
 /// The number of the commit that was made.

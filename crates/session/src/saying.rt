@@ -1,7 +1,7 @@
 //! Writing replies into the room that was made for them.
 ghost use Rattle.std.specs.Prelude.{◌≡◌, ◌⊎◌, ◌≤◌, ◌++◌, decimal, length, IsOk, MatchOption, OnErr, OnOk};
 ghost use Rattle.cmd_text.specs.Replies.{contents, lines_text, reply_bytes};
-ghost use Rattle.session.specs.Saying.{FitsIn, HasLines, KeepsRoom};
+ghost use Rattle.session.specs.Saying.{FitsIn, IsUnbounded, KeepsRoom};
 
 use cmd_text::{Refusal, Reply, reply_text};
 use mk_value::{Memory, Text, Texts};
@@ -51,12 +51,12 @@ pub fn is_short_number(number: u64)
     ensures { length (decimal number) ≤ 20 }
 {}
 
-/// Appends a reply. Only one of lines may want memory; then the room is as it was.
+/// Appends a reply. Only one of lines or of a row may want memory; then the room is as it was.
 pub fn say(reply: &Reply, out: &mut Text) -> Result<(), Memory>
     requires { FitsIn out.old.spare reply.now }
     ensures ok { OnOk result (out.new.bytes ≡ out.old.bytes ++ reply_bytes reply.now) }
     ensures err { OnErr result (out.new.bytes ≡ out.old.bytes) }
-    ensures short { HasLines reply.now ⊎ IsOk result }
+    ensures short { IsUnbounded reply.now ⊎ IsOk result }
     ensures room { KeepsRoom out.old out.new }
 {
     make_room(reply, out)?;
@@ -68,11 +68,15 @@ fn make_room(reply: &Reply, out: &mut Text) -> Result<(), Memory>
     requires { FitsIn out.old.spare reply.now }
     ensures ok { OnOk result (length (reply_bytes reply.now) ≤ out.new.spare) }
     ensures same { out.new.bytes ≡ out.old.bytes }
-    ensures short { HasLines reply.now ⊎ IsOk result }
+    ensures short { IsUnbounded reply.now ⊎ IsOk result }
     ensures spare { out.old.spare ≤ out.new.spare }
 {
     match reply {
         Reply::Lines(lines) => match lines_size(lines) {
+            Some(size) => out.reserve(size),
+            None => Err(Memory),
+        },
+        Reply::Row(text) => match text.len().checked_add(4) {
             Some(size) => out.reserve(size),
             None => Err(Memory),
         },

@@ -12,10 +12,11 @@ ghost use Rattle.recovery.specs.Commits.{IsCommit};
 ghost use Rattle.storage.specs.Stored.{is_shut};
 ghost use Rattle.session.specs.Answered.{Answered};
 ghost use Rattle.session.specs.Carried.{Carried, ChangesNothing};
-ghost use Rattle.session.specs.Commands.{goes_when_shut, reaches_disk, taken, takes_memory};
+ghost use Rattle.session.specs.Commands.{goes_when_shut, off_disk, reach_of, taken, takes_memory};
 ghost use Rattle.session.specs.Lines.{IsOfLine, is_blank, is_quit};
 ghost use Rattle.session.specs.Going.{GoesOn, GoesOnLine};
-ghost use Rattle.session.specs.Saying.{FitsIn, HasLines, KeepsRoom};
+ghost use Rattle.session.specs.Saying.{FitsIn, IsUnbounded, KeepsRoom};
+ghost use Rattle.session.specs.World.{world_over};
 ghost use Rattle.session.specs.Step.{Step, machine};
 
 use crate::refusals::of_reading;
@@ -26,14 +27,17 @@ use cmd_text::{Command, Refusal, Reply, Space, read_command};
 use host_io::Host;
 use lines::Flow;
 use mk_value::{Memory, Text};
+use questions::{Cursors, Snapshots};
 use std::alloc::Global;
 use std::marker::Model;
 use storage::Store;
 
-/// A session: a store, whose views its lines edit and whose commits they make.
+/// A session: a store, whose views its lines edit and whose commits they make, and the snapshots and cursors beside its views.
 #[derive(Drop)]
 pub struct Session {
     pub(crate) store: Store,
+    pub(crate) snapshots: Snapshots,
+    pub(crate) cursors: Cursors,
     pub(crate) alloc: Global,
 }
 
@@ -44,15 +48,20 @@ impl Model for Session {
 
     ghost coded = { world_code };
 
-    ghost view = { λ s. record { store = s.store } };
+    ghost view = { λ s. record { store = s.store; snapshots = s.snapshots; cursors = s.cursors } };
 }
 
 impl Session {
-    /// A session over a store.
+    /// A session over a store, with neither snapshots nor cursors.
     pub fn over(alloc: Global, store: Store) -> Session
-        ensures { result.store ≡ store }
+        ensures { result ≡ world_over store }
     {
-        Session { store, alloc }
+        Session {
+            store,
+            snapshots: Snapshots::new(alloc),
+            cursors: Cursors::new(alloc),
+            alloc,
+        }
     }
 
     /// The number of the commit that the file stands for.
@@ -73,9 +82,9 @@ impl Session {
         requires ready { H.tells → IsReady machine (state_of self.old (H.outside host.old)) }
         ensures carried { Carried H.tells command.now (state_of self.old (H.outside host.old)) (reply_bytes result) (state_of self.new (H.outside host.new)) }
 
-        // The reply fits the room of a reply, or it is one of lines, and nothing changed before it is said.
+        // The reply fits the room of a reply, or it is one of lines or of a row, and nothing changed before it is said.
         ensures fits { FitsIn (max_line + 1) result }
-        ensures unsaid { HasLines result → ChangesNothing H.tells command.now (state_of self.old (H.outside host.old)) (state_of self.new (H.outside host.new)) }
+        ensures unsaid { IsUnbounded result → ChangesNothing H.tells command.now (state_of self.old (H.outside host.old)) (state_of self.new (H.outside host.new)) }
         ensures silent { result ≡ Reply.Silent → command.now ≡ commands.Nothing }
 
         ensures counts { CountsFaults ⊥ (H.outside host.old) (H.outside host.new) }
@@ -102,7 +111,7 @@ impl Session {
     /// Carries a command out that reaches no disk, and gives the reply to it.
     fn carry_out(&mut self, command: &Command) -> Reply
         requires line { IsOfLine command.now }
-        requires no_disk { reaches_disk command.now ≡ false }
+        requires no_disk { reach_of command.now ≡ off_disk }
         ensures { Answered command.now self.old result self.new }
     {
         match command {
@@ -118,13 +127,28 @@ impl Session {
                 replies::done(self.set(path, *row, prop, literal))
             }
             Command::Remove(path, place, rows) => replies::count(self.remove(path, *place, *rows)),
-            Command::Size(path) => replies::count(self.size_of(path)),
-            Command::Show(path) => replies::lines(self.rows_of(path)),
+            Command::Size(expr) => self.size(expr),
+            Command::Show(expr) => self.rows(expr),
+            Command::Find(expr, start, criteria) => self.find(expr, *start, criteria),
+            Command::Search(expr, criteria) => self.search(expr, criteria),
+            Command::Locate(expr, criteria) => self.locate(expr, criteria),
+            Command::Dup(name, expr) => self.keep(name, expr),
+            Command::Undup(name) => replies::done(self.give_up(name)),
+            Command::Cursor(name, target) => self.set_cursor(name, target),
+            Command::Uncursor(name) => replies::done(self.remove_cursor(name)),
+            Command::Next(name) => self.next(name),
+            Command::Prev(name) => self.previous(name),
+            Command::Row(name) => self.row(name),
             Command::Log => replies::lines(self.notes()),
             Command::Rollback => self.rollback(),
             Command::Space => replies::taken(self.taken()),
             Command::Quit => Reply::Quit,
             Command::Commit(_) | Command::Reopen | Command::Revert => unreachable!(),
+            Command::Watch(..)
+            | Command::Unwatch(_)
+            | Command::Hash(..)
+            | Command::Ordered(..)
+            | Command::Unmap(_) => unreachable!(),
         }
     }
 
@@ -133,6 +157,7 @@ impl Session {
         ensures { Answered commands.Rollback self.old result self.new }
     {
         self.store.rollback();
+        self.cursors.clear();
         replies::rolled_back(self.store.number())
     }
 
@@ -163,7 +188,10 @@ impl Session {
         ensures goes { H.tells → GoesOnLine line.now (state_of self.old (H.outside host.old)) (state_of self.new (H.outside host.new)) (H.outside host.old) (H.outside host.new) }
     {
         match read_command(self.alloc, line) {
-            Ok(command) => self.answer_command(host, &command, out),
+            Ok(command) => {
+                self.answer_command(host, &command, out);
+                drop(command);
+            }
             Err(error) => refuse(of_reading(error), out),
         }
     }

@@ -7,6 +7,7 @@ ghost use Rattle.lines.specs.Served.{state_of};
 ghost use Rattle.recovery.specs.Commits.{IsCommit};
 ghost use Rattle.session.specs.Starting.{IsStartRefusal, StartsAs, cause_of_opening};
 ghost use Rattle.session.specs.Step.{machine};
+ghost use Rattle.session.specs.World.{world_over};
 ghost use Rattle.session.specs.declared.starting.StartError.TheVariants as start_error;
 ghost use Rattle.storage.specs.declared.mode.Mode.TheVariants as modes;
 
@@ -124,7 +125,7 @@ fn open_store<H: Host>(
 
 /// A session over a store, whose commit is whole.
 fn session_over(alloc: Global, store: Store) -> Session
-    ensures store { result.store ≡ store }
+    ensures store { result ≡ world_over store }
     ensures whole { IsCommit store.kept }
 {
     let _number = store.number();

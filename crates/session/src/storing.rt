@@ -51,7 +51,7 @@ impl Session {
         }
     }
 
-    /// Opens the file anew. Where the session is shut, what was pending is settled first.
+    /// Opens the file anew. Where the session is shut, what was pending is settled first. No cursor stands on any more.
     pub(crate) fn reopen<H: Host>(&mut self, host: &mut H) -> Reply
         requires ready { H.tells → IsReady machine (state_of self.old (H.outside host.old)) }
         ensures carried { Carried H.tells commands.Reopen (state_of self.old (H.outside host.old)) (reply_bytes result) (state_of self.new (H.outside host.new)) }
@@ -60,13 +60,15 @@ impl Session {
         ensures counts { CountsFaults (result ≡ Reply.Refused Refusal.Disk) (H.outside host.old) (H.outside host.new) }
         ensures goes { H.tells → GoesOn commands.Reopen (state_of self.old (H.outside host.old)) (state_of self.new (H.outside host.new)) (H.outside host.old) (H.outside host.new) }
     {
-        match self.store.reopen(self.alloc, host) {
-            Ok(number) => replies::reopened(number),
-            Err(error) => replies::refused(of_opening(error)),
-        }
+        let number = match self.store.reopen(self.alloc, host) {
+            Ok(number) => number,
+            Err(error) => return replies::refused(of_opening(error)),
+        };
+        self.cursors.clear();
+        replies::reopened(number)
     }
 
-    /// Brings the views of the commit before back.
+    /// Brings the views of the commit before back. No cursor stands on any more.
     pub(crate) fn revert<H: Host>(&mut self, host: &mut H) -> Reply
         requires open { is_shut self.old.store ≡ false }
         requires ready { H.tells → IsReady machine (state_of self.old (H.outside host.old)) }
@@ -79,9 +81,11 @@ impl Session {
         if self.store.before().is_none() {
             return replies::refused(Refusal::NoName);
         }
-        match self.store.revert(self.alloc, host) {
-            Ok(number) => replies::reverted(number),
-            Err(error) => replies::refused(of_revert(error)),
-        }
+        let number = match self.store.revert(self.alloc, host) {
+            Ok(number) => number,
+            Err(error) => return replies::refused(of_revert(error)),
+        };
+        self.cursors.clear();
+        replies::reverted(number)
     }
 }

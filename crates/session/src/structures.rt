@@ -8,7 +8,8 @@ ghost use Rattle.view_store.specs.Rests.{MayReplace};
 ghost use Rattle.view_store.specs.Views.{table_of, without_view, with_view};
 ghost use Rattle.tables.specs.Rests.{RestsOn};
 ghost use Rattle.tables.specs.Tables.{table_without_homes};
-ghost use Rattle.session.specs.Refusals.{AnswersDue, drop_due, getas_due};
+ghost use Rattle.session.specs.Naming.{declare_due, drop_due, getas_due, room_due};
+ghost use Rattle.session.specs.Refusals.{AnswersDue};
 ghost use Rattle.session.specs.Structures.{structured};
 ghost use Rattle.session.specs.World.{with_tables};
 
@@ -17,6 +18,7 @@ use crate::looks::structure_text;
 use crate::refusals::{of_edit, of_memory};
 use cmd_text::Refusal;
 use mk_value::{MAX_VIEWS, Name, Schema, TableRead, Text};
+use questions::{Standing, has_cursor_on};
 use restructure::restructure;
 use std::alloc::Global;
 use tables::{Table, empty_table};
@@ -26,15 +28,18 @@ impl Session {
     ///
     /// # Errors
     ///
-    /// As of `declare`.
+    /// `Exists` where a snapshot or a cursor has the name. Else as of `declare`.
     pub(crate) fn getas(&mut self, name: &Name, schema: &Schema) -> Result<Text, Refusal>
         requires { length (spelling name.now schema.now) ≤ max_structure }
-        ensures due { AnswersDue (getas_due self.old.store.views name.now) result }
+        ensures due { AnswersDue (getas_due self.old name.now schema.now) result }
         ensures text { IfOk result (λ text. text.bytes ≡ spelling name.now schema.now) }
         ensures ok { OnOk result (self.new ≡ with_tables self.old (structured self.old.store.views name.now schema.now)) }
         ensures err { OnErr result (self.new ≡ self.old) }
     {
         let _properties = schema.len();
+        if self.is_beside_views(name) {
+            return Err(Refusal::Exists);
+        }
         let text = structure_text(self.alloc, name, schema).map_err(of_memory)?;
         self.declare(name, schema)?;
         Ok(text)
@@ -45,10 +50,11 @@ impl Session {
     ///
     /// # Errors
     ///
-    /// `Limit` where there are as many views as there may be, and none of the name. `Memory`.
+    /// `Limit` where there are as many views as there may be, and none of the name; `InUse` where a cursor stands on the view, and its
+    /// structure would change. `Memory`.
     fn declare(&mut self, name: &Name, schema: &Schema) -> Result<(), Refusal>
         requires { structure_length name.now schema.now ≤ max_structure }
-        ensures due { AnswersDue (getas_due self.old.store.views name.now) result }
+        ensures due { AnswersDue (declare_due self.old name.now schema.now) result }
         ensures ok { OnOk result (self.new ≡ with_tables self.old (structured self.old.store.views name.now schema.now)) }
         ensures err { OnErr result (self.new ≡ self.old) }
     {
@@ -60,6 +66,9 @@ impl Session {
         if known.schema().is_same(schema) {
             return Ok(());
         }
+        if has_cursor_on(self.cursors.as_slice(), Standing::View, name) {
+            return Err(Refusal::InUse);
+        }
         let table = restructure_table(self.alloc, known, schema)?;
         self.put_view(name, table)
     }
@@ -68,7 +77,7 @@ impl Session {
     fn add_view(&mut self, name: &Name, schema: &Schema) -> Result<(), Refusal>
         requires absent { table_of self.old.store.views name.now ≡ None }
         requires short { structure_length name.now schema.now ≤ max_structure }
-        ensures due { AnswersDue (getas_due self.old.store.views name.now) result }
+        ensures due { AnswersDue (room_due self.old.store.views name.now) result }
         ensures ok { OnOk result (self.new ≡ with_tables self.old (with_view self.old.store.views name.now (table_without_homes schema.now []))) }
         ensures err { OnErr result (self.new ≡ self.old) }
     {
@@ -95,12 +104,18 @@ impl Session {
     ///
     /// # Errors
     ///
-    /// `NoName` where there is none.
+    /// `NoName` where there is none; `InUse` where a cursor stands on it.
     pub(crate) fn drop_view(&mut self, name: &Name) -> Result<(), Refusal>
-        ensures due { AnswersDue (drop_due self.old.store.views name.now) result }
+        ensures due { AnswersDue (drop_due self.old name.now) result }
         ensures ok { OnOk result (self.new ≡ with_tables self.old (without_view self.old.store.views name.now)) }
         ensures err { OnErr result (self.new ≡ self.old) }
     {
+        if self.store.views().table(name).is_none() {
+            return Err(Refusal::NoName);
+        }
+        if has_cursor_on(self.cursors.as_slice(), Standing::View, name) {
+            return Err(Refusal::InUse);
+        }
         self.store.drop_view(name).map_err(of_edit)
     }
 }

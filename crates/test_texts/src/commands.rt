@@ -1,7 +1,8 @@
 //! Command lines, read or refused, and replies.
 use crate::shown;
 use cmd_text::{CmdError, Command, Note, Refusal, Reply, Space, read_command, reply_text};
-use mk_value::{Literals, Path, Text, Texts};
+use expr_text::Crits;
+use mk_value::{Literals, Name, Path, Text, Texts};
 use std::alloc::Global;
 use std::process::Abort;
 use std::test::Fail;
@@ -9,7 +10,11 @@ use std::test::Fail;
 /// What a line reads as, or how it is refused.
 fn reading(alloc: Global, line: &[u8]) -> Result<String, Fail> {
     match read_command(alloc, line) {
-        Ok(command) => described(alloc, &command),
+        Ok(command) => {
+            let shown = described(alloc, &command);
+            drop(command);
+            shown
+        }
         Err(CmdError::Syntax(place)) => Ok(format!(in alloc; "syntax {place}")?),
         Err(CmdError::Floating(place)) => Ok(format!(in alloc; "floating {place}")?),
         Err(CmdError::Repeated) => Ok(String::from_str(alloc, "repeated")?),
@@ -30,17 +35,75 @@ fn described(alloc: Global, command: &Command) -> Result<String, Fail> {
             Ok(format!(in alloc; "drop {name}")?)
         }
         Command::Struct => Ok(String::from_str(alloc, "struct")?),
-        Command::Size(path) => {
-            let path = shown_path(alloc, path)?;
-            Ok(format!(in alloc; "size {path}")?)
-        }
-        Command::Show(path) => {
-            let path = shown_path(alloc, path)?;
-            Ok(format!(in alloc; "show {path}")?)
-        }
         Command::Quit => Ok(String::from_str(alloc, "quit")?),
         _ => shown_of_store(alloc, command),
     }
+}
+
+/// What is asked of an expression, and any other command.
+fn shown_question(alloc: Global, command: &Command) -> Result<String, Fail> {
+    match command {
+        Command::Size(expr) => Ok(format!(in alloc; "size {}", shown::expression(alloc, expr)?)?),
+        Command::Show(expr) => Ok(format!(in alloc; "show {}", shown::expression(alloc, expr)?)?),
+        Command::Find(expr, start, criteria) => {
+            let (expr, criteria) = (
+                shown::expression(alloc, expr)?,
+                shown_criteria(alloc, criteria)?,
+            );
+            Ok(format!(in alloc; "find {expr} {start}{criteria}")?)
+        }
+        Command::Search(expr, criteria) => {
+            let (expr, criteria) = (
+                shown::expression(alloc, expr)?,
+                shown_criteria(alloc, criteria)?,
+            );
+            Ok(format!(in alloc; "search {expr}{criteria}")?)
+        }
+        Command::Locate(expr, criteria) => {
+            let (expr, criteria) = (
+                shown::expression(alloc, expr)?,
+                shown_criteria(alloc, criteria)?,
+            );
+            Ok(format!(in alloc; "locate {expr}{criteria}")?)
+        }
+        _ => shown_naming(alloc, command),
+    }
+}
+
+/// What is asked of snapshots and cursors, and any other command.
+fn shown_naming(alloc: Global, command: &Command) -> Result<String, Fail> {
+    match command {
+        Command::Dup(name, expr) => {
+            let (name, expr) = (name.as_str(), shown::expression(alloc, expr)?);
+            Ok(format!(in alloc; "dup {name} {expr}")?)
+        }
+        Command::Cursor(name, target) => {
+            let (name, target) = (name.as_str(), target.as_str());
+            Ok(format!(in alloc; "cursor {name} {target}")?)
+        }
+        Command::Undup(name) => named(alloc, "undup", name),
+        Command::Uncursor(name) => named(alloc, "uncursor", name),
+        Command::Next(name) => named(alloc, "next", name),
+        Command::Prev(name) => named(alloc, "prev", name),
+        Command::Row(name) => named(alloc, "row", name),
+        _ => shown_edit(alloc, command),
+    }
+}
+
+/// A word and a name.
+fn named(alloc: Global, word: &str, name: &Name) -> Result<String, Fail> {
+    let name = name.as_str();
+    Ok(format!(in alloc; "{word} {name}")?)
+}
+
+fn shown_criteria(alloc: Global, criteria: &Crits) -> Result<String, Fail> {
+    let mut out = String::new(alloc);
+    for criterion in criteria.as_slice() {
+        let prop = criterion.prop.as_str();
+        let value = shown::literal(alloc, &criterion.value)?;
+        out.push_str(format!(in alloc; " {prop}={value}")?.as_str())?;
+    }
+    Ok(out)
 }
 
 /// What is asked of the store, and any other command.
@@ -55,7 +118,7 @@ fn shown_of_store(alloc: Global, command: &Command) -> Result<String, Fail> {
         Command::Reopen => Ok(String::from_str(alloc, "reopen")?),
         Command::Revert => Ok(String::from_str(alloc, "revert")?),
         Command::Space => Ok(String::from_str(alloc, "space")?),
-        _ => shown_edit(alloc, command),
+        _ => shown_question(alloc, command),
     }
 }
 
@@ -269,7 +332,91 @@ fn values_are_literals_side_by_side(rt: HostRuntime) -> Result<(), Fail> {
     all_read(&rt, rt.alloc(), &VALUES)
 }
 
-const NAMES: [(&str, &str); 6] = [
+const QUESTIONS: [(&str, &str); 14] = [
+    ("show sort(people,-age)", "show sort(people,-age)"),
+    ("size join( l , r , k )", "size join(l,r,k)"),
+    ("find people 1 age=31", "find people 1 age=31"),
+    (
+        "find select(t,a=1) 0 b=\"x\",c=x\"00ff\",d={(1)}",
+        "find select(t,a=1) 0 b='x' c=[0, 255] d=rows 1",
+    ),
+    ("search sort(t,a) a=-7", "search sort(t,a) a=-7"),
+    ("locate sort(t) a=1,b=2", "locate sort(t) a=1 b=2"),
+    ("dup d people", "dup d people"),
+    ("dup dup unique(t)", "dup dup unique(t)"),
+    ("undup d", "undup d"),
+    ("cursor c people", "cursor c people"),
+    (" uncursor  c ", "uncursor c"),
+    ("next c", "next c"),
+    ("prev c", "prev c"),
+    ("row row", "row row"),
+];
+
+#[test]
+fn each_question_reads(rt: HostRuntime) -> Result<(), Fail> {
+    all_read(&rt, rt.alloc(), &QUESTIONS)
+}
+
+const NO_QUESTIONS: [(&str, &str); 22] = [
+    ("size", "syntax 4"),
+    ("size sort(t", "syntax 11"),
+    ("size sort(t))", "syntax 12"),
+    ("show t,a", "syntax 6"),
+    ("find t a=1", "syntax 7"),
+    ("find t 1", "syntax 8"),
+    ("find t 1 a", "syntax 10"),
+    ("find t 1 a=", "syntax 11"),
+    ("find t 1 a=b", "syntax 11"),
+    ("find t 1 a=1 b=2", "syntax 13"),
+    ("find t 1 a=1,", "syntax 13"),
+    ("search t", "syntax 8"),
+    ("locate t -a", "syntax 9"),
+    ("dup d", "syntax 5"),
+    ("dup 5 t", "syntax 4"),
+    ("dup d t u", "syntax 8"),
+    ("cursor c t/0/a", "syntax 10"),
+    ("cursor c", "syntax 8"),
+    ("next c 1", "syntax 7"),
+    ("watch s sort(t)", "syntax 0"),
+    ("hash t 1", "syntax 0"),
+    ("unmap %", "syntax 6"),
+];
+
+#[test]
+fn what_is_no_question(rt: HostRuntime) -> Result<(), Fail> {
+    all_read(&rt, rt.alloc(), &NO_QUESTIONS)
+}
+
+/// What a question reads as whose expression has so many operators around a path, with this behind the path.
+fn nested(alloc: Global, operators: usize, behind: &str) -> Result<String, Fail> {
+    let (front, back) = (
+        repeated(alloc, "sort(", operators)?,
+        repeated(alloc, ")", operators)?,
+    );
+    reading(
+        alloc,
+        format!(in alloc; "size {front}t{behind}{back}")?.as_bytes(),
+    )
+}
+
+#[test]
+fn an_expression_is_sixteen_deep_at_most(rt: HostRuntime) -> Result<(), Fail> {
+    let alloc = rt.alloc();
+    let (front, back) = (repeated(alloc, "sort(", 15)?, repeated(alloc, ")", 15)?);
+    let deepest = format!(in alloc; "size {front}t{back}")?;
+    assert_eq!(rt; nested(alloc, 15, "")?.as_str(), deepest.as_str());
+    assert_eq!(rt; nested(alloc, 15, " u")?.as_str(), "syntax 82");
+    assert_eq!(rt; nested(alloc, 16, "")?.as_str(), "too large");
+    assert_eq!(rt; nested(alloc, 16, " %")?.as_str(), "too large");
+    assert_eq!(rt;
+        reading(alloc, format!(in alloc; "size t u {deepest}")?.as_bytes())?.as_str(),
+        "syntax 7"
+    );
+    Ok(())
+}
+
+const NAMES: [(&str, &str); 7] = [
+    ("show select", "show select"),
     ("size quit", "size quit"),
     ("drop commit", "drop commit"),
     ("add log/0/revert \"space\"", "add log/0/revert 'space'"),
@@ -311,7 +458,7 @@ const TOKENS: [(&str, &str); 14] = [
     ("add t {()}", "syntax 8"),
     ("set t 0 1 a", "syntax 8"),
     ("set t 0 a 1 2", "syntax 12"),
-    ("show sort(people)", "syntax 9"),
+    ("show people)", "syntax 11"),
     ("1", "syntax 0"),
 ];
 

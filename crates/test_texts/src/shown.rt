@@ -1,5 +1,6 @@
-//! Literals as tests show them.
-use mk_value::Literal;
+//! Literals and expressions as tests show them.
+use expr_text::{Expr, print_expr};
+use mk_value::{Literal, Text};
 use std::alloc::Global;
 use std::test::Fail;
 
@@ -20,4 +21,11 @@ pub fn literal(alloc: Global, value: &Literal) -> Result<String, Fail> {
             Ok(format!(in alloc; "rows {count}")?)
         }
     }
+}
+
+/// The one spelling of an expression.
+pub fn expression(alloc: Global, expr: &Expr) -> Result<String, Fail> {
+    let mut out = Text::new(alloc);
+    print_expr(expr, &mut out)?;
+    Ok(String::from_str(alloc, out.as_str())?)
 }

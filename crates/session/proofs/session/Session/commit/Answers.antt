@@ -6,7 +6,7 @@ use Rattle.storage.specs.Stored.{is_shut}
 use Rattle.session.specs.Carried.{Carried}
 use Rattle.session.specs.Going.{GoesOn}
 use Rattle.session.specs.Planning.{IsPlannedNext}
-use Rattle.session.specs.World.{World}
+use Rattle.session.specs.World.{World, with_store}
 use Rattle.session.proofs.OnDisk.{commit_failed, commit_goes, commit_goes_wrong, commit_made}
 use Rattle.session.proofs.session.Session.commit.Goals.{in-Ok-carry, in-Err-carry}
 use Rattle.session.proofs.session.Session.commit.Goals as goal
@@ -15,8 +15,8 @@ pub returns-clause-carried : goal.returns-clause-carried
 returns-clause-carried g c =
     let from = g.H.Disk.outside c.args.host.now in
     let to = g.H.Disk.outside c.carry.new.disk in
-    let inside : World = record { store = c.self.inside.store } in
-    let new : World = record { store = c.carry.new.self } in
+    let inside : World = record { store = c.self.inside.store; snapshots = c.self.inside.snapshots; cursors = c.self.inside.cursors } in
+    let new : World = with_store inside c.carry.new.self in
     let note = c.args.note.now in
     let reply = reply_bytes c.match-carry.result in
     let unshut : is_shut inside.store ≡ false = subst (λ (w : World). is_shut w.store ≡ false) (sym c.self.view_is) c.requires.«open» in
@@ -26,19 +26,19 @@ returns-clause-carried g c =
       | in-Ok-carry w ↦
           let e = w.in-Ok-carry.ensures in
           commit_made g.H.Disk.tells inside note reply unshut c.in-Ok.plan planned new from to e.places e.counts.disk.later w.in-Ok-carry.number e.number
-          (ap reply_bytes (w.result-is ∙ w.committed.ensures.value)) e.ok e.commits
+          (ap reply_bytes (w.result-is ∙ w.committed.ensures.value)) (ap (with_store inside) e.ok) e.commits
       | in-Err-carry w ↦
           let e = w.in-Err-carry.ensures in
           commit_failed g.H.Disk.tells inside note reply unshut c.in-Ok.plan planned new from to e.places e.counts.disk.later
-          (ap reply_bytes (w.result-is ∙ w.refused-in-Err-carry.ensures.value)) e.err (e.counts.disk.cause refl)
+          (ap reply_bytes (w.result-is ∙ w.refused-in-Err-carry.ensures.value)) (ap (with_store inside) e.err) (e.counts.disk.cause refl)
     ])
 
 pub returns-clause-goes : goal.returns-clause-goes
 returns-clause-goes g c = λ tells.
     let from = g.H.Disk.outside c.args.host.now in
     let to = g.H.Disk.outside c.carry.new.disk in
-    let inside : World = record { store = c.self.inside.store } in
-    let new : World = record { store = c.carry.new.self } in
+    let inside : World = record { store = c.self.inside.store; snapshots = c.self.inside.snapshots; cursors = c.self.inside.cursors } in
+    let new : World = with_store inside c.carry.new.self in
     let note = c.args.note.now in
     let reply = reply_bytes c.match-carry.result in
     let unshut : is_shut inside.store ≡ false = subst (λ (w : World). is_shut w.store ≡ false) (sym c.self.view_is) c.requires.«open» in
@@ -47,8 +47,8 @@ returns-clause-goes g c = λ tells.
     (elim c.match-carry.branch [
       | in-Ok-carry w ↦
           let e = w.in-Ok-carry.ensures in
-          commit_goes g.H.Disk.tells inside note reply unshut c.in-Ok.plan planned new from to e.places e.counts.disk.later w.in-Ok-carry.number e.ok (e.rests tells) (e.commits tells)
+          commit_goes g.H.Disk.tells inside note reply unshut c.in-Ok.plan planned new from to e.places e.counts.disk.later w.in-Ok-carry.number (ap (with_store inside) e.ok) (e.rests tells) (e.commits tells)
       | in-Err-carry w ↦
           let e = w.in-Err-carry.ensures in
-          commit_goes_wrong g.H.Disk.tells inside note reply unshut c.in-Ok.plan planned new from to e.places e.counts.disk.later w.in-Err-carry.field-0 e.err (e.commits tells)
+          commit_goes_wrong g.H.Disk.tells inside note reply unshut c.in-Ok.plan planned new from to e.places e.counts.disk.later w.in-Err-carry.field-0 (ap (with_store inside) e.err) (e.commits tells)
     ])

@@ -1,9 +1,12 @@
-use Rattle.std.proofs.Common.{ap, sym, ◌∙◌}
+use Rattle.std.proofs.Common.{ap, inl, sym, ◌∙◌}
 use Rattle.std.proofs.lemmas.Bool.{false≢true}
 use Rattle.view_store.specs.Views.{table_of, with_view}
 use Rattle.view_store.proofs.Editing.{IfOk-then}
+use Rattle.questions.specs.Cursors.{has_cursor_on}
+use Rattle.questions.specs.declared.cursor.Standing.TheVariants.{View}
+use Rattle.session.specs.Naming.{declare_due}
 use Rattle.session.specs.World.{World, with_tables}
-use Rattle.session.proofs.Structured.{structured-other}
+use Rattle.session.proofs.Structured.{declare-in_use, structured-other}
 use Rattle.session.proofs.session.Session.declare.Goals as goal
 
 pub returns-clause-ok : goal.returns-clause-ok
@@ -13,3 +16,14 @@ returns-clause-ok c =
     IfOk-then c.put_view.result c.put_view.ensures.ok
     (λ _ e. e ∙ ap (λ views. with_tables c.args.self.now views) (ap (λ t. with_view root name t) c.in_ok-table.ensures.ok
     ∙ sym (structured-other root name c.args.schema.now c.in-Some.known.now (ap (λ (w : World). table_of w.store.views name) (sym c.self.view_is) ∙ ap (λ v. table_of v name) (sym c.views.ensures) ∙ c.in-Some.ensures) c.as_bytes-name.ensures.name c.schema.ensures.whole c.len-properties.ensures.whole (λ same. false≢true (sym c.if-is_same.false ∙ c.is_same.ensures.1 (c.schema.ensures.value ∙ same))))))
+
+pub returns-then-has_cursor_on-clause-due : goal.returns-then-has_cursor_on-clause-due
+returns-then-has_cursor_on-clause-due c =
+    let name = c.args.name.now in
+    let schema = c.args.schema.now in
+    let inside : World = record { store = c.self.inside.store; snapshots = c.self.inside.snapshots; cursors = c.self.inside.cursors } in
+    let found = ap (λ v. table_of v name) (sym c.views.ensures) ∙ c.in-Some.ensures in
+    let stands = ap (λ cursors. has_cursor_on cursors View name) (sym c.as_slice.ensures) ∙ sym c.has_cursor_on.ensures ∙ c.if-has_cursor_on.true in
+    inl (ap (λ (w : World). declare_due w name schema) (sym c.self.view_is)
+    ∙ declare-in_use inside name schema c.in-Some.known.now found c.as_bytes-name.ensures.name c.schema.ensures.whole c.len-properties.ensures.whole
+    (λ same. false≢true (sym c.if-is_same.false ∙ c.is_same.ensures.1 (c.schema.ensures.value ∙ same))) stands)
