@@ -14,6 +14,8 @@ use Rattle.relations.specs.WholeOrder.{whole_row_cmp}
 use Rattle.relations.specs.OrderLaws.{whole_row_cmp_total}
 use Rattle.grouping.specs.Index.{numbers, entry_cmp, IsOrderOf}
 use Rattle.relations.proofs.Ascending.{IsIn, each_in, each_from_in, in_at, place_of, in_from_contains, contains_from_in, Ascends, nat_less}
+use Rattle.relations.specs.Positions.{order_of, place_cmp}
+use Rattle.relations.proofs.Orders.{order_all, order_ascends, order_in}
 use Rattle.grouping.proofs.Ascending.{in_map, in_map_back, ascends_map, pairs_from_ascends}
 use Rattle.grouping.proofs.Duplicates.{AreDistinct, distinct_permutation, sorted_ascends}
 use Rattle.grouping.proofs.Positions.{later_up, zero_below}
@@ -89,3 +91,11 @@ take_all [] zero p = refl
 take_all [] (suc n) p = refl
 take_all (x ∷ xs) zero p = absurd (omega arith)
 take_all (x ∷ xs) (suc n) p = ap (λ ys. x ∷ ys) (take_all xs n (omega arith))
+
+-- the positions in the order of whole rows
+pub sorted_order : (rows : List (List Datum)) → IsOrderOf rows (order_of whole_row_cmp [] rows)
+sorted_order rows = record {
+  in_range = order_in whole_row_cmp [] rows;
+  complete = order_all whole_row_cmp [] rows;
+  ascending = pairs_from_ascends (place_cmp whole_row_cmp [] rows) (order_of whole_row_cmp [] rows) (order_ascends whole_row_cmp [] rows whole_row_cmp_total);
+}

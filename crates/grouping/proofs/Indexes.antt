@@ -162,10 +162,13 @@ module _ (rows : List (List Datum)) (order starts : List ℕ) (whole : IsIndexOf
     pub first_below : (s i : ℕ) → s ≡ get_or starts group s → i ≡ get_or order s i → i < length rows
     first_below s i e f = subst (λ n. n < length rows) (sym (first_read s i e f)) (first_in_rows group in_starts)
 
+    pub first_key : (s i : ℕ) → s ≡ get_or starts group s → i ≡ get_or order s i → get_or rows i [] ≡ get_or (keys_of seen) group []
+    first_key s i e f =
+        ap (λ n. get_or rows n []) (first_read s i e f) ∙ key_at group in_starts ∙ ap (λ (zs : List (List Datum)). get_or (keys_of zs) group []) view
+
     pub key_read : (s i : ℕ) (read : List (List Datum)) (row : List Datum) → s ≡ get_or starts group s → i ≡ get_or order s i → read ≡ rows → row ≡ get_or read i row → row ≡ get_or (keys_of seen) group []
     key_read s i read row e f same at =
-        at ∙ ap (λ (zs : List (List Datum)). get_or zs i row) same ∙ same_default rows i row [] (first_below s i e f)
-        ∙ ap (λ n. get_or rows n []) (first_read s i e f) ∙ key_at group in_starts ∙ ap (λ (zs : List (List Datum)). get_or (keys_of zs) group []) view
+        at ∙ ap (λ (zs : List (List Datum)). get_or zs i row) same ∙ same_default rows i row [] (first_below s i e f) ∙ first_key s i e f
 
     pub part_read : (s e : ℕ) (read : List ℕ) → s ≡ get_or starts group s → e ≡ get_or starts (group + 1) (length order) → read ≡ order
         → (s ≤ e) × (e ≤ length read) × (take (e - s) (drop s read) ≡ positions_of seen (get_or (keys_of seen) group []))

@@ -1,6 +1,6 @@
 -- The columns of named properties: the schema that they make, and the values that rows have in them.
-use Rattle.std.proofs.Common.{◌≡◌, ℕ, ◌<◌, true, false, List, [], length, map, All, None, refl, ap, sym, subst, ◌∙◌}
-use Rattle.std.proofs.lemmas.List.Elements.{recursion_from_All}
+use Rattle.std.proofs.Common.{◌≡◌, ℕ, ◌<◌, true, false, List, [], length, get_or, map, All, None, refl, ap, sym, subst, ◌∙◌}
+use Rattle.std.proofs.lemmas.List.Elements.{All-map, recursion_from_All}
 use Rattle.mk_value.specs.Heading.{Attribute}
 use Rattle.mk_value.specs.Data.{Datum, AreRowsOf, IsRowOf}
 use Rattle.mk_value.specs.Tables.{Table}
@@ -8,11 +8,13 @@ use Rattle.relations.specs.declared.error.DerivedError.TheVariants.{KeyIsView}
 use Rattle.relations.specs.Fitting.{is_view}
 use Rattle.derived.specs.Grouping.{distinct_keys}
 use Rattle.relations.specs.Columns.{column_of, properties_at, values_at}
+use Rattle.relations.specs.Keys.{IsPlainColumn}
 use Rattle.relations.specs.Refusals.{absent, a_view}
 use Rattle.relations.specs.Rows.{has, domain_of, once, properties_of, values_of}
 use Rattle.relations.proofs.Faults.{none_refused}
 use Rattle.relations.proofs.Headings.{once_all, once_distinct}
-use Rattle.relations.proofs.Names.{all_present}
+use Rattle.relations.proofs.Asking.{domain_here}
+use Rattle.relations.proofs.Names.{all_present, column_in}
 use Rattle.relations.proofs.Projections.{columns_in, properties_here, only_here, are_columns}
 use Rattle.relations.proofs.Wholes.{columns_fit}
 use Rattle.grouping.specs.Index.{keys_of}
@@ -30,6 +32,14 @@ keys_plain schema keys h = once_all (λ n. is_view (domain_of schema n) ≡ fals
 module _ (schema : List Attribute) (names : List (List ℕ)) (here : All (λ name. has schema name ≡ true) names) (columns : List ℕ) (e : columns ≡ map (column_of schema) names) where
   pub in_range : All (λ j. j < length schema) columns
   in_range = subst (All (λ j. j < length schema)) (sym e) (columns_in schema names here)
+
+  pub plain_here : All (λ name. is_view (domain_of schema name) ≡ false) names → All (IsPlainColumn schema) columns
+  plain_here plain =
+      subst (All (IsPlainColumn schema)) (sym e)
+      (All-map (IsPlainColumn schema) (column_of schema) names (λ k d p. record {
+        in_range = column_in schema (get_or names k d) (here k d p);
+        plain = ap is_view (domain_here schema (get_or names k d) (here k d p)) ∙ plain k d p;
+      }))
 
   pub properties_are : properties_at schema columns ≡ properties_of schema names
   properties_are = ap (properties_at schema) e ∙ properties_here schema names here

@@ -11,3 +11,5 @@ pub mod Limits
 pub mod Orders
 pub mod Others
 pub mod Positions
+pub mod Probing
+pub mod Searched

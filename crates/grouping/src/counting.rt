@@ -10,7 +10,7 @@ ghost use Rattle.derived.specs.Refusals.{counts_due};
 ghost use Rattle.relations.specs.Rows.{once, properties_of};
 ghost use Rattle.grouping.specs.Groups.{counted_keys};
 
-use crate::RowIndex;
+use crate::key_index::KeyIndex;
 use crate::keyed::{key_index, key_properties};
 use derived::{Derived, held};
 use mk_value::{Kind, MAX_PROPERTIES, Memory, Name, Prop, Rows, Same, Schema, TableRead, Value};
@@ -78,13 +78,13 @@ fn counted_schema(
 }
 
 /// Each key, and the number of its rows.
-fn counted_rows(alloc: Global, index: &RowIndex) -> Result<Rows, Memory>
+fn counted_rows<T: TableRead>(alloc: Global, index: &KeyIndex<'_, T>) -> Result<Rows, Memory>
     requires { length index.now ≤ max_rows }
     ensures { IfOk result (λ rows. rows ≡ counted_keys index.now) }
 {
     let mut rows = Rows::new(alloc);
     for group in 0..index.groups() {
-        let mut row = index.key(group).copy()?;
+        let mut row = index.key(alloc, group)?;
         let number = index.group(group).len();
         row.push(Value::I(number as i32))?;
         rows.push(row)?;

@@ -13,7 +13,7 @@ ghost use Rattle.derived.specs.Refusals.{group_by_due};
 ghost use Rattle.relations.specs.Rows.{is_among as is_name_among, once, others, properties_of};
 ghost use Rattle.grouping.specs.Groups.{grouped_keys};
 
-use crate::RowIndex;
+use crate::key_index::KeyIndex;
 use crate::keyed::{key_index, key_properties, other_properties};
 use derived::{Derived, held};
 use mk_value::{Kind, MAX_DEPTH, Memory, Name, Prop, Rows, Same, Schema, TableRead, Value};
@@ -126,7 +126,7 @@ fn grouped_rows<T: TableRead + Same + Drop>(
     alloc: Global,
     table: &Derived<T>,
     columns: &Columns,
-    index: &RowIndex,
+    index: &KeyIndex<'_, Derived<T>>,
 ) -> Result<Rows, Memory>
     requires columns_in { All (λ j. j < length table.now.schema) columns.now }
     requires as_many { length index.now ≡ length table.now.rows }
@@ -134,7 +134,7 @@ fn grouped_rows<T: TableRead + Same + Drop>(
 {
     let mut rows = Rows::new(alloc);
     for group in 0..index.groups() {
-        let mut row = index.key(group).copy()?;
+        let mut row = index.key(alloc, group)?;
         let inner = rows_at(alloc, table, columns, index.group(group))?;
         row.push(Value::V(inner))?;
         rows.push(row)?;

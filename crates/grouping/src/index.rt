@@ -1,10 +1,11 @@
 //! An index of rows by their whole values.
-ghost use Rattle.std.specs.Prelude.{◌≡◌, ◌+◌, ◌<◌, ◌≤◌, [], All, length, map, slice_index_or, slice_range, IfOk};
+ghost use Rattle.std.specs.Prelude.{◌≡◌, ◌<◌, ◌≤◌, [], All, length, map, slice_index_or, IfOk};
 ghost use Rattle.mk_value.specs.Limits.{max_rows};
 ghost use Rattle.relations.specs.Equality.{is_row_among};
-ghost use Rattle.grouping.specs.Index.{IsOrderOf, first_positions, is_start, keys_less, keys_of, numbers, positions_of, starts_below};
+ghost use Rattle.grouping.specs.Index.{IsOrderOf, first_positions, keys_less, keys_of, numbers, positions_of};
 
 use crate::entry::Entry;
+use crate::groups::{end_of, part, starts_of};
 use mk_value::{Memory, Positions, Row, Rows};
 use relations::cmp_whole_row;
 use std::alloc::Global;
@@ -160,53 +161,4 @@ fn entries_of<'a>(alloc: Global, rows: &'a Rows) -> Result<Vec<Entry<'a>>, Memor
         entries.push(Entry { row, at: at as u32 })?;
     }
     Ok(entries)
-}
-
-/// The places of the order at which groups begin.
-fn starts_of(alloc: Global, rows: &Rows, order: &[u32]) -> Result<Vec<u32>, Memory>
-    requires order { IsOrderOf rows.now order.now }
-    requires few { length order.now ≤ max_rows }
-    ensures { IfOk result (λ starts. starts.items ≡ starts_below rows.now order.now (length order.now)) }
-{
-    let rows = rows.as_slice();
-    let mut starts = Vec::new(alloc);
-    for place in 0..order.len() {
-        if is_start_at(rows, order, place) {
-            starts.push(place as u32)?;
-        }
-    }
-    Ok(starts)
-}
-
-/// Whether a group begins at a place of the order.
-fn is_start_at(rows: &[Row], order: &[u32], place: usize) -> bool
-    requires order { IsOrderOf rows.now order.now }
-    requires place_in { place < length order.now }
-    ensures { result ≡ is_start rows.now order.now place }
-{
-    if place == 0 {
-        return true;
-    }
-    let before = &rows[order[place - 1] as usize];
-    let here = &rows[order[place] as usize];
-    cmp_whole_row(before, here).is_ne()
-}
-
-/// The place at which a group ends: the next start, or the end of the order.
-fn end_of(starts: &[u32], group: usize, size: usize) -> usize
-    requires { group < length starts.now }
-    ensures { result ≡ slice_index_or starts.now (group + 1) size }
-{
-    if group + 1 < starts.len() {
-        return starts[group + 1] as usize;
-    }
-    size
-}
-
-/// The part of a list from one place up to another.
-fn part(order: &[u32], start: usize, end: usize) -> &[u32]
-    requires { (start ≤ end) × (end ≤ length order.now) }
-    ensures { result.now ≡ slice_range order.now start end }
-{
-    &order[start..end]
 }

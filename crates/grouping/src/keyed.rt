@@ -1,12 +1,12 @@
 //! What the key of a table is made of: its properties, the others, and the index of the keys of all rows.
 ghost use Rattle.std.specs.Prelude.{◌≡◌, map, None, IfOk};
-ghost use Rattle.relations.specs.Refusals.{absent};
+ghost use Rattle.relations.specs.Refusals.{a_view, absent};
 ghost use Rattle.relations.specs.Rows.{once, others, properties_of, values_of};
 
-use crate::RowIndex;
+use crate::key_index::KeyIndex;
 use derived::Derived;
 use mk_value::{Memory, Name, Props, Same, Schema, TableRead};
-use relations::{named_columns, other_columns, properties_in, rows_in};
+use relations::{named_columns, other_columns, properties_in};
 use std::alloc::Global;
 
 /// The properties of these names, a repeated name once.
@@ -31,17 +31,16 @@ pub(crate) fn other_properties(
     properties_in(alloc, schema, &columns)
 }
 
-/// The index of the keys of all rows.
-pub(crate) fn key_index<T: TableRead + Same + Drop>(
+/// The index of the keys of all rows. It has no copy of a key.
+pub(crate) fn key_index<'a, T: TableRead + Same + Drop>(
     alloc: Global,
-    table: &Derived<T>,
+    table: &'a Derived<T>,
     keys: &[Name],
-) -> Result<RowIndex, Memory>
-    requires { absent table.now.schema keys.now ≡ None }
+) -> Result<KeyIndex<'a, Derived<T>>, Memory>
+    requires named { absent table.now.schema keys.now ≡ None }
+    requires plain { a_view table.now.schema keys.now ≡ None }
     ensures { IfOk result (λ index. index ≡ map (values_of table.now.schema (once keys.now)) table.now.rows) }
 {
-    let _size = table.size();
     let columns = named_columns(alloc, table.schema(), keys)?;
-    let rows = rows_in(alloc, table, &columns)?;
-    RowIndex::new(alloc, rows)
+    KeyIndex::new(alloc, table, columns)
 }

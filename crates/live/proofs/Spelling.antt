@@ -13,7 +13,7 @@ use Rattle.relations.specs.Sorting.{all_keys, keys_or_all}
 use Rattle.relations.specs.declared.criteria.Key.{Key}
 use Rattle.relations.specs.declared.error.DerivedError.{DerivedError}
 use Rattle.relations.specs.declared.error.DerivedError.TheVariants.{NoProp, KeyIsView}
-use Rattle.relations.proofs.KeyRows.{plain_keys}
+use Rattle.relations.proofs.PlainKeys.{plain_keys}
 use Rattle.live.specs.Putting.{as_watch_error, spelled}
 use Rattle.live.specs.Watching.{IsAsked, op_due}
 use Rattle.live.specs.declared.op.WatchOp.{WatchOp}

@@ -138,7 +138,7 @@ pub fn open(kept: &mut [u32], p: usize)
 }
 
 /// Gives the kept positions the numbers that they have after a turn of the source. Where a row changes there is nothing to do.
-fn renumber(kept: &mut [u32], turn: Turn)
+pub fn renumber(kept: &mut [u32], turn: Turn)
     requires small { All (λ k. k + 1 < 2 ^ 32) kept.old }
     requires apart { (p : ℕ) → turn ≡ Turn.Changes p → All (λ k. k ≢ p) kept.old }
     ensures { kept.new ≡ map (opened_by (comes_to turn)) (map (closed_by (goes_from turn)) kept.old) }
@@ -193,7 +193,7 @@ fn stays(op: &WatchOp, turn: Turn) -> bool
 }
 
 /// What is told of a row that leaves a place and one that takes a place.
-fn told(stays: bool, from: Option<usize>, to: Option<usize>) -> Turn
+pub fn told(stays: bool, from: Option<usize>, to: Option<usize>) -> Turn
     ensures { result ≡ told stays from to }
 {
     match (from, to) {

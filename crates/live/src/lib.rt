@@ -27,7 +27,7 @@ mod watches;
 
 pub use error::WatchError;
 pub use event::Event;
-pub use keeper::{Keeper, close, leave, open};
+pub use keeper::{Keeper, close, leave, open, renumber, told};
 pub use laws::{
     a_selection_answers_a_change, a_sorting_answers_a_change, a_watch_answers_a_row,
     a_watch_shows_its_rows, edits_are_events, own_events_are_events, places_lead_to_rows,

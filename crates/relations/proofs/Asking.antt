@@ -1,19 +1,14 @@
 -- Criteria of which none is refused may be asked.
-use Rattle.std.proofs.Common.{◌≡◌, ℕ, ◌+◌, ◌<◌, pos, Bool, true, false, not, ◌&&◌, List, [], ◌∷◌, length, get_or, map, drop, All, Option, Some, None, refl, ap, sym, subst, ◌∙◌}
-use Rattle.std.specs.declared.cmp.Ordering.{Ordering}
-use Rattle.std.specs.declared.cmp.Ordering.TheVariants.{Less, Equal, Greater}
-use Rattle.std.specs.Ordering.{is_ge, is_le, is_eq}
+use Rattle.std.proofs.Common.{◌≡◌, ℕ, ◌+◌, ◌<◌, pos, Bool, true, false, not, ◌&&◌, List, [], length, get_or, map, drop, All, Option, Some, None, refl, ap, sym, subst, ◌∙◌}
 use Rattle.std.specs.Option.{option_or}
 use Rattle.std.proofs.lemmas.Bool.{false≢true}
 use Rattle.std.proofs.lemmas.Option.{none-some}
 use Rattle.std.proofs.lemmas.List.{get_or-map, length-map}
-use Rattle.std.proofs.lemmas.List.Elements.{All-head, All-tail, filter_agree}
 use Rattle.mk_value.specs.Heading.{Domain, Attribute}
 use Rattle.mk_value.specs.Data.{Datum, integer, cell}
-use Rattle.mk_value.specs.Order.{value_cmp}
-use Rattle.mk_value.specs.Tables.{Table, domain_at, IsPlainDomain, IsComparable}
+use Rattle.mk_value.specs.Tables.{domain_at, IsPlainDomain, IsComparable}
 use Rattle.mk_value.proofs.Walks.{drop_read, same_default}
-use Rattle.relations.specs.Criteria.{Interval, is_within, is_in_range, has_values}
+use Rattle.relations.specs.Criteria.{Interval, is_within, is_in_range}
 use Rattle.relations.specs.declared.error.DerivedError.{DerivedError}
 use Rattle.relations.specs.declared.error.DerivedError.TheVariants.{WrongKind}
 use Rattle.relations.specs.Fitting.{is_view, fits}

@@ -1,11 +1,9 @@
 -- The values of whole rows.
-use Rattle.std.proofs.Common.{◌≡◌, ℕ, zero, suc, ◌-◌, ◌<◌, ◌≤◌, pos, List, [], ◌∷◌, ◌++◌, length, get_or, map, refl, ap, sym, ◌∙◌, arith}
-use Rattle.std.proofs.lemmas.List.{length-map, length-append, get_or-map, get_or_append_left, get_or-append_right}
+use Rattle.std.proofs.Common.{◌≡◌, ℕ, zero, suc, ◌<◌, pos, List, [], ◌∷◌, length, get_or, arith}
 use Rattle.mk_value.specs.Heading.{Domain, Attribute}
 use Rattle.mk_value.specs.Data.{Datum, integer, AreRowsOf, IsRowOf, IsOf, cell}
 use Rattle.mk_value.specs.Tables.{domain_at, IsPlainDomain, IsComparable}
 use Rattle.mk_value.proofs.Relations.{row_fits_length}
-use Rattle.relations.specs.Columns.{AreColumns, values_at}
 
 -- a row of a table has a value for each property
 pub row_length : (rows : List (List Datum)) (schema : List Attribute) (i : ℕ) → AreRowsOf rows schema → i < length rows → length (get_or rows i []) ≡ length schema

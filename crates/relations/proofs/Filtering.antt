@@ -3,10 +3,7 @@ use Rattle.std.proofs.Common.{◌≡◌, ℕ, zero, suc, ◌+◌, ◌<◌, ◌�
 use Rattle.std.specs.List.{filter}
 use Rattle.std.proofs.lemmas.List.{map-append, append-nil, take_all, take_more}
 use Rattle.std.proofs.lemmas.List.Elements.{All-filter, filter-append}
-use Rattle.mk_value.specs.Data.{Datum}
-use Rattle.mk_value.specs.Limits.{max_rows}
 use Rattle.relations.specs.Positions.{numbers, passing}
-use Rattle.relations.specs.Rows.{rows_at}
 use Rattle.relations.proofs.Numbers.{numbers_below, numbers_more, length-numbers}
 
 -- a filter keeps at most all

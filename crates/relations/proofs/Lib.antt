@@ -1,4 +1,5 @@
-pub mod Ascending
+pub use Rattle.key_sort.proofs.Ascending
+pub use Rattle.key_sort.proofs.Numbers
 pub mod Asking
 pub mod Cells
 pub mod Equal
@@ -7,12 +8,12 @@ pub mod Filtering
 pub mod Fitting
 pub mod Halving
 pub mod Headings
-pub mod KeyRows
+pub mod KeyCells
 pub mod Looking
 pub mod Names
-pub mod Numbers
 pub mod Orders
 pub mod Outcomes
+pub mod PlainKeys
 pub mod Projections
 pub mod RowOrder
 pub mod SameSchemas

@@ -1,27 +1,27 @@
 -- Criteria and keys that are looked up by name at each row: one criterion or key further.
-use Rattle.std.proofs.Common.{◌≡◌, ◌⊎◌, ℕ, zero, suc, ◌+◌, ◌<◌, ◌≤◌, pos, Bool, true, false, List, [], ◌∷◌, length, get_or, map, take, drop, All, None, refl, ap, sym, subst, ◌∙◌, inl, inr, arith}
+use Rattle.std.proofs.Common.{◌≡◌, ◌⊎◌, ℕ, ◌+◌, ◌<◌, ◌≤◌, pos, Bool, true, false, List, [], ◌∷◌, length, get_or, map, drop, None, refl, ap, sym, subst, ◌∙◌, inl, inr, arith}
 use Rattle.std.specs.declared.cmp.Ordering.{Ordering}
 use Rattle.std.specs.declared.cmp.Ordering.TheVariants.{Less, Equal, Greater}
-use Rattle.std.specs.Ordering.{is_lt, is_ne, ordering_then}
+use Rattle.std.specs.Ordering.{is_ne, ordering_then}
 use Rattle.std.proofs.lemmas.Bool.{false≢true}
 use Rattle.std.proofs.lemmas.List.{get_or-map, length-drop}
-use Rattle.mk_value.specs.Heading.{Domain, Attribute}
-use Rattle.mk_value.specs.Data.{Datum, integer, cell}
+use Rattle.mk_value.specs.Heading.{Attribute}
+use Rattle.mk_value.specs.Data.{Datum, integer}
 use Rattle.mk_value.specs.Order.{value_cmp, turned}
 use Rattle.mk_value.specs.Tables.{domain_at, IsComparable, IsPlainDomain}
 use Rattle.mk_value.proofs.Walks.{drop_read, same_default}
 use Rattle.relations.specs.declared.criteria.Key.{Key}
 use Rattle.relations.specs.Columns.{column_of}
-use Rattle.relations.specs.Criteria.{Interval, is_within, is_in_range}
+use Rattle.relations.specs.Criteria.{Interval}
 use Rattle.relations.specs.Fitting.{is_view}
 use Rattle.relations.specs.Positions.{AreResolved, IsUsable}
 use Rattle.relations.specs.Refusals.{range_due, sort_due}
-use Rattle.relations.specs.Rows.{has, domain_of, value_of}
+use Rattle.relations.specs.Rows.{has, value_of}
 use Rattle.relations.specs.Searching.{asked_cmp}
 use Rattle.relations.specs.Sorting.{row_cmp}
 use Rattle.relations.specs.Keys.{IsPlainKey}
-use Rattle.relations.proofs.Asking.{domain_here, plain_domain, usable, may_ask, within, outside}
-use Rattle.relations.proofs.KeyRows.{given_plain}
+use Rattle.relations.proofs.Asking.{domain_here, plain_domain, usable}
+use Rattle.relations.proofs.PlainKeys.{given_plain}
 use Rattle.relations.proofs.Names.{column_in, has_at, value_at_column}
 
 -- what decides between two rows, and what leaves it to the rest

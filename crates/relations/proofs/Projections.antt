@@ -1,7 +1,6 @@
 -- The columns of named properties, and what they show.
-use Rattle.std.proofs.Common.{◌≡◌, ℕ, ◌+◌, ◌<◌, Bool, true, false, not, cond, ◌||◌, List, [], ◌∷◌, ◌++◌, length, get_or, map, take, All, Option, Some, None, refl, ap, sym, subst, ◌∙◌, arith}
-use Rattle.std.specs.List.{filter, list_any, slice_get}
-use Rattle.std.proofs.lemmas.Bool.{false≢true}
+use Rattle.std.proofs.Common.{◌≡◌, ℕ, ◌+◌, ◌<◌, Bool, true, false, not, cond, ◌||◌, List, [], ◌∷◌, ◌++◌, length, get_or, map, take, All, Some, None, refl, ap, sym, subst, ◌∙◌}
+use Rattle.std.specs.List.{filter, list_any}
 use Rattle.std.proofs.lemmas.List.{map-append, take_more, append-nil}
 use Rattle.std.proofs.lemmas.List.Elements.{All-head, All-tail, All-map, All-weaker, filter-append}
 use Rattle.mk_value.specs.Names.{same_bytes}
@@ -12,11 +11,8 @@ use Rattle.relations.specs.Columns.{column_of, properties_at, values_at, AreColu
 use Rattle.relations.specs.Rows.{only}
 use Rattle.relations.specs.Rows.{has, is_among, once, others, properties_of, values_of}
 use Rattle.relations.specs.Refusals.{absent, none_left}
-use Rattle.relations.specs.declared.error.DerivedError.{DerivedError}
 use Rattle.relations.specs.declared.error.DerivedError.TheVariants.{NoProp}
-use Rattle.std.specs.Option.{option_or}
-use Rattle.std.proofs.lemmas.Option.{none-some}
-use Rattle.relations.proofs.Headings.{column_here, heading_of_names, once_all, once_distinct, once_some, others_here, others_distinct}
+use Rattle.relations.proofs.Headings.{column_here, heading_of_names, once_all, once_distinct, once_some}
 use Rattle.relations.proofs.Names.{all_present, column_in, value_at_column, property_at_column}
 
 pub columns_in : (schema : List Attribute) (names : List (List ℕ)) → All (λ name. has schema name ≡ true) names → All (λ j. j < length schema) (map (column_of schema) names)

@@ -1,10 +1,7 @@
 -- Criteria with literals: what they are due, item by item; and what it means that a literal fits.
-use Rattle.std.proofs.Common.{◌≡◌, ◌↔◌, ℕ, ◌+◌, ◌<◌, ◌≤◌, Bool, true, false, not, ◌&&◌, List, [], ◌∷◌, length, get_or, map, take, drop, Option, Some, None, IsTrue, refl, ap, sym, subst, ◌∙◌}
-use Rattle.std.specs.Option.{option_or}
+use Rattle.std.proofs.Common.{◌≡◌, ℕ, ◌+◌, ◌<◌, Bool, true, false, not, ◌&&◌, List, [], ◌∷◌, length, get_or, map, drop, Some, None, refl, ap, sym, ◌∙◌}
 use Rattle.mk_value.specs.Heading.{Domain, Attribute}
-use Rattle.mk_value.specs.Data.{Datum}
 use Rattle.mk_value.specs.Conversions.{becomes}
-use Rattle.relations.specs.declared.error.DerivedError.{DerivedError}
 use Rattle.relations.specs.declared.error.DerivedError.TheVariants.{WrongKind}
 use Rattle.relations.specs.Criteria.{Interval, valued}
 use Rattle.relations.specs.Fitting.{fits}

@@ -3,7 +3,7 @@ use Rattle.std.proofs.Common.{◌≡◌, ℕ, ◌<◌, ◌≤◌, pos, List, [],
 use Rattle.std.proofs.lemmas.List.{length-map}
 use Rattle.std.proofs.lemmas.List.Elements.{All-map, All-weaker, All-head, All-tail}
 use Rattle.mk_value.specs.Limits.{max_rows}
-use Rattle.mk_value.specs.Heading.{Domain, Attribute, IsHeading}
+use Rattle.mk_value.specs.Heading.{Domain, Attribute}
 use Rattle.mk_value.specs.Data.{Datum, integer, AreRowsOf, IsRowOf, IsOf}
 use Rattle.mk_value.specs.Tables.{domain_at}
 use Rattle.relations.specs.Columns.{AreColumns, values_at}

@@ -1,4 +1,5 @@
 pub mod Answers
+pub mod Cells
 pub mod Columns
 pub mod Criteria
 pub mod Equality

@@ -1,5 +1,5 @@
 -- Where a table has the values that are asked for in the order of its keys.
-use Rattle.std.specs.Prelude.{ℕ, List, [], ◌∷◌, count_by}
+use Rattle.std.specs.Prelude.{ℕ, List, ◌∷◌, count_by}
 use Rattle.std.specs.declared.cmp.Ordering.{Ordering}
 use Rattle.std.specs.declared.cmp.Ordering.TheVariants.{Equal}
 use Rattle.std.specs.Ordering.{is_lt, ordering_then}

@@ -14,23 +14,26 @@ mod columns;
 mod copies;
 mod criteria;
 mod error;
+mod lending;
 mod literals;
 pub mod lookup;
 mod order;
 mod passing;
 mod searching;
 mod sorting;
+mod table_cells;
 
 pub use checks::{check_criteria, check_keys, check_named, check_plain};
 pub use columns::{
-    Columns, all_columns, count_distinct, named_columns, other_columns, properties_in, rows_in,
+    Columns, all_columns, count_distinct, named_columns, other_columns, properties_in,
     schema_of_columns, values_in,
 };
 pub use copies::{copy_row, copy_rows};
 pub use criteria::{Criterion, Key, Named};
 pub use error::DerivedError;
+pub use lending::cmp_lent;
 pub use literals::{LiteralBounds, check_literals, criteria_of};
 pub use order::{cmp_whole_row, cmp_whole_value};
 pub use passing::{find, is_in_range, positions_in_range};
 pub use searching::{count_before, count_equal, lower};
-pub use sorting::{cmp_by_keys, positions_ordered};
+pub use sorting::{cmp_by_columns, cmp_by_keys, positions_by_columns, positions_ordered};

@@ -10,7 +10,7 @@ use Rattle.grouping.proofs.Positions.{positions_few}
 use Rattle.grouping.proofs.counting.counted_rows.Goals as goal
 
 pub overflow_cast-number : goal.overflow_cast-number
-overflow_cast-number c =
+overflow_cast-number g c =
     let key = get_or (keys_of c.args.index.now) c.loop-group.group [] in
     let same = ap (λ (ps : List ℕ). length ps) c.group-number.ensures in
     let few = positions_few c.args.index.now key in
@@ -18,10 +18,10 @@ overflow_cast-number c =
     small_fits (length c.group-number.result.now) (omega arith)
 
 pub loop-group-preserved : goal.loop-group-preserved
-loop-group-preserved c =
+loop-group-preserved g c =
     let keys = keys_of c.args.index.now in
     let within : c.loop-group.group < length keys = (let t = c.loop-group-test.true in let e = c.groups-group-end.ensures in omega arith) in
-    let key = c.in_ok-row.ensures ∙ c.key.ensures in
+    let key = c.in_ok-row.ensures in
     let same = ap (λ (ps : List ℕ). length ps) c.group-number.ensures in
     let few = positions_few c.args.index.now (get_or keys c.loop-group.group []) in
     let most = c.requires in

@@ -13,7 +13,8 @@ use Rattle.grouping.proofs.counting.counts.Goals as goal
 pub key_index-requires : goal.key_index-requires
 key_index-requires g c =
     let due = ap (λ s. counts_due c.args.keys.now c.args.count.now (record { schema = s; rows = [] })) (sym c.schema.ensures.value) ∙ sym c.in_ok-check_counts.ensures in
-    (countable (table_of c.args.base) c.args.keys.now c.args.count.now due).present
+    let able = countable (table_of c.args.base) c.args.keys.now c.args.count.now due in
+    record { named = able.present; plain = able.plain }
 
 pub counted_schema-requires : goal.counted_schema-requires
 counted_schema-requires g c =

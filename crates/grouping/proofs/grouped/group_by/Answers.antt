@@ -16,7 +16,8 @@ use Rattle.grouping.proofs.grouped.group_by.Goals as goal
 pub key_index-requires : goal.key_index-requires
 key_index-requires g c =
     let due = ap (λ s. group_by_due c.args.keys.now c.args.sub.now (record { schema = s; rows = [] })) (sym c.schema.ensures.value) ∙ sym c.in_ok-check_group_by.ensures in
-    (groupable (table_of c.args.base) c.args.keys.now c.args.sub.now due).present
+    let able = groupable (table_of c.args.base) c.args.keys.now c.args.sub.now due in
+    record { named = able.present; plain = able.plain }
 
 pub grouped_schema-requires : goal.grouped_schema-requires
 grouped_schema-requires g c =

@@ -16,7 +16,7 @@ pub loop-group-preserved : goal.loop-group-preserved
 loop-group-preserved g c =
     let keys = keys_of c.args.index.now in
     let within : c.loop-group.group < length keys = (let t = c.loop-group-test.true in let e = c.groups-group-end.ensures in omega arith) in
-    let key = c.in_ok-row.ensures ∙ c.key.ensures in
+    let key = c.in_ok-row.ensures in
     let inner = c.in_ok-inner.ensures ∙ ap (λ (ps : List ℕ). map (λ i. values_at c.args.columns.now (get_or c.args.table.now.rows i [])) ps) c.group.ensures in
     let row = c.in_ok-push.ensures.ok ∙ (λ i. key i ++ relation (relation_of (inner i)) ∷ []) in
     c.in_ok-push-2.ensures.ok ∙ (λ i. c.loop-group.invariant i ++ row i ∷ [])

@@ -1,11 +1,10 @@
-use Rattle.std.proofs.Common.{◌≡◌, true, false, not, Some, ap, sym, subst, ◌∙◌}
+use Rattle.std.proofs.Common.{◌≡◌, true, Some, ap, sym, subst, ◌∙◌}
 use Rattle.mk_value.specs.Kinds.{domain_of as the_domain}
 use Rattle.relations.specs.declared.error.DerivedError.TheVariants.{WrongKind}
 use Rattle.relations.specs.Fitting.{is_view}
 use Rattle.relations.specs.Rows.{has, domain_of}
 use Rattle.relations.proofs.Spelled.{refused_stop, refused_pass}
 use Rattle.relations.proofs.Names.{item_present, item_plain}
-use Rattle.relations.proofs.Faults.{not_false}
 use Rattle.relations.proofs.literals.check_each.Goals as goal
 
 pub kind-requires : goal.kind-requires

@@ -1,4 +1,4 @@
-use Rattle.std.proofs.Common.{◌≡◌, Option, Some, None, rules, ap, sym, subst, ◌∙◌}
+use Rattle.std.proofs.Common.{◌≡◌, Option, rules, sym, subst}
 use Rattle.std.specs.Result.{result_err}
 use Rattle.relations.specs.declared.error.DerivedError.{DerivedError}
 use Rattle.relations.proofs.Spelled.{due_is}

@@ -1,4 +1,4 @@
-use Rattle.std.proofs.Common.{◌≡◌, Bool, true, false, ◌&&◌, ap, sym, ◌∙◌, subst, ◌↔◌, IsTrue}
+use Rattle.std.proofs.Common.{◌&&◌, ap, sym, ◌∙◌, subst, ◌↔◌, IsTrue}
 use Rattle.mk_value.specs.Conversions.{becomes}
 use Rattle.mk_value.specs.Data.{Datum, IsOf}
 use Rattle.mk_value.specs.Kinds.{domain_of}

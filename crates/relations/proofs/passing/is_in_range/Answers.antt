@@ -1,4 +1,4 @@
-use Rattle.std.proofs.Common.{[], get_or, map, ap, sym, ◌∙◌}
+use Rattle.std.proofs.Common.{map, ap, sym, ◌∙◌}
 use Rattle.relations.specs.Columns.{column_of}
 use Rattle.relations.specs.Criteria.{Interval}
 use Rattle.relations.proofs.Asking.{within, outside}

@@ -1,4 +1,4 @@
-use Rattle.std.proofs.Common.{◌≡◌, ◌⊎◌, ◌≤◌, min, length, [], get_or, ap, sym, ◌∙◌, inl, inr, arith}
+use Rattle.std.proofs.Common.{◌⊎◌, ◌≤◌, length, [], get_or, ap, sym, ◌∙◌, inl, inr, arith}
 use Rattle.mk_value.specs.Tables.{IsComparable, domain_at}
 use Rattle.std.proofs.Common.{subst}
 use Rattle.mk_value.specs.Order.{turned}

@@ -1,4 +1,4 @@
-use Rattle.std.proofs.Common.{◌≡◌, ℕ, ◌+◌, ◌-◌, ◌<◌, ◌≤◌, ◌/◌, true, false, [], length, get_or, ap, sym, subst, ◌∙◌, arith}
+use Rattle.std.proofs.Common.{◌+◌, ◌-◌, ◌/◌, [], ap, sym, ◌∙◌, arith}
 use Rattle.std.specs.Ordering.{is_lt}
 use Rattle.relations.specs.Searching.{asked_cmp}
 use Rattle.relations.proofs.Halving.{before_all, behind_all, count_front}
