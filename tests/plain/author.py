@@ -5,7 +5,7 @@ from collections import ChainMap
 from dataclasses import dataclass
 
 from plain import tables
-from plain.operators import OPERATORS, TOO_LONG, Expression, Unfit, is_view, kind_of, names_of, place, sort_keys, sortable
+from plain.operators import OPERATORS, TOO_LONG, VIEWERS, Expression, Unfit, is_view, kind_of, names_of, place, sort_keys, sortable
 from plain.reading import MOST_NAME, RUN
 from plain.session import Session
 
@@ -196,6 +196,14 @@ class Author:
         shared = [name for name in names_of(table[0]) if name in names_of(other[0])]
         return self.chance.choice(shared) if shared and self.often(0.9) else self.name_in(table)
 
+    def viewer(self, table):
+        """A viewer and properties that it may be asked of, mostly of the kinds that it takes."""
+        word, (kinds, _) = self.chance.choice(list(VIEWERS.items()))
+        given = [[name for name, kind in table[0] if kind == wanted] for wanted in kinds]
+        if self.often(0.2) or not all(given):
+            return ["nosuch" if self.often(0.1) else word, self.some(self.name_in, table)]
+        return [word, [self.chance.choice(names) for names in given]]
+
     def some(self, one, *bases):
         return [one(*bases) for _ in range(self.chance.choice((1, 1, 1, 2, 2, 3)))]
 
@@ -361,7 +369,7 @@ class Author:
 
 
 SETS = ("concat", "union", "intersect", "minus", "different")
-WORDS = [word for word in OPERATORS if word not in ("calc", "keep")] * 5 + ["calc", "keep"]
+WORDS = list(OPERATORS)
 WRONG = [*'%"x-(){},:/=\té', "5a", "-0", "-1", "0", '"a"', "l" * (MOST_NAME + 1), "9223372036854775808", "sort", "a"]
 GIVEN = {
     "select": lambda by, table: [by.criteria(table)], "range": lambda by, table: [by.some(by.bound, table)],
@@ -372,8 +380,7 @@ GIVEN = {
     "counts": lambda by, table: [by.some(by.plain_name_in, table), by.new_name(table)],
     "joinprop": lambda by, table: [by.view_name_in(table)], "outerjoinprop": lambda by, table: [by.view_name_in(table)],
     "join": lambda by, *both: [by.some(by.shared_name, *both)], "outerjoin": lambda by, *both: [by.some(by.shared_name, *both)],
-    "calc": lambda by, table: ["twice", by.some(by.name_in, table), by.new_name(table)],
-    "keep": lambda by, table: ["length", by.some(by.name_in, table)],
+    "calc": lambda by, table: [*by.viewer(table), by.new_name(table)], "keep": lambda by, table: by.viewer(table),
 }
 WEIGHTS = {
     "getas": 3, "drop": 2, "struct": 1, "add": 8, "insert": 2, "set": 7, "remove": 4, "size": 10, "show": 50, "find": 14, "search": 12,

@@ -1,5 +1,6 @@
 -- What an expression is made of.
-use Rattle.std.specs.Prelude.{◌≡◌, ℕ, Result, Ok}
+use Rattle.std.specs.Prelude.{◌≡◌, ℕ, List, Result, Ok}
+use Rattle.viewers.specs.Meanings.{Meaning}
 use Rattle.mk_value.specs.Tables.{Table}
 use Rattle.expr_text.specs.Meanings.{query_of}
 use Rattle.expr_text.specs.Operators.{form_of, one_table, takes, two_tables}
@@ -31,9 +32,9 @@ IsOverTwo (two operator p q tail) = (takes operator ≡ two_tables (form_of tail
 IsOverTwo _ = ⊥
 
 -- what the outermost operator gives of the values of its tables
-abbrev pub given_of_one : Query → Table → Result Table EvalError
-given_of_one (one operator q tail) t = of_one operator tail t
-given_of_one _ t = Ok t
+abbrev pub given_of_one : List Meaning → Query → Table → Result Table EvalError
+given_of_one viewers (one operator q tail) t = of_one viewers operator tail t
+given_of_one viewers _ t = Ok t
 
 abbrev pub given_of_two : Query → Table → Table → Result Table EvalError
 given_of_two (two operator p q tail) a b = of_two operator tail a b

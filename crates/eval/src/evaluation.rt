@@ -1,4 +1,5 @@
 //! The value of an expression.
+ghost use Rattle.std.specs.Prelude.{map};
 ghost use Rattle.derived.specs.Layers.{table_of};
 ghost use Rattle.expr_text.specs.Meanings.{query_of};
 ghost use Rattle.eval.specs.Parts.{IsWhole};
@@ -13,20 +14,22 @@ use derived::Derived;
 use expr_text::Expr;
 use mk_value::{Same, TableRead};
 use std::alloc::Global;
+use viewers::Viewer;
 
 /// The table that an expression asks for.
 ///
 /// # Errors
 ///
-/// The first refusal, from the left and from the inside: that of a path, of a viewer's name, or of an operator, beside the size of its first
-/// table. Else `Memory`, in the place of either.
-pub fn eval<T: TableRead + Same + Drop, N: Names<T>>(
+/// The first refusal, from the left and from the inside: that of a path, of a name that no viewer has, or of an operator, beside the size of
+/// its first table. Else `Memory`, in the place of either.
+pub fn eval<T: TableRead + Same + Drop, N: Names<T>, V: Viewer>(
     alloc: Global,
     expr: &Expr,
     names: &N,
+    viewers: &[V],
 ) -> Result<Derived<T>, EvalError>
     requires { IsWhole (query_of expr.now) }
-    ensures { Evaluates table_of (value (N.named names.now) (query_of expr.now)) result }
+    ensures { Evaluates table_of (value (N.named names.now) (map V.meaning viewers.now) (query_of expr.now)) result }
 {
     match bases_of(expr) {
         Bases::Path(path) => match names.view(path) {
@@ -34,12 +37,12 @@ pub fn eval<T: TableRead + Same + Drop, N: Names<T>>(
             Err(error) => Err(EvalError::Name(error)),
         },
         Bases::One(base) => {
-            let base = eval(alloc, base, names)?;
-            on_one(alloc, expr, base)
+            let base = eval(alloc, base, names, viewers)?;
+            on_one(alloc, expr, base, viewers)
         }
         Bases::Two(first, second) => {
-            let first = eval(alloc, first, names)?;
-            let second = eval(alloc, second, names)?;
+            let first = eval(alloc, first, names, viewers)?;
+            let second = eval(alloc, second, names, viewers)?;
             on_two(alloc, expr, first, second)
         }
     }

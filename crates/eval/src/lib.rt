@@ -1,4 +1,4 @@
-//! Expressions evaluated: the table that an expression asks for, among names that stand for tables.
+//! Expressions evaluated: the table that an expression asks for, among names that stand for tables and viewers that answer rows.
 //!
 //! An expression is a path, or an operator over one or two expressions. Its value is what the operator gives of their values, from the left
 //! and from the inside; the first refusal is that of the whole. The definitions stand in `specs/Values.antt`, over those of the operators. This crate

@@ -8,7 +8,7 @@ ghost use Rattle.relations.specs.Refusals.{literals_due, sort_due};
 ghost use Rattle.expr_text.specs.Meanings.{query_of};
 ghost use Rattle.eval.specs.Answers.{AsAnswered, Gives, IsRefused};
 ghost use Rattle.eval.specs.Parts.{IsOverOne, given_of_one};
-ghost use Rattle.eval.specs.Values.{Evaluates, asked as asked_by, bounded as bounded_by, key_of};
+ghost use Rattle.eval.specs.Values.{Evaluates, asked as asked_by, bounded as bounded_by, calculated, kept, key_of};
 
 use crate::error::EvalError;
 use crate::literals::{bounds_asked, criteria_asked};
@@ -19,6 +19,8 @@ use joins::join_prop;
 use mk_value::{Memory, Name, Same, Sequence, TableRead};
 use relations::{DerivedError, Key, check_literals, criteria_of};
 use std::alloc::Global;
+use viewed::{calc, keep};
+use viewers::{Viewer, find as viewer_named};
 
 /// What an operator answered, beside the size of its first table where it was refused.
 pub(crate) fn at_size<T: TableRead + Same + Drop>(
@@ -34,13 +36,14 @@ pub(crate) fn at_size<T: TableRead + Same + Drop>(
 }
 
 /// What the outermost operator of an expression gives of the value of its one table.
-pub(crate) fn on_one<T: TableRead + Same + Drop>(
+pub(crate) fn on_one<T: TableRead + Same + Drop, V: Viewer>(
     alloc: Global,
     expr: &Expr,
     base: Derived<T>,
+    viewers: &[V],
 ) -> Result<Derived<T>, EvalError>
     requires { IsOverOne (query_of expr.now) }
-    ensures { Evaluates table_of (given_of_one (query_of expr.now) (table_of base)) result }
+    ensures { Evaluates table_of (given_of_one (map V.meaning viewers.now) (query_of expr.now) (table_of base)) result }
 {
     let size = base.size();
     match expr {
@@ -58,8 +61,46 @@ pub(crate) fn on_one<T: TableRead + Same + Drop>(
         Expr::Counts(_, keys, count) => at_size(counts(alloc, base, keys.as_slice(), count), size),
         Expr::JoinProp(_, sub) => at_size(join_prop(alloc, base, sub, false), size),
         Expr::OuterJoinProp(_, sub) => at_size(join_prop(alloc, base, sub, true), size),
-        Expr::Calc(_, viewer, _, _) | Expr::Keep(_, viewer, _) => no_viewer(viewer),
+        Expr::Calc(_, viewer, args, new) => {
+            calc_by(alloc, base, viewers, viewer, args.as_slice(), new)
+        }
+        Expr::Keep(_, viewer, args) => keep_by(alloc, base, viewers, viewer, args.as_slice()),
         _ => unreachable!(),
+    }
+}
+
+/// Each row with the answer of the viewer of a name behind it.
+fn calc_by<T: TableRead + Same + Drop, V: Viewer>(
+    alloc: Global,
+    base: Derived<T>,
+    viewers: &[V],
+    viewer: &Name,
+    args: &[Name],
+    new: &Name,
+) -> Result<Derived<T>, EvalError>
+    ensures { Evaluates table_of (calculated (map V.meaning viewers.now) viewer.now args.now new.now (table_of base)) result }
+{
+    let size = base.size();
+    match viewer_named(viewers, viewer) {
+        Some(viewer) => at_size(calc(alloc, base, viewer, args, new), size),
+        None => no_viewer(viewer),
+    }
+}
+
+/// The rows for which the answer of the viewer of a name is not 0.
+fn keep_by<T: TableRead + Same + Drop, V: Viewer>(
+    alloc: Global,
+    base: Derived<T>,
+    viewers: &[V],
+    viewer: &Name,
+    args: &[Name],
+) -> Result<Derived<T>, EvalError>
+    ensures { Evaluates table_of (kept (map V.meaning viewers.now) viewer.now args.now (table_of base)) result }
+{
+    let size = base.size();
+    match viewer_named(viewers, viewer) {
+        Some(viewer) => at_size(keep(alloc, base, viewer, args), size),
+        None => no_viewer(viewer),
     }
 }
 

@@ -18,19 +18,20 @@ const LIMIT_REPLY: &[u8] = b"err 8 limit\n";
 
 /// Answers a line and says the answer whole. What is held of the line is all of it, or its first `MAX_LINE + 1` bytes
 /// where it is too long.
-pub(crate) fn answer_line<H: Host, S: Session<H>>(
+pub(crate) fn answer_line<H: Host, C, S: Session<H, C>>(
     session: &mut S,
     host: &mut H,
+    context: &C,
     held: &[u8],
     out: &mut Text,
 ) -> Result<Flow, Failed>
     requires short { length held.now ≤ max_line + 1 }
     requires clear { IsClear out.old }
-    requires ready { H.tells → IsReady S.machine (state_of session.old (H.outside host.old)) }
+    requires ready { H.tells → IsReady (S.machine context.now) (state_of session.old (H.outside host.old)) }
 
     ensures answers { H.tells → (line : List ℕ) → held.now ≡ take (max_line + 1) line
-        → AnswersLine S.machine line session.old session.new (H.outside host.old) (H.outside host.new) result }
-    ensures ready { H.tells → IsReady S.machine (state_of session.new (H.outside host.new)) }
+        → AnswersLine (S.machine context.now) line session.old session.new (H.outside host.old) (H.outside host.new) result }
+    ensures ready { H.tells → IsReady (S.machine context.now) (state_of session.new (H.outside host.new)) }
     ensures clear { OnOk result (IsClear out.new) }
 
     ensures say_faults { Counts (H.outside host.old).say_faults (H.outside host.new).say_faults result }
@@ -41,7 +42,7 @@ pub(crate) fn answer_line<H: Host, S: Session<H>>(
         say_all(host, LIMIT_REPLY)?;
         return Ok(Flow::Goes);
     }
-    let flow = session.answer(host, held, out);
+    let flow = session.answer(host, context, held, out);
     say_all(host, out.as_str().as_bytes())?;
     out.clear();
     Ok(flow)

@@ -36,21 +36,22 @@ fn keep(room: &mut Bytes, bytes: &[u8])
 
 /// Looks at the bytes of a piece: answers each line that ends in it, and keeps the front of the one that does not.
 /// Where a line ends the session, the bytes behind it are not looked at.
-pub(crate) fn feed_piece<H: Host, S: Session<H>>(
+pub(crate) fn feed_piece<H: Host, C, S: Session<H, C>>(
     session: &mut S,
     host: &mut H,
+    context: &C,
     room: &mut Bytes,
     out: &mut Text,
     piece: &[u8],
 ) -> Result<Flow, Failed>
     requires room { HasLineRoom room.old }
     requires clear { IsClear out.old }
-    requires ready { H.tells → IsReady S.machine (state_of session.old (H.outside host.old)) }
+    requires ready { H.tells → IsReady (S.machine context.now) (state_of session.old (H.outside host.old)) }
 
     ensures comes { H.tells → (start : S) (begin : Outside) (budget count : ℕ) → count + length piece.now ≤ budget
-        → SoFar S.machine start begin session.old (H.outside host.old) room.old.bytes piece.now count
-        → Comes S.machine budget start begin session.new (H.outside host.new) room.new.bytes [] (count + length piece.now) result }
-    ensures ready { H.tells → IsReady S.machine (state_of session.new (H.outside host.new)) }
+        → SoFar (S.machine context.now) start begin session.old (H.outside host.old) room.old.bytes piece.now count
+        → Comes (S.machine context.now) budget start begin session.new (H.outside host.new) room.new.bytes [] (count + length piece.now) result }
+    ensures ready { H.tells → IsReady (S.machine context.now) (state_of session.new (H.outside host.new)) }
     ensures room { IfOk result (λ flow. flow ≡ Flow.Goes → HasLineRoom room.new) }
     ensures clear { IfOk result (λ flow. flow ≡ Flow.Goes → IsClear out.new) }
 
@@ -61,7 +62,7 @@ pub(crate) fn feed_piece<H: Host, S: Session<H>>(
     let mut from = 0;
     'lines: while let Some(len) = find_newline(&piece[from..]) {
         keep(room, &piece[from..from + len]);
-        match answer_line(session, host, room.as_slice(), out)? {
+        match answer_line(session, host, context, room.as_slice(), out)? {
             Flow::Goes => room.clear(),
             Flow::Ends => return Ok(Flow::Ends),
         }

@@ -34,21 +34,22 @@ pub enum End {
 }
 
 /// Ends a run whose input has ended: what stands behind the last newline is a line too, unless it is empty.
-fn end_input<H: Host, S: Session<H>>(
+fn end_input<H: Host, C, S: Session<H, C>>(
     session: &mut S,
     host: &mut H,
+    context: &C,
     room: &mut Bytes,
     out: &mut Text,
 ) -> End
     requires room { HasLineRoom room.old }
     requires clear { IsClear out.old }
-    requires ready { H.tells → IsReady S.machine (state_of session.old (H.outside host.old)) }
+    requires ready { H.tells → IsReady (S.machine context.now) (state_of session.old (H.outside host.old)) }
     requires over { H.tells → (H.outside host.old).input ≡ [] }
 
     ensures serves { H.tells → (start : S) (begin : Outside) (budget count : ℕ) → count ≤ budget
-        → SoFar S.machine start begin session.old (H.outside host.old) room.old.bytes [] count
-        → Serves S.machine budget result start session.new begin (H.outside host.new) }
-    ensures ready { H.tells → IsReady S.machine (state_of session.new (H.outside host.new)) }
+        → SoFar (S.machine context.now) start begin session.old (H.outside host.old) room.old.bytes [] count
+        → Serves (S.machine context.now) budget result start session.new begin (H.outside host.new) }
+    ensures ready { H.tells → IsReady (S.machine context.now) (state_of session.new (H.outside host.new)) }
     ensures done_or_unsaid { (result ≡ End.Done) ⊎ (result ≡ End.SayFault) }
 
     ensures say_fault { result ≡ End.SayFault → Rose (H.outside host.old).say_faults (H.outside host.new).say_faults }
@@ -59,16 +60,17 @@ fn end_input<H: Host, S: Session<H>>(
     if room.is_empty() {
         return End::Done;
     }
-    match answer_line(session, host, room.as_slice(), out) {
+    match answer_line(session, host, context, room.as_slice(), out) {
         Ok(_) => End::Done,
         Err(Failed) => End::SayFault,
     }
 }
 
 /// Takes bytes into a piece that has room, and looks at them. Gives their number, or how the run ended.
-fn take_piece<H: Host, S: Session<H>>(
+fn take_piece<H: Host, C, S: Session<H, C>>(
     session: &mut S,
     host: &mut H,
+    context: &C,
     room: &mut Bytes,
     out: &mut Text,
     piece: &mut [u8],
@@ -76,16 +78,16 @@ fn take_piece<H: Host, S: Session<H>>(
     requires some { 0 < length piece.old }
     requires room { HasLineRoom room.old }
     requires clear { IsClear out.old }
-    requires ready { H.tells → IsReady S.machine (state_of session.old (H.outside host.old)) }
+    requires ready { H.tells → IsReady (S.machine context.now) (state_of session.old (H.outside host.old)) }
 
     ensures within { IfOk result (λ count. count ≤ length piece.old) }
     ensures progress { IfOk result (λ count. 0 < count) }
     ensures comes { H.tells → (start : S) (begin : Outside) (budget taken : ℕ) → taken + length piece.old ≤ budget
-        → SoFar S.machine start begin session.old (H.outside host.old) room.old.bytes [] taken
+        → SoFar (S.machine context.now) start begin session.old (H.outside host.old) room.old.bytes [] taken
         → MatchResult result
-        (λ count. SoFar S.machine start begin session.new (H.outside host.new) room.new.bytes [] (taken + count))
-        (λ end. Serves S.machine budget end start session.new begin (H.outside host.new)) }
-    ensures ready { H.tells → IsReady S.machine (state_of session.new (H.outside host.new)) }
+        (λ count. SoFar (S.machine context.now) start begin session.new (H.outside host.new) room.new.bytes [] (taken + count))
+        (λ end. Serves (S.machine context.now) budget end start session.new begin (H.outside host.new)) }
+    ensures ready { H.tells → IsReady (S.machine context.now) (state_of session.new (H.outside host.new)) }
     ensures room { OnOk result (HasLineRoom room.new) }
     ensures clear { OnOk result (IsClear out.new) }
 
@@ -99,9 +101,9 @@ fn take_piece<H: Host, S: Session<H>>(
         return Err(End::TakeFault);
     };
     if count == 0 {
-        return Err(end_input(session, host, room, out));
+        return Err(end_input(session, host, context, room, out));
     }
-    match feed_piece(session, host, room, out, &piece[..count]) {
+    match feed_piece(session, host, context, room, out, &piece[..count]) {
         Ok(Flow::Goes) => Ok(count),
         Ok(Flow::Ends) => Err(End::Done),
         Err(Failed) => Err(End::SayFault),
@@ -109,20 +111,21 @@ fn take_piece<H: Host, S: Session<H>>(
 }
 
 /// Ends a run whose budget is spent: one more byte is asked for, and if it comes it belongs to no line.
-fn end_budget<H: Host, S: Session<H>>(
+fn end_budget<H: Host, C, S: Session<H, C>>(
     session: &mut S,
     host: &mut H,
+    context: &C,
     room: &mut Bytes,
     out: &mut Text,
 ) -> End
     requires room { HasLineRoom room.old }
     requires clear { IsClear out.old }
-    requires ready { H.tells → IsReady S.machine (state_of session.old (H.outside host.old)) }
+    requires ready { H.tells → IsReady (S.machine context.now) (state_of session.old (H.outside host.old)) }
 
     ensures serves { H.tells → (start : S) (begin : Outside) (budget : ℕ)
-        → SoFar S.machine start begin session.old (H.outside host.old) room.old.bytes [] budget
-        → Serves S.machine budget result start session.new begin (H.outside host.new) }
-    ensures ready { H.tells → IsReady S.machine (state_of session.new (H.outside host.new)) }
+        → SoFar (S.machine context.now) start begin session.old (H.outside host.old) room.old.bytes [] budget
+        → Serves (S.machine context.now) budget result start session.new begin (H.outside host.new) }
+    ensures ready { H.tells → IsReady (S.machine context.now) (state_of session.new (H.outside host.new)) }
 
     ensures take_fault { result ≡ End.TakeFault → Rose (H.outside host.old).take_faults (H.outside host.new).take_faults }
     ensures say_fault { result ≡ End.SayFault → Rose (H.outside host.old).say_faults (H.outside host.new).say_faults }
@@ -132,7 +135,7 @@ fn end_budget<H: Host, S: Session<H>>(
 {
     let mut byte = [0];
     match host.take(&mut byte) {
-        Ok(0) => end_input(session, host, room, out),
+        Ok(0) => end_input(session, host, context, room, out),
         Ok(_) => End::TooMuch,
         Err(Failed) => End::TakeFault,
     }
@@ -145,9 +148,10 @@ fn end_budget<H: Host, S: Session<H>>(
 /// `MAX_LINE + 1` bytes, and what they hold afterwards is left open. The run takes no memory.
 ///
 /// A call of the session's disk that fails is the session's to answer, and ends no run.
-pub fn serve<H: Host, S: Session<H>>(
+pub fn serve<H: Host, C, S: Session<H, C>>(
     session: &mut S,
     host: &mut H,
+    context: &C,
     room: &mut Bytes,
     out: &mut Text,
     budget: u64,
@@ -155,10 +159,10 @@ pub fn serve<H: Host, S: Session<H>>(
     requires room { IsClear room.old }
     requires out { IsClear out.old }
     requires budget { budget ≤ max_budget }
-    requires ready { H.tells → IsReady S.machine (state_of session.old (H.outside host.old)) }
+    requires ready { H.tells → IsReady (S.machine context.now) (state_of session.old (H.outside host.old)) }
 
-    ensures serves { H.tells → Serves S.machine budget result session.old session.new (H.outside host.old) (H.outside host.new) }
-    ensures ready { H.tells → IsReady S.machine (state_of session.new (H.outside host.new)) }
+    ensures serves { H.tells → Serves (S.machine context.now) budget result session.old session.new (H.outside host.old) (H.outside host.new) }
+    ensures ready { H.tells → IsReady (S.machine context.now) (state_of session.new (H.outside host.new)) }
 
     // A fault is told only where one came.
     ensures take_fault { result ≡ End.TakeFault → Rose (H.outside host.old).take_faults (H.outside host.new).take_faults }
@@ -173,10 +177,10 @@ pub fn serve<H: Host, S: Session<H>>(
     let mut left = budget;
     'taking: while left > 0 {
         let most = left.min(PIECE as u64) as usize;
-        match take_piece(session, host, room, out, &mut piece[..most]) {
+        match take_piece(session, host, context, room, out, &mut piece[..most]) {
             Ok(count) => left -= count as u64,
             Err(end) => return end,
         }
     }
-    end_budget(session, host, room, out)
+    end_budget(session, host, context, room, out)
 }

@@ -20,27 +20,27 @@ pub enum Flow {
     Ends,
 }
 
-/// What answers lines over a host.
-pub trait Session<H: Host> {
-    /// Which answers a line may have, which line ends the session, and which images a crash may leave.
-    ghost machine: { Machine Self };
+/// What answers lines over a host, in a context that it is lent for each and that stays: what the answers need beside the host.
+pub trait Session<H: Host, C> {
+    /// Which answers a line may have in a context, which line ends the session, and which images a crash may leave.
+    ghost machine: { C → Machine Self };
 
     /// Answers one line of at most `MAX_LINE` bytes: appends the answer to the empty `out`, with the newline of each
     /// of its lines, and tells whether the session is over. It makes no other call of the host than those on its disk.
     /// A line that is answered by nothing leaves each image that a crash may leave allowed.
-    fn answer(&mut self, host: &mut H, line: &[u8], out: &mut Text) -> Flow
+    fn answer(&mut self, host: &mut H, context: &C, line: &[u8], out: &mut Text) -> Flow
         requires short { length line.now ≤ max_line }
         requires empty { out.old.bytes ≡ [] }
         requires room { max_line + 1 ≤ out.old.spare }
-        requires ready { H.tells → IsReady machine (state_of self.old (H.outside host.old)) }
+        requires ready { H.tells → IsReady (machine context.now) (state_of self.old (H.outside host.old)) }
 
-        ensures answers { H.tells → machine.answers (state_of self.old (H.outside host.old)) line.now out.new.bytes (state_of self.new (H.outside host.new)) }
-        ensures ends { (result ≡ Flow.Ends) ↔ (machine.ends line.now ≡ true) }
+        ensures answers { H.tells → (machine context.now).answers (state_of self.old (H.outside host.old)) line.now out.new.bytes (state_of self.new (H.outside host.new)) }
+        ensures ends { (result ≡ Flow.Ends) ↔ ((machine context.now).ends line.now ≡ true) }
         ensures room { max_line + 1 ≤ out.new.spare + length out.new.bytes }
 
-        ensures ready { H.tells → IsReady machine (state_of self.new (H.outside host.new)) }
-        ensures moments { H.tells → Goes (IsWithin machine (state_of self.old (H.outside host.old)) line.now (H.outside host.old).now.said) (H.outside host.old) (H.outside host.new) }
-        ensures quiet { H.tells → out.new.bytes ≡ [] → KeepsImages machine (state_of self.old (H.outside host.old)) line.now (state_of self.new (H.outside host.new)) }
+        ensures ready { H.tells → IsReady (machine context.now) (state_of self.new (H.outside host.new)) }
+        ensures moments { H.tells → Goes (IsWithin (machine context.now) (state_of self.old (H.outside host.old)) line.now (H.outside host.old).now.said) (H.outside host.old) (H.outside host.new) }
+        ensures quiet { H.tells → out.new.bytes ≡ [] → KeepsImages (machine context.now) (state_of self.old (H.outside host.old)) line.now (state_of self.new (H.outside host.new)) }
         ensures said { H.tells → (H.outside host.new).now.said ≡ (H.outside host.old).now.said }
         ensures input { H.tells → (H.outside host.new).input ≡ (H.outside host.old).input }
         ensures disk_faults { (H.outside host.old).disk_faults ≤ (H.outside host.new).disk_faults }

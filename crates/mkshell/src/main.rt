@@ -1,13 +1,21 @@
 //! `mkshell FILE`: takes lines from standard input, and says the replies on standard output.
 #![tactic(auto)]
 
+ghost use Rattle.std.specs.Prelude.{◌≡◌, ◌∷◌, []};
+ghost use Rattle.mk_value.specs.Heading.{Domain};
+ghost use Rattle.viewers.specs.Laws.{AreArguments, gives};
+
 mod host;
+mod stock;
 
 use host::RealHost;
+use mk_value::{Memory, Row};
 use shell::{Status, run};
 use std::io::ErrorKind;
 use std::process::ExitCode;
 use std::{env, io};
+use stock::{name, one_number, one_text, two_numbers};
+use viewers::{Call, Law, StoredViewer, length, sum, twice};
 
 fn main(rt: HostRuntime) -> ExitCode {
     ExitCode::from(status(&rt).code())
@@ -15,11 +23,10 @@ fn main(rt: HostRuntime) -> ExitCode {
 
 /// Runs the program with the words that it was started with. Words that are no text are no command line.
 fn status(rt: &HostRuntime) -> Status {
-    let mut host = RealHost::new(*rt);
     match words(rt) {
-        Ok(words) => run_with(rt, &words, &mut host),
+        Ok(words) => lend(rt, &words).unwrap_or(Status::Memory),
         Err(error) if error.kind() == ErrorKind::OutOfMemory => Status::Memory,
-        Err(_) => run(rt.alloc(), &[], &mut host),
+        Err(_) => serve(rt, &[]).unwrap_or(Status::Memory),
     }
 }
 
@@ -27,10 +34,39 @@ fn words(rt: &HostRuntime) -> io::Result<Vec<String>> {
     Ok(env::args(rt)?.collect(rt.alloc())?)
 }
 
-fn run_with(rt: &HostRuntime, words: &[String], host: &mut RealHost) -> Status {
-    let lent: Result<Vec<&str>, _> = words.iter().map(|word| word.as_str()).collect(rt.alloc());
-    match lent {
-        Ok(words) => run(rt.alloc(), &words, host),
-        Err(_) => Status::Memory,
-    }
+fn lend(rt: &HostRuntime, words: &[String]) -> Result<Status, Memory> {
+    let lent: Vec<&str> = words.iter().map(|word| word.as_str()).collect(rt.alloc())?;
+    serve(rt, &lent)
+}
+
+/// Runs the program with these words, and the stock viewers.
+fn serve(rt: &HostRuntime, words: &[&str]) -> Result<Status, Memory> {
+    let alloc = rt.alloc();
+    let lengths: Call = Box::new(
+        alloc,
+        |row: &Row| -> i64
+            requires { AreArguments (Domain.text ∷ []) row.now }
+            ensures { result ≡ gives Law.Length row.now }
+        { length(row) },
+    )?;
+    let doubles: Call = Box::new(
+        alloc,
+        |row: &Row| -> i64
+            requires { AreArguments (Domain.integer ∷ []) row.now }
+            ensures { result ≡ gives Law.Twice row.now }
+        { twice(row) },
+    )?;
+    let sums: Call = Box::new(
+        alloc,
+        |row: &Row| -> i64
+            requires { AreArguments (Domain.integer ∷ Domain.integer ∷ []) row.now }
+            ensures { result ≡ gives Law.Sum row.now }
+        { sum(row) },
+    )?;
+    let mut viewers = Vec::new(alloc);
+    viewers.push(StoredViewer::new(name("length"), Law::Length, one_text(alloc)?, lengths))?;
+    viewers.push(StoredViewer::new(name("twice"), Law::Twice, one_number(alloc)?, doubles))?;
+    viewers.push(StoredViewer::new(name("sum"), Law::Sum, two_numbers(alloc)?, sums))?;
+    let mut host = RealHost::new(*rt);
+    Ok(run(alloc, words, &viewers, &mut host))
 }

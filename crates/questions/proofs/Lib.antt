@@ -3,3 +3,4 @@ mod Firsts
 mod Found
 mod Keys
 mod Steps
+pub mod Unordered

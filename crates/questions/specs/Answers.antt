@@ -7,6 +7,7 @@ use Rattle.mk_value.specs.Tables.{Table}
 use Rattle.eval.specs.Names.{Named, continued}
 use Rattle.eval.specs.Values.{value}
 use Rattle.expr_text.specs.Queries.{Query}
+use Rattle.viewers.specs.Meanings.{Meaning}
 use Rattle.questions.specs.declared.error.QuestionError.{QuestionError}
 use Rattle.questions.specs.declared.error.QuestionError.TheVariants.{Memory}
 use Rattle.questions.specs.Told.{told}
@@ -16,16 +17,16 @@ abbrev pub Answers : {X Y : Type 0} → (X → Y) → Result Y QuestionError →
 Answers see due (Ok x) = due ≡ Ok (see x)
 Answers see due (Err e) = (e ≡ Memory) ⊎ (due ≡ Err e)
 
--- the table that an expression asks for among these names, or the refusal as it is told
-abbrev pub answer : List Named → Query → Result Table QuestionError
-answer names q = result_map_both (λ t. t) told (value names q)
+-- the table that an expression asks for among these names and viewers, or the refusal as it is told
+abbrev pub answer : List Named → List Meaning → Query → Result Table QuestionError
+answer names viewers q = result_map_both (λ t. t) told (value names viewers q)
 
 -- the number of its rows, and their texts
-abbrev pub size_due : List Named → Query → Result ℕ QuestionError
-size_due names q = continued (answer names q) (λ t. Ok (length t.rows))
+abbrev pub size_due : List Named → List Meaning → Query → Result ℕ QuestionError
+size_due names viewers q = continued (answer names viewers q) (λ t. Ok (length t.rows))
 
-abbrev pub rows_due : List Named → Query → Result (List (List ℕ)) QuestionError
-rows_due names q = continued (answer names q) (λ t. Ok (map row_text t.rows))
+abbrev pub rows_due : List Named → List Meaning → Query → Result (List (List ℕ)) QuestionError
+rows_due names viewers q = continued (answer names viewers q) (λ t. Ok (map row_text t.rows))
 
 -- the bytes of texts
 abbrev pub contents : List Buffer → List (List ℕ)

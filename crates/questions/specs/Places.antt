@@ -1,5 +1,7 @@
 -- Where the value of an expression has the values that criteria ask for.
 use Rattle.std.specs.Prelude.{◌≡◌, ◌⊎◌, ℕ, Bool, true, false, ◌&&◌, not, nat_le, if◌then◌else◌, List, [], ◌∷◌, count_by, filter, length, map, Option, Some, None, Result, Ok, Err}
+use Rattle.derived.specs.Layers.{Layered}
+use Rattle.mk_value.specs.Data.{Datum}
 use Rattle.mk_value.specs.Heading.{Attribute}
 use Rattle.mk_value.specs.Names.{same_bytes}
 use Rattle.mk_value.specs.Tables.{Table}
@@ -12,6 +14,7 @@ use Rattle.relations.specs.Searching.{rows_before}
 use Rattle.relations.specs.Sorting.{keys_or_all}
 use Rattle.expr_text.specs.Arguments.{Criterion, orders}
 use Rattle.expr_text.specs.Queries.{Query, one}
+use Rattle.viewers.specs.Meanings.{Meaning}
 use Rattle.expr_text.specs.declared.operator.Operator.TheVariants as operators
 use Rattle.eval.specs.Names.{Named, continued}
 use Rattle.eval.specs.Values.{asked, key_of}
@@ -20,6 +23,16 @@ use Rattle.questions.specs.declared.error.QuestionError.TheVariants.{Memory, Ran
 use Rattle.questions.specs.declared.places.Located.{Located}
 use Rattle.questions.specs.Answers.{answer}
 use Rattle.questions.specs.Told.{told_of_operator}
+
+-- The same rows, in whatever order: of each test as many pass it.
+pub record HasRowsOf (t : Table) (schema : List Attribute) (rows : List (List Datum)) : Type 0 where
+  pub same_schema : schema ≡ t.schema
+  pub as_many : (test : List Datum → Bool) → count_by test rows ≡ count_by test t.rows
+
+-- a call gives a table with the rows that are due, in whatever order, or the refusal; or memory was wanting
+abbrev pub AnswersUnordered : Result Table QuestionError → Result Layered QuestionError → Type 0
+AnswersUnordered due (Ok d) = (t : Table) × (due ≡ Ok t) × HasRowsOf t d.schema d.rows
+AnswersUnordered due (Err e) = (e ≡ Memory) ⊎ (due ≡ Err e)
 
 -- what criteria are due of a schema, and else this
 abbrev pub unless_due : {Y : Type 0} → Option DerivedError → Result Y QuestionError → Result Y QuestionError
@@ -31,9 +44,9 @@ abbrev pub values_of : List Attribute → List Criterion → List Interval
 values_of schema criteria = map (valued schema) (map asked criteria)
 
 -- what is asked of the value of an expression, where criteria are due no refusal
-abbrev pub asked_with : {Y : Type 0} → List Named → Query → List Criterion → (Table → Result Y QuestionError) → Result Y QuestionError
-asked_with names q criteria due =
-    continued (answer names q) (λ t. unless_due (literals_due (map asked criteria) t.schema) (due t))
+abbrev pub asked_with : {Y : Type 0} → List Named → List Meaning → Query → List Criterion → (Table → Result Y QuestionError) → Result Y QuestionError
+asked_with names viewers q criteria due =
+    continued (answer names viewers q) (λ t. unless_due (literals_due (map asked criteria) t.schema) (due t))
 
 -- the refusal is this, as it is told
 abbrev pub IsTold : Option DerivedError → QuestionError → Type 0
@@ -51,8 +64,8 @@ found_from start criteria t =
     if nat_le start (length t.rows) then Ok (first_passing (is_in_range t.schema (values_of t.schema criteria)) t.rows start)
     else Err (Range (length t.rows))
 
-abbrev pub find_due : List Named → Query → ℕ → List Criterion → Result (Option ℕ) QuestionError
-find_due names q start criteria = asked_with names q criteria (found_from start criteria)
+abbrev pub find_due : List Named → List Meaning → Query → ℕ → List Criterion → Result (Option ℕ) QuestionError
+find_due names viewers q start criteria = asked_with names viewers q criteria (found_from start criteria)
 
 -- keys, each property once: the first of it decides
 abbrev pub first_keys : List Key → List Key
@@ -78,8 +91,8 @@ where_sorted q criteria t done = if begin criteria (known_keys q t.schema) then 
 abbrev pub before_values : Query → List Criterion → Table → ℕ
 before_values q criteria t = rows_before t.schema (known_keys q t.schema) (values_of t.schema criteria) t.rows
 
-abbrev pub search_due : List Named → Query → List Criterion → Result ℕ QuestionError
-search_due names q criteria = asked_with names q criteria (λ t. where_sorted q criteria t (before_values q criteria t))
+abbrev pub search_due : List Named → List Meaning → Query → List Criterion → Result ℕ QuestionError
+search_due names viewers q criteria = asked_with names viewers q criteria (λ t. where_sorted q criteria t (before_values q criteria t))
 
 -- `locate`: and how many have the values
 abbrev pub located : Query → List Criterion → Table → Located
@@ -88,5 +101,5 @@ located q criteria t = record {
   count = count_by (is_in_range t.schema (values_of t.schema criteria)) t.rows;
 }
 
-abbrev pub locate_due : List Named → Query → List Criterion → Result Located QuestionError
-locate_due names q criteria = asked_with names q criteria (λ t. where_sorted q criteria t (located q criteria t))
+abbrev pub locate_due : List Named → List Meaning → Query → List Criterion → Result Located QuestionError
+locate_due names viewers q criteria = asked_with names viewers q criteria (λ t. where_sorted q criteria t (located q criteria t))

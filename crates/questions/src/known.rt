@@ -1,23 +1,16 @@
 //! The names that a question may use.
 ghost use Rattle.std.specs.Prelude.{◌≡◌, ◌⊎◌, find, position, IfErr, IfOk, MatchOption, None, Some, Ok, Err, true};
-ghost use Rattle.derived.specs.Layers.{table_of as derived_table};
-ghost use Rattle.expr_text.specs.Meanings.{query_of};
 ghost use Rattle.eval.specs.Names.{Named, view_at};
-ghost use Rattle.eval.specs.Parts.{IsWhole};
 ghost use Rattle.eval.specs.declared.error.NameError.TheVariants as name_error;
 ghost use Rattle.mk_value.specs.Names.{same_bytes};
-ghost use Rattle.questions.specs.Answers.{Answers, answer};
 ghost use Rattle.view_store.specs.Views.{table_of as view_named};
 ghost use Rattle.questions.specs.Kept.{Kept, known, table_of};
 
-use crate::error::QuestionError;
 use crate::snapshot::Snapshot;
 use crate::walk::inner_table;
 use derived::{Derived, leaf};
-use eval::{NameError, Names, eval};
-use expr_text::Expr;
+use eval::{NameError, Names};
 use mk_value::{Name, Path, Same};
-use std::alloc::Global;
 use tables::Shared;
 use view_store::Root;
 
@@ -72,18 +65,6 @@ impl<'a> Known<'a> {
             Some(at) => Some(&self.views.tables()[at]),
             None => None,
         }
-    }
-
-    /// The table that an expression asks for.
-    ///
-    /// # Errors
-    ///
-    /// The first refusal of the expression. Else `Memory`.
-    pub(crate) fn value(&self, alloc: Global, expr: &Expr) -> Result<Derived<Shared>, QuestionError>
-        requires { IsWhole (query_of expr.now) }
-        ensures { Answers derived_table (answer (known self.now.views.now self.now.snapshots.now) (query_of expr.now)) result }
-    {
-        Ok(eval(alloc, expr, self)?)
     }
 }
 

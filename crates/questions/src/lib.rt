@@ -1,6 +1,6 @@
 //! Questions: what is asked of views and snapshots by expressions and by cursors, and changes neither view nor snapshot.
 //!
-//! The names of an expression are those of the views, and then those of snapshots: tables that were kept under a name. A question is a size,
+//! The names of an expression are those of the views, and then those of snapshots: tables that were kept under a name. Beside them it has viewers that answer rows. A question is a size,
 //! the rows, a table of its own, or where a table has values that are asked for. It stands on `eval` for the value of an expression and
 //! on the views of `view_store`; it knows nothing of lines or of replies.
 #![tactic(auto)]
@@ -10,6 +10,7 @@ mod error;
 mod known;
 mod places;
 mod rows;
+mod scope;
 mod snapshot;
 mod sorted;
 mod walk;
@@ -20,4 +21,5 @@ pub use cursor::{
 pub use error::QuestionError;
 pub use known::Known;
 pub use places::Located;
+pub use scope::Scope;
 pub use snapshot::{MAX_SNAPSHOTS, Snapshot, Snapshots, is_snapshot, take_out_snapshot};

@@ -10,13 +10,14 @@ ghost use Rattle.questions.specs.Kept.{known};
 ghost use Rattle.questions.specs.Places.{Tests, find_due, locate_due, search_due};
 
 use crate::error::{QuestionError, of_operator};
-use crate::known::Known;
+use crate::scope::Scope;
 use crate::sorted::{begin, known_keys};
 use eval::criteria_asked;
 use expr_text::{Crit, Expr};
 use mk_value::{Schema, Sequence, TableRead};
 use relations::{Criterion, check_literals, count_before, count_equal, criteria_of};
 use std::alloc::Global;
+use viewers::Viewer;
 
 /// Where rows with the values that are asked for stand, or would stand, and how many there are.
 #[derive(Clone, Copy, Debug, PartialEq, Eq)]
@@ -25,7 +26,7 @@ pub struct Located {
     pub count: u64,
 }
 
-impl Known<'_> {
+impl<V: Viewer> Scope<'_, V> {
     /// The position of the first row, not before a start, with the values of the criteria, if there is one.
     ///
     /// # Errors
@@ -39,7 +40,7 @@ impl Known<'_> {
         criteria: &[Crit],
     ) -> Result<Option<u64>, QuestionError>
         requires { IsWhole (query_of expr.now) }
-        ensures { Answers (λ found. found) (find_due (known self.now.views.now self.now.snapshots.now) (query_of expr.now) start criteria.now) result }
+        ensures { Answers (λ found. found) (find_due (known self.now.names.views.now self.now.names.snapshots.now) (map V.meaning self.now.viewers.now) (query_of expr.now) start criteria.now) result }
     {
         let table = self.value(alloc, expr)?;
         let size = table.size() as u64;
@@ -64,9 +65,9 @@ impl Known<'_> {
         criteria: &[Crit],
     ) -> Result<u64, QuestionError>
         requires { IsWhole (query_of expr.now) }
-        ensures { Answers (λ position. position) (search_due (known self.now.views.now self.now.snapshots.now) (query_of expr.now) criteria.now) result }
+        ensures { Answers (λ position. position) (search_due (known self.now.names.views.now self.now.names.snapshots.now) (map V.meaning self.now.viewers.now) (query_of expr.now) criteria.now) result }
     {
-        let table = self.value(alloc, expr)?;
+        let table = self.unordered(alloc, expr)?;
         let values = tested(alloc, table.schema(), criteria)?;
         let keys = known_keys(alloc, expr, table.schema())?;
         if !begin(criteria, keys.as_slice()) {
@@ -87,9 +88,9 @@ impl Known<'_> {
         criteria: &[Crit],
     ) -> Result<Located, QuestionError>
         requires { IsWhole (query_of expr.now) }
-        ensures { Answers (λ located. located) (locate_due (known self.now.views.now self.now.snapshots.now) (query_of expr.now) criteria.now) result }
+        ensures { Answers (λ located. located) (locate_due (known self.now.names.views.now self.now.names.snapshots.now) (map V.meaning self.now.viewers.now) (query_of expr.now) criteria.now) result }
     {
-        let table = self.value(alloc, expr)?;
+        let table = self.unordered(alloc, expr)?;
         let values = tested(alloc, table.schema(), criteria)?;
         let keys = known_keys(alloc, expr, table.schema())?;
         if !begin(criteria, keys.as_slice()) {

@@ -7,15 +7,16 @@ ghost use Rattle.questions.specs.Answers.{Answers, answer, contents, rows_due, s
 ghost use Rattle.questions.specs.Kept.{known, table_of};
 
 use crate::error::{QuestionError, of_name};
-use crate::known::Known;
+use crate::scope::Scope;
 use derived::Derived;
 use expr_text::Expr;
 use mk_value::{Memory, Row, TableRead, Text, Texts, print_row};
 use relations::{copy_row, copy_rows};
 use std::alloc::Global;
 use tables::{Shared, from_rows, share};
+use viewers::Viewer;
 
-impl Known<'_> {
+impl<V: Viewer> Scope<'_, V> {
     /// The number of rows.
     ///
     /// # Errors
@@ -23,7 +24,7 @@ impl Known<'_> {
     /// The first refusal of the expression. Else `Memory`.
     pub fn size(&self, alloc: Global, expr: &Expr) -> Result<u64, QuestionError>
         requires { IsWhole (query_of expr.now) }
-        ensures { Answers (λ size. size) (size_due (known self.now.views.now self.now.snapshots.now) (query_of expr.now)) result }
+        ensures { Answers (λ size. size) (size_due (known self.now.names.views.now self.now.names.snapshots.now) (map V.meaning self.now.viewers.now) (query_of expr.now)) result }
     {
         Ok(self.value(alloc, expr)?.size() as u64)
     }
@@ -35,7 +36,7 @@ impl Known<'_> {
     /// The first refusal of the expression. Else `Memory`.
     pub fn rows(&self, alloc: Global, expr: &Expr) -> Result<Texts, QuestionError>
         requires { IsWhole (query_of expr.now) }
-        ensures { Answers contents (rows_due (known self.now.views.now self.now.snapshots.now) (query_of expr.now)) result }
+        ensures { Answers contents (rows_due (known self.now.names.views.now self.now.names.snapshots.now) (map V.meaning self.now.viewers.now) (query_of expr.now)) result }
     {
         Ok(row_texts(alloc, &self.value(alloc, expr)?)?)
     }
@@ -47,10 +48,10 @@ impl Known<'_> {
     /// The first refusal of the expression. Else `Memory`.
     pub fn table(&self, alloc: Global, expr: &Expr) -> Result<Shared, QuestionError>
         requires { IsWhole (query_of expr.now) }
-        ensures { Answers table_of (answer (known self.now.views.now self.now.snapshots.now) (query_of expr.now)) result }
+        ensures { Answers table_of (answer (known self.now.names.views.now self.now.names.snapshots.now) (map V.meaning self.now.viewers.now) (query_of expr.now)) result }
     {
         if let Expr::Path(path) = expr {
-            return match self.shared(path) {
+            return match self.names.shared(path) {
                 Ok(table) => Ok(table),
                 Err(error) => Err(of_name(error)),
             };

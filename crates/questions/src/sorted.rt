@@ -84,7 +84,7 @@ fn given_or_all(alloc: Global, orders: &[Order], schema: &Schema) -> Result<Sequ
 }
 
 /// The keys that are given.
-fn keys_given(alloc: Global, orders: &[Order]) -> Result<Sequence<Key>, Memory>
+pub(crate) fn keys_given(alloc: Global, orders: &[Order]) -> Result<Sequence<Key>, Memory>
     ensures { IfOk result (λ keys. keys ≡ map key_of orders.now) }
 {
     let mut keys = Sequence::new(alloc);

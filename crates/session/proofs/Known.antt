@@ -3,6 +3,7 @@ use Rattle.std.proofs.Common.{ℕ, List, inl, inr}
 use Rattle.cmd_text.specs.declared.command.Command.{Command}
 use Rattle.commit_plan.specs.Plans.{Planned}
 use Rattle.lines.specs.Machine.{State}
+use Rattle.viewers.specs.Meanings.{Meaning}
 use Rattle.session.specs.Carried.{Acknowledges, BringsBack, Carried, Comes, FailsToReopen, FailsToRevert, FailsUnderWay, FindsDamage, Gives, IsFull, LeavesDiskBy, Reopens}
 use Rattle.session.specs.Commands.{Outcome, Reach, commits, gives, off_disk, opens_disk, outcome_of, reach_of, reads_disk, reopens, reverts, writes_disk}
 use Rattle.session.specs.Disk.{LeavesDisk, ReadsDisk, SettlesAtMost, WritesCommit}
@@ -85,11 +86,11 @@ module _ {known : Type 0} (k : known) (old new : State World) where
   known_left off_disk d = known_leaves d
   known_left writes_disk d = known_leaves d
 
-  known_carried : (command : Command) (reply : List ℕ) → Carried known command old reply new → Carried (Unit {0}) command old reply new
-  known_carried command reply (inl comes) = inl (known_comes (outcome_of old.world command) reply comes)
-  known_carried command reply (inr w) = inr (record { takes = w.takes; answer = w.answer; world = w.world; disk = known_left (reach_of command) w.disk })
+  known_carried : (viewers : List Meaning) (command : Command) (reply : List ℕ) → Carried known viewers command old reply new → Carried (Unit {0}) viewers command old reply new
+  known_carried viewers command reply (inl comes) = inl (known_comes (outcome_of viewers old.world command) reply comes)
+  known_carried viewers command reply (inr w) = inr (record { takes = w.takes; answer = w.answer; world = w.world; disk = known_left (reach_of command) w.disk })
 
-  pub known_step : (line reply : List ℕ) → Step known old line reply new → Step (Unit {0}) old line reply new
-  known_step line reply (inl c) = inl (record { command = c.command; reads = c.reads; carried = known_carried c.command reply c.carried })
-  known_step line reply (inr (inl r)) = inr (inl (record { error = r.error; offends = r.offends; refuses = known_gives _ _ reply r.refuses }))
-  known_step line reply (inr (inr l)) = inr (inr (record { takes = l.takes; refuses = known_gives _ _ reply l.refuses }))
+  pub known_step : (viewers : List Meaning) (line reply : List ℕ) → Step known viewers old line reply new → Step (Unit {0}) viewers old line reply new
+  known_step viewers line reply (inl c) = inl (record { command = c.command; reads = c.reads; carried = known_carried viewers c.command reply c.carried })
+  known_step viewers line reply (inr (inl r)) = inr (inl (record { error = r.error; offends = r.offends; refuses = known_gives _ _ reply r.refuses }))
+  known_step viewers line reply (inr (inr l)) = inr (inr (record { takes = l.takes; refuses = known_gives _ _ reply l.refuses }))

@@ -2,6 +2,7 @@ pub mod Asked
 pub mod Dues
 pub mod Fitted
 pub mod Known
+pub mod Machines
 pub mod OnDisk
 pub mod Outcomes
 pub mod Readings

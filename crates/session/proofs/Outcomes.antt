@@ -13,6 +13,7 @@ use Rattle.lines.specs.Machine.{State}
 use Rattle.lines.specs.Served.{state_of}
 use Rattle.storage.specs.Stored.{Stored, is_shut}
 use Rattle.view_store.specs.Views.{NamedTable}
+use Rattle.viewers.specs.Meanings.{Meaning}
 use Rattle.session.specs.Answered.{Answered, IsGiven}
 use Rattle.expr_text.specs.Meanings.{query_of}
 use Rattle.mk_value.specs.Tables.{Table}
@@ -33,11 +34,11 @@ shut_or_not : (shut goes : Bool) (one two : Outcome) → (shut && not goes) ≡ 
 shut_or_not shut goes one two e = ap (λ b. cond b one two) e
 
 -- a session that is not shut, or a command that goes all the same
-pub outcome_open : (w : World) (command : Command) → (is_shut w.store && not (goes_when_shut command)) ≡ false → outcome_of w command ≡ outcome_in w command
-outcome_open w command e = shut_or_not (is_shut w.store) (goes_when_shut command) (refused Shut w) (outcome_in w command) e
+pub outcome_open : (viewers : List Meaning) (w : World) (command : Command) → (is_shut w.store && not (goes_when_shut command)) ≡ false → outcome_of viewers w command ≡ outcome_in viewers w command
+outcome_open viewers w command e = shut_or_not (is_shut w.store) (goes_when_shut command) (refused Shut w) (outcome_in viewers w command) e
 
-pub outcome_shut : (w : World) (command : Command) → (is_shut w.store && not (goes_when_shut command)) ≡ true → outcome_of w command ≡ refused Shut w
-outcome_shut w command e = ap (λ b. cond b (refused Shut w) (outcome_in w command)) e
+pub outcome_shut : (viewers : List Meaning) (w : World) (command : Command) → (is_shut w.store && not (goes_when_shut command)) ≡ true → outcome_of viewers w command ≡ refused Shut w
+outcome_shut viewers w command e = ap (λ b. cond b (refused Shut w) (outcome_in viewers w command)) e
 
 pub open_goes : (s : Stored) (goes : Bool) → is_shut s ≡ false → (is_shut s && not goes) ≡ false
 open_goes s goes e = ap (λ b. b && not goes) e
@@ -73,10 +74,10 @@ module _ (known : Type 0) (outside : Outside) where
   without_disk command old new none leaves = subst (λ (reach : Reach). LeavesDiskBy known reach old new) (sym none) leaves
 
   -- what a command that reaches no disk is answered
-  pub answered_carried : (command : Command) (old : World) (reply : Reply) (new : World) → outcome_of old command ≡ outcome_in old command → reach_of command ≡ off_disk
-      → Answered command old reply new → Carried known command (state_of old outside) (reply_bytes reply) (state_of new outside)
-  answered_carried command old reply new is none answered = elim answered.answers [
-    | inl given ↦ inl (subst (λ (x : Outcome). Comes known x (state_of old outside) (reply_bytes reply) (state_of new outside)) (sym is) (given_comes (outcome_in old command) old (reply_bytes reply) new given))
+  pub answered_carried : (viewers : List Meaning) (command : Command) (old : World) (reply : Reply) (new : World) → outcome_of viewers old command ≡ outcome_in viewers old command → reach_of command ≡ off_disk
+      → Answered viewers command old reply new → Carried known viewers command (state_of old outside) (reply_bytes reply) (state_of new outside)
+  answered_carried viewers command old reply new is none answered = elim answered.answers [
+    | inl given ↦ inl (subst (λ (x : Outcome). Comes known x (state_of old outside) (reply_bytes reply) (state_of new outside)) (sym is) (given_comes (outcome_in viewers old command) old (reply_bytes reply) new given))
     | inr memory ↦ inr (record {
       takes = memory.1;
       answer = ap reply_bytes memory.0;
@@ -130,46 +131,46 @@ given_set None w new reply name target given = nothing_given w new (reply_bytes 
 given_set (Some standing) w new reply name target given =
     given_unless (new_name_due w name (length w.cursors) max_cursors) w (with_cursor w name target standing) new (reply_bytes (Count 0)) reply given (nothing_changed w)
 
-pub given_same : (command : Command) (w : World) (reply : List ℕ) (new : World) → IsGiven (outcome_in w command) reply new → SameFile w.store new.store
-given_same commands.Nothing w reply new given = given_left w _ new _ reply given (nothing_changed w)
-given_same (commands.Getas name schema) w reply new given = given_unless _ w _ new _ reply given (changed_views w _)
-given_same (commands.Drop name) w reply new given = given_unless _ w _ new _ reply given (changed_views w _)
-given_same commands.Struct w reply new given = given_left w _ new _ reply given (nothing_changed w)
-given_same (commands.Add route literals) w reply new given = given_unless _ w _ new _ reply given (changed_views w _)
-given_same (commands.Insert route place copies literals) w reply new given = given_unless _ w _ new _ reply given (changed_views w _)
-given_same (commands.Set route row prop literal) w reply new given = given_unless _ w _ new _ reply given (changed_views w _)
-given_same (commands.Remove route place rows) w reply new given = given_unless _ w _ new _ reply given (changed_views w _)
-given_same (commands.Size e) w reply new given = given_told (size_due (names_in w) (query_of e)) (λ size. reply_bytes (Count size)) w new reply given
-given_same (commands.Show e) w reply new given = given_told (rows_due (names_in w) (query_of e)) lines_text w new reply given
-given_same (commands.Find e start criteria) w reply new given =
-    given_told (find_due (names_in w) (query_of e) start criteria) (λ place. reply_bytes (place_reply place)) w new reply given
-given_same (commands.Search e criteria) w reply new given =
-    given_told (search_due (names_in w) (query_of e) criteria) (λ place. reply_bytes (Count place)) w new reply given
-given_same (commands.Locate e criteria) w reply new given =
-    given_told (locate_due (names_in w) (query_of e) criteria) (λ at. reply_bytes (located_reply at)) w new reply given
-given_same (commands.Dup name e) w reply new given = given_dup (answer (names_in w) (query_of e)) w new reply name given
-given_same (commands.Undup name) w reply new given = given_unless _ w _ new _ reply given (nothing_changed w)
-given_same (commands.Cursor name target) w reply new given = given_set (standing_of w.store.views w.snapshots target) w new reply name target given
-given_same (commands.Uncursor name) w reply new given = given_unless _ w _ new _ reply given (nothing_changed w)
-given_same (commands.Next name) w reply new given = given_moved (next_due w.store.views w.snapshots w.cursors name) w new reply name given
-given_same (commands.Prev name) w reply new given = given_moved (previous_due w.store.views w.snapshots w.cursors name) w new reply name given
-given_same (commands.Row name) w reply new given =
+pub given_same : (viewers : List Meaning) (command : Command) (w : World) (reply : List ℕ) (new : World) → IsGiven (outcome_in viewers w command) reply new → SameFile w.store new.store
+given_same viewers commands.Nothing w reply new given = given_left w _ new _ reply given (nothing_changed w)
+given_same viewers (commands.Getas name schema) w reply new given = given_unless _ w _ new _ reply given (changed_views w _)
+given_same viewers (commands.Drop name) w reply new given = given_unless _ w _ new _ reply given (changed_views w _)
+given_same viewers commands.Struct w reply new given = given_left w _ new _ reply given (nothing_changed w)
+given_same viewers (commands.Add route literals) w reply new given = given_unless _ w _ new _ reply given (changed_views w _)
+given_same viewers (commands.Insert route place copies literals) w reply new given = given_unless _ w _ new _ reply given (changed_views w _)
+given_same viewers (commands.Set route row prop literal) w reply new given = given_unless _ w _ new _ reply given (changed_views w _)
+given_same viewers (commands.Remove route place rows) w reply new given = given_unless _ w _ new _ reply given (changed_views w _)
+given_same viewers (commands.Size e) w reply new given = given_told (size_due (names_in w) viewers (query_of e)) (λ size. reply_bytes (Count size)) w new reply given
+given_same viewers (commands.Show e) w reply new given = given_told (rows_due (names_in w) viewers (query_of e)) lines_text w new reply given
+given_same viewers (commands.Find e start criteria) w reply new given =
+    given_told (find_due (names_in w) viewers (query_of e) start criteria) (λ place. reply_bytes (place_reply place)) w new reply given
+given_same viewers (commands.Search e criteria) w reply new given =
+    given_told (search_due (names_in w) viewers (query_of e) criteria) (λ place. reply_bytes (Count place)) w new reply given
+given_same viewers (commands.Locate e criteria) w reply new given =
+    given_told (locate_due (names_in w) viewers (query_of e) criteria) (λ at. reply_bytes (located_reply at)) w new reply given
+given_same viewers (commands.Dup name e) w reply new given = given_dup (answer (names_in w) viewers (query_of e)) w new reply name given
+given_same viewers (commands.Undup name) w reply new given = given_unless _ w _ new _ reply given (nothing_changed w)
+given_same viewers (commands.Cursor name target) w reply new given = given_set (standing_of w.store.views w.snapshots target) w new reply name target given
+given_same viewers (commands.Uncursor name) w reply new given = given_unless _ w _ new _ reply given (nothing_changed w)
+given_same viewers (commands.Next name) w reply new given = given_moved (next_due w.store.views w.snapshots w.cursors name) w new reply name given
+given_same viewers (commands.Prev name) w reply new given = given_moved (previous_due w.store.views w.snapshots w.cursors name) w new reply name given
+given_same viewers (commands.Row name) w reply new given =
     given_told (row_due w.store.views w.snapshots w.cursors name) (λ text. reply_line (codes "ok " ++ text)) w new reply given
-given_same (commands.Commit note) w reply new given = given_or_refused _ w new (commits note) reply (λ never. never) given
-given_same commands.Log w reply new given = given_left w _ new _ reply given (nothing_changed w)
-given_same commands.Rollback w reply new given = given_left w _ new _ reply given (changed_views w _)
-given_same commands.Reopen w reply new given = absurd given
-given_same commands.Revert w reply new given = given_or_refused _ w new reverts reply (λ never. never) given
-given_same commands.Space w reply new given = given_left w _ new _ reply given (nothing_changed w)
-given_same commands.Quit w reply new given = given_left w _ new _ reply given (nothing_changed w)
-given_same (commands.Watch name e) w reply new given = given_left w _ new _ reply given (nothing_changed w)
-given_same (commands.Unwatch name) w reply new given = given_left w _ new _ reply given (nothing_changed w)
-given_same (commands.Hash name keys) w reply new given = given_left w _ new _ reply given (nothing_changed w)
-given_same (commands.Ordered name keys) w reply new given = given_left w _ new _ reply given (nothing_changed w)
-given_same (commands.Unmap name) w reply new given = given_left w _ new _ reply given (nothing_changed w)
+given_same viewers (commands.Commit note) w reply new given = given_or_refused _ w new (commits note) reply (λ never. never) given
+given_same viewers commands.Log w reply new given = given_left w _ new _ reply given (nothing_changed w)
+given_same viewers commands.Rollback w reply new given = given_left w _ new _ reply given (changed_views w _)
+given_same viewers commands.Reopen w reply new given = absurd given
+given_same viewers commands.Revert w reply new given = given_or_refused _ w new reverts reply (λ never. never) given
+given_same viewers commands.Space w reply new given = given_left w _ new _ reply given (nothing_changed w)
+given_same viewers commands.Quit w reply new given = given_left w _ new _ reply given (nothing_changed w)
+given_same viewers (commands.Watch name e) w reply new given = given_left w _ new _ reply given (nothing_changed w)
+given_same viewers (commands.Unwatch name) w reply new given = given_left w _ new _ reply given (nothing_changed w)
+given_same viewers (commands.Hash name keys) w reply new given = given_left w _ new _ reply given (nothing_changed w)
+given_same viewers (commands.Ordered name keys) w reply new given = given_left w _ new _ reply given (nothing_changed w)
+given_same viewers (commands.Unmap name) w reply new given = given_left w _ new _ reply given (nothing_changed w)
 
-pub answered_same : (command : Command) (w : World) (reply : Reply) (new : World) → Answered command w reply new → SameFile w.store new.store
-answered_same command w reply new answered = elim answered.answers [
-  | inl given ↦ given_same command w (reply_bytes reply) new given
+pub answered_same : (viewers : List Meaning) (command : Command) (w : World) (reply : Reply) (new : World) → Answered viewers command w reply new → SameFile w.store new.store
+answered_same viewers command w reply new answered = elim answered.answers [
+  | inl given ↦ given_same viewers command w (reply_bytes reply) new given
   | inr memory ↦ same_world w new w memory.2 (nothing_changed w)
 ]

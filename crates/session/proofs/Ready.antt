@@ -5,14 +5,12 @@ use Rattle.std.specs.Prelude.{IsSome}
 use Rattle.std.proofs.lemmas.Bool.{false≢true}
 use Rattle.host_io.specs.Disk.{DiskState, IsImage, IsSound}
 use Rattle.host_io.proofs.Images.{IsSound-settled, image_of_settled}
-use Rattle.lines.specs.Crash.{IsReady}
 use Rattle.lines.specs.Machine.{State}
 use Rattle.recovery.specs.Commits.{Commit, IsCommit, mark_of}
 use Rattle.recovery.specs.Refusals.{IsBefore, MayStand, whole}
 use Rattle.recovery.specs.Standing.{StandsFor}
 use Rattle.storage.specs.Stored.{Rests, Stored, is_shut}
-use Rattle.session.specs.Disk.{IsAllowed}
-use Rattle.session.specs.Step.{machine}
+use Rattle.session.specs.Disk.{IsAllowed, IsSteady}
 use Rattle.session.specs.World.{World}
 
 -- the file of a store that rests on its disk stands for its commit
@@ -20,7 +18,7 @@ pub stands_at_rest : (s : Stored) (disk : DiskState) → IsCommit s.kept → Res
 stands_at_rest s disk is_whole rests = (s.slot, mark_of s.kept, s.other, rests.chooses, record { whole = is_whole; mark = refl; holds = rests.holds })
 
 -- all is settled, and the file stands for the commit that is kept
-pub ready_at_rest : (state : State World) → StandsFor state.disk.seen state.world.store.kept → Rests state.world.store state.disk → IsReady machine state
+pub ready_at_rest : (state : State World) → StandsFor state.disk.seen state.world.store.kept → Rests state.world.store state.disk → IsSteady state
 ready_at_rest state stands rests = record {
   allowed = λ image is.
       let same = sym (image_of_settled state.disk image rests.settled is) in
@@ -40,7 +38,7 @@ either_allowed state next attempted image (inr both) = inr (record { next = next
 
 -- a commit failed under way, and either may stand
 pub ready_when_shut : (state : State World) (next : Commit) → state.world.store.attempted ≡ Some next
-    → ((image : List ℕ) → IsImage state.disk image → MayStand state.world.store.kept next image) → IsSound state.disk → IsReady machine state
+    → ((image : List ℕ) → IsImage state.disk image → MayStand state.world.store.kept next image) → IsSound state.disk → IsSteady state
 ready_when_shut state next attempted left sound = record {
   allowed = λ image is. either_allowed state next attempted image (left image is);
   ready = record { sound = sound; rests = λ unshut. absurd (shut_from state.world.store next attempted unshut) };
@@ -70,7 +68,7 @@ allowed_same old new same disk image (inr attempted) = inr (record {
 rests_same : (old new : State World) → SameFile old.world.store new.world.store → new.disk ≡ old.disk → Rests old.world.store old.disk → Rests new.world.store new.disk
 rests_same old new same disk rests = rw (same.kept, same.slot, same.other, disk) rests
 
-pub ready_same : (old new : State World) → SameFile old.world.store new.world.store → new.disk ≡ old.disk → IsReady machine old → IsReady machine new
+pub ready_same : (old new : State World) → SameFile old.world.store new.world.store → new.disk ≡ old.disk → IsSteady old → IsSteady new
 ready_same old new same disk ready = record {
   allowed = λ image is. allowed_same old new same disk image (ready.allowed image (subst (λ (d : DiskState). IsImage d image) disk is));
   ready = record {

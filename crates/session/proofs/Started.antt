@@ -7,7 +7,6 @@ use Rattle.session.specs.declared.starting.StartError.TheVariants as start_error
 use Rattle.host_io.specs.Calls.{Looks}
 use Rattle.host_io.specs.Disk.{DiskState}
 use Rattle.host_io.specs.Outside.{Moment, Outside}
-use Rattle.lines.specs.Crash.{IsReady}
 use Rattle.lines.specs.Machine.{State}
 use Rattle.lines.specs.Served.{state_of}
 use Rattle.recovery.specs.Commits.{IsCommit}
@@ -16,8 +15,8 @@ use Rattle.recovery.specs.declared.error.OpenError.{OpenError}
 use Rattle.recovery.specs.declared.error.OpenError.TheVariants as opening
 use Rattle.storage.specs.Stored.{Rests, opened_store}
 use Rattle.storage.specs.declared.mode.Mode.{Mode}
+use Rattle.session.specs.Disk.{IsSteady}
 use Rattle.session.specs.Starting.{IsStartRefusal, StartsAs, StartsFrom, cause_of_opening}
-use Rattle.session.specs.Step.{machine}
 use Rattle.session.specs.World.{World, world_over}
 use Rattle.session.proofs.Ready.{ready_at_rest, stands_at_rest}
 
@@ -70,7 +69,7 @@ module _ (w : World) (old new : Outside) (looks : Looks old new) where
     same = ap (λ (d : DiskState). d.seen) same_disk;
   })
 
-  pub ready_open : IsCommit w.store.kept → Rests w.store old.now.disk → IsReady machine (state_of w new)
+  pub ready_open : IsCommit w.store.kept → Rests w.store old.now.disk → IsSteady (state_of w new)
   ready_open is_whole rests =
       let now : Rests w.store new.now.disk = subst (λ (d : DiskState). Rests w.store d) (sym same_disk) rests in
       ready_at_rest (state_of w new) (stands_at_rest w.store new.now.disk is_whole now) now

@@ -9,6 +9,7 @@ use Rattle.host_io.specs.Calls.{Rose}
 use Rattle.lines.specs.Lines.{IsTooLong}
 use Rattle.lines.specs.Machine.{Answers, Run, State, Turn}
 use Rattle.storage.specs.Stored.{is_shut}
+use Rattle.viewers.specs.Meanings.{Meaning}
 use Rattle.session.specs.Answered.{IsGiven}
 use Rattle.session.specs.Carried.{Carried, Comes, LeavesDiskBy}
 use Rattle.session.specs.Commands.{Outcome, Reach, commits, gives, goes_when_shut, off_disk, opens_disk, outcome_in, outcome_of, reach_of, reads_disk, reopens, reverts, writes_disk}
@@ -56,14 +57,14 @@ module _ (old new : State World) where
   comes_faults reverts reply (inr (inl f)) = f.disk.later
   comes_faults reverts reply (inr (inr f)) = f.disk.later
 
-  carried_faults : (command : Command) (reply : List ℕ) → Carried (Unit {0}) command old reply new → old.disk_faults ≤ new.disk_faults
-  carried_faults command reply (inl comes) = comes_faults (outcome_of old.world command) reply comes
-  carried_faults command reply (inr w) = leaves_faults (reach_of command) w.disk
+  carried_faults : (viewers : List Meaning) (command : Command) (reply : List ℕ) → Carried (Unit {0}) viewers command old reply new → old.disk_faults ≤ new.disk_faults
+  carried_faults viewers command reply (inl comes) = comes_faults (outcome_of viewers old.world command) reply comes
+  carried_faults viewers command reply (inr w) = leaves_faults (reach_of command) w.disk
 
-  step_faults : (line reply : List ℕ) → Step (Unit {0}) old line reply new → old.disk_faults ≤ new.disk_faults
-  step_faults line reply (inl c) = carried_faults c.command reply c.carried
-  step_faults line reply (inr (inl r)) = left_faults r.refuses.disk
-  step_faults line reply (inr (inr l)) = left_faults l.refuses.disk
+  step_faults : (viewers : List Meaning) (line reply : List ℕ) → Step (Unit {0}) viewers old line reply new → old.disk_faults ≤ new.disk_faults
+  step_faults viewers line reply (inl c) = carried_faults viewers c.command reply c.carried
+  step_faults viewers line reply (inr (inl r)) = left_faults r.refuses.disk
+  step_faults viewers line reply (inr (inr l)) = left_faults l.refuses.disk
 
   module _ (unshut : is_shut old.world.store ≡ false) (still : ¬ Rose old.disk_faults new.disk_faults) where
     -- the session stays unshut where its attempted commit is none still
@@ -91,65 +92,65 @@ module _ (old new : State World) where
     well_open reverts reply none (inr f) = stays_open _ f.world unshut
 
 -- what a session gives that is not shut leaves one that is not shut
-gives_open : (command : Command) (w : World) (said : List ℕ) (left : World) → is_shut w.store ≡ false → outcome_in w command ≡ gives said left → is_shut left.store ≡ false
-gives_open command w said left unshut e =
-    ap is_some (given_same command w said left (subst (λ (o : Outcome). IsGiven o said left) (sym e) (refl, refl))).attempted ∙ unshut
+gives_open : (viewers : List Meaning) (command : Command) (w : World) (said : List ℕ) (left : World) → is_shut w.store ≡ false → outcome_in viewers w command ≡ gives said left → is_shut left.store ≡ false
+gives_open viewers command w said left unshut e =
+    ap is_some (given_same viewers command w said left (subst (λ (o : Outcome). IsGiven o said left) (sym e) (refl, refl))).attempted ∙ unshut
 
-module _ (old new : State World) (unshut : is_shut old.world.store ≡ false) (still : ¬ Rose old.disk_faults new.disk_faults) where
-  open_of : (command : Command) → outcome_of old.world command ≡ outcome_in old.world command
-  open_of command = outcome_open old.world command (open_goes old.world.store (goes_when_shut command) unshut)
+module _ (viewers : List Meaning) (old new : State World) (unshut : is_shut old.world.store ≡ false) (still : ¬ Rose old.disk_faults new.disk_faults) where
+  open_of : (command : Command) → outcome_of viewers old.world command ≡ outcome_in viewers old.world command
+  open_of command = outcome_open viewers old.world command (open_goes old.world.store (goes_when_shut command) unshut)
 
-  carried_well : (command : Command) (line reply : List ℕ) → Reads line command → Carried (Unit {0}) command old reply new → StepsWell old line reply new × (is_shut new.world.store ≡ false)
+  carried_well : (command : Command) (line reply : List ℕ) → Reads line command → Carried (Unit {0}) viewers command old reply new → StepsWell viewers old line reply new × (is_shut new.world.store ≡ false)
   carried_well command line reply reads (inl comes) =
-      let well = comes_well old new unshut still (outcome_in old.world command) reply (subst (λ (o : Outcome). Comes (Unit {0}) o old reply new) (open_of command) comes) in (
+      let well = comes_well old new unshut still (outcome_in viewers old.world command) reply (subst (λ (o : Outcome). Comes (Unit {0}) o old reply new) (open_of command) comes) in (
         inl (record { command = command; reads = reads; comes = inl well }),
-        well_open old new unshut still (outcome_in old.world command) reply (λ said left e. gives_open command old.world said left unshut e) well,
+        well_open old new unshut still (outcome_in viewers old.world command) reply (λ said left e. gives_open viewers command old.world said left unshut e) well,
       )
   carried_well command line reply reads (inr w) =
       (inl (record { command = command; reads = reads; comes = inr w }), stays_open old new unshut still old.world w.world unshut)
 
-  step_well : (line reply : List ℕ) → Step (Unit {0}) old line reply new → StepsWell old line reply new × (is_shut new.world.store ≡ false)
+  step_well : (line reply : List ℕ) → Step (Unit {0}) viewers old line reply new → StepsWell viewers old line reply new × (is_shut new.world.store ≡ false)
   step_well line reply (inl c) = carried_well c.command line reply c.reads c.carried
   step_well line reply (inr (inl r)) = (inr (inl r), stays_open old new unshut still old.world r.refuses.world unshut)
   step_well line reply (inr (inr l)) = (inr (inr l), stays_open old new unshut still old.world l.refuses.world unshut)
 
-  turn_well : (line reply : List ℕ) → Answers machine old line reply new → (IsTooLong line ⊎ StepsWell old line reply new) × (is_shut new.world.store ≡ false)
+  turn_well : (line reply : List ℕ) → Answers (machine viewers) old line reply new → (IsTooLong line ⊎ StepsWell viewers old line reply new) × (is_shut new.world.store ≡ false)
   turn_well line reply (inl long) = (inl long.0, ap (λ (s : State World). is_shut s.world.store) long.2 ∙ unshut)
   turn_well line reply (inr step) = let well = step_well line reply step.1 in (inr well.0, well.1)
 
-turn_faults : (old new : State World) (line reply : List ℕ) → Answers machine old line reply new → old.disk_faults ≤ new.disk_faults
-turn_faults old new line reply (inl long) = let e = ap (λ (s : State World). s.disk_faults) long.2 in omega (arith, e)
-turn_faults old new line reply (inr step) = step_faults old new line reply step.1
+turn_faults : (viewers : List Meaning) (old new : State World) (line reply : List ℕ) → Answers (machine viewers) old line reply new → old.disk_faults ≤ new.disk_faults
+turn_faults viewers old new line reply (inl long) = let e = ap (λ (s : State World). s.disk_faults) long.2 in omega (arith, e)
+turn_faults viewers old new line reply (inr step) = step_faults old new viewers line reply step.1
 
-run_faults : (old last : State World) (lines : List (List ℕ)) (turns : List (Turn World)) → Run machine old lines turns last → old.disk_faults ≤ last.disk_faults
-run_faults old last [] [] run = let e = ap (λ (s : State World). s.disk_faults) run in omega (arith, e)
-run_faults old last [] (turn ∷ turns) run = absurd run
-run_faults old last (line ∷ lines) [] run = absurd run
-run_faults old last (line ∷ lines) (turn ∷ turns) run =
-    let first = turn_faults old turn.after line turn.reply run.1 in
+run_faults : (viewers : List Meaning) (old last : State World) (lines : List (List ℕ)) (turns : List (Turn World)) → Run (machine viewers) old lines turns last → old.disk_faults ≤ last.disk_faults
+run_faults viewers old last [] [] run = let e = ap (λ (s : State World). s.disk_faults) run in omega (arith, e)
+run_faults viewers old last [] (turn ∷ turns) run = absurd run
+run_faults viewers old last (line ∷ lines) [] run = absurd run
+run_faults viewers old last (line ∷ lines) (turn ∷ turns) run =
+    let first = turn_faults viewers old turn.after line turn.reply run.1 in
     elim run.2 [
       | inl ended ↦ let e = ap (λ (s : State World). s.disk_faults) ended.2 in omega (arith, first, e)
-      | inr more ↦ let rest = run_faults turn.after last lines turns more.1 in omega (arith, first, rest)
+      | inr more ↦ let rest = run_faults viewers turn.after last lines turns more.1 in omega (arith, first, rest)
     ]
 
-pub answered_unfaulted : (old last : State World) (lines : List (List ℕ)) (turns : List (Turn World)) → is_shut old.world.store ≡ false → Run machine old lines turns last → (¬ Rose old.disk_faults last.disk_faults)
-    → AreAnswered old turns
-answered_unfaulted old last lines [] unshut run still = tt
-answered_unfaulted old last [] (turn ∷ turns) unshut run still = absurd run
-answered_unfaulted old last (line ∷ lines) (turn ∷ turns) unshut run still =
-    let first = turn_faults old turn.after line turn.reply run.1 in
+pub answered_unfaulted : (viewers : List Meaning) (old last : State World) (lines : List (List ℕ)) (turns : List (Turn World)) → is_shut old.world.store ≡ false → Run (machine viewers) old lines turns last → (¬ Rose old.disk_faults last.disk_faults)
+    → AreAnswered viewers old turns
+answered_unfaulted viewers old last lines [] unshut run still = tt
+answered_unfaulted viewers old last [] (turn ∷ turns) unshut run still = absurd run
+answered_unfaulted viewers old last (line ∷ lines) (turn ∷ turns) unshut run still =
+    let first = turn_faults viewers old turn.after line turn.reply run.1 in
     elim run.2 [
       | inl ended ↦
           let e = ap (λ (s : State World). s.disk_faults) ended.2 in
           let later : turn.after.disk_faults ≤ last.disk_faults = omega (arith, e) in
-          let well = turn_well old turn.after unshut (λ rose. still (rose_later old.disk_faults turn.after.disk_faults last.disk_faults first later rose)) line turn.reply run.1 in (
-            record { unshut = well.1; well = subst (λ (l : List ℕ). IsTooLong l ⊎ StepsWell old l turn.reply turn.after) (sym run.0) well.0 },
-            subst (λ (ts : List (Turn World)). AreAnswered turn.after ts) (sym ended.1) tt,
+          let well = turn_well viewers old turn.after unshut (λ rose. still (rose_later old.disk_faults turn.after.disk_faults last.disk_faults first later rose)) line turn.reply run.1 in (
+            record { unshut = well.1; well = subst (λ (l : List ℕ). IsTooLong l ⊎ StepsWell viewers old l turn.reply turn.after) (sym run.0) well.0 },
+            subst (λ (ts : List (Turn World)). AreAnswered viewers turn.after ts) (sym ended.1) tt,
           )
       | inr more ↦
-          let later = run_faults turn.after last lines turns more.1 in
-          let well = turn_well old turn.after unshut (λ rose. still (rose_later old.disk_faults turn.after.disk_faults last.disk_faults first later rose)) line turn.reply run.1 in (
-            record { unshut = well.1; well = subst (λ (l : List ℕ). IsTooLong l ⊎ StepsWell old l turn.reply turn.after) (sym run.0) well.0 },
-            answered_unfaulted turn.after last lines turns well.1 more.1 (λ rose. still (rose_before old.disk_faults turn.after.disk_faults last.disk_faults first later rose)),
+          let later = run_faults viewers turn.after last lines turns more.1 in
+          let well = turn_well viewers old turn.after unshut (λ rose. still (rose_later old.disk_faults turn.after.disk_faults last.disk_faults first later rose)) line turn.reply run.1 in (
+            record { unshut = well.1; well = subst (λ (l : List ℕ). IsTooLong l ⊎ StepsWell viewers old l turn.reply turn.after) (sym run.0) well.0 },
+            answered_unfaulted viewers turn.after last lines turns well.1 more.1 (λ rose. still (rose_before old.disk_faults turn.after.disk_faults last.disk_faults first later rose)),
           )
     ]

@@ -8,6 +8,7 @@ use Rattle.cmd_text.specs.declared.refusal.Refusal.TheVariants.{Memory}
 use Rattle.cmd_text.specs.declared.reply.Reply.{Reply}
 use Rattle.cmd_text.specs.declared.reply.Reply.TheVariants.{Refused, Silent}
 use Rattle.lines.specs.Lines.{max_line}
+use Rattle.viewers.specs.Meanings.{Meaning}
 use Rattle.session.specs.Commands.{Outcome, gives, commits, reopens, reverts, outcome_in, takes_memory}
 use Rattle.session.specs.Saying.{FitsIn, IsUnbounded}
 use Rattle.session.specs.World.{World}
@@ -25,8 +26,8 @@ IsGiven reopens reply new = ⊥
 IsGiven reverts reply new = ⊥
 
 -- What is due came of the command, or memory was wanting and nothing changed. The reply to a change fits the room of a reply.
-pub record Answered (command : Command) (old : World) (reply : Reply) (new : World) : Type 0 where
-  pub answers : IsGiven (outcome_in old command) (reply_bytes reply) new ⊎ ((reply ≡ Refused Memory) × (takes_memory command ≡ true) × (new ≡ old))
+pub record Answered (viewers : List Meaning) (command : Command) (old : World) (reply : Reply) (new : World) : Type 0 where
+  pub answers : IsGiven (outcome_in viewers old command) (reply_bytes reply) new ⊎ ((reply ≡ Refused Memory) × (takes_memory command ≡ true) × (new ≡ old))
   pub fits : FitsIn (max_line + 1) reply
   pub kept : IsUnbounded reply → (takes_memory command ≡ true) × (new ≡ old)
   pub silent : reply ≡ Silent → command ≡ commands.Nothing

@@ -13,6 +13,7 @@ use Rattle.recovery.specs.Refusals.{IsBefore, broken, whole}
 use Rattle.recovery.specs.Standing.{StandsFor}
 use Rattle.storage.specs.Reverting.{views_without_homes}
 use Rattle.storage.specs.Stored.{Rests, committed, failed, floor_of, reopened}
+use Rattle.viewers.specs.Meanings.{Meaning}
 use Rattle.session.specs.Commands.{Outcome, Reach, gives, commits, opens_disk, outcome_of, reach_of, reads_disk, reopens, reverts, takes_memory}
 use Rattle.session.specs.Disk.{IsNext, LeavesDisk, ReadsDisk, SettlesAtMost, WritesCommit}
 use Rattle.session.specs.World.{World, with_store, with_tables, without_cursors}
@@ -121,9 +122,9 @@ pub record WantsMemory (known : Type 0) (command : Command) (old : State World) 
   pub world : new.world ≡ old.world
   pub disk : LeavesDiskFor known command old new
 
--- what may come of the command
-abbrev pub Carried : Type 0 → Command → State World → List ℕ → State World → Type 0
-Carried known command old reply new = Comes known (outcome_of old.world command) old reply new ⊎ WantsMemory known command old reply new
+-- what may come of the command, where these viewers may be asked
+abbrev pub Carried : Type 0 → List Meaning → Command → State World → List ℕ → State World → Type 0
+Carried known viewers command old reply new = Comes known (outcome_of viewers old.world command) old reply new ⊎ WantsMemory known command old reply new
 
 -- A reply of lines may want memory to be said, so nothing changed before.
 pub record ChangesNothing (known : Type 0) (command : Command) (old new : State World) : Type 0 where

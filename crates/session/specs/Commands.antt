@@ -30,6 +30,7 @@ use Rattle.storage.specs.declared.mode.Mode.TheVariants.{Write, Extend, Read}
 use Rattle.struct_text.specs.Spelling.{spelling}
 use Rattle.view_store.specs.Edits.{Edit}
 use Rattle.view_store.specs.Views.{NamedTable, edited_views, without_view}
+use Rattle.viewers.specs.Meanings.{Meaning}
 use Rattle.session.specs.Naming.{drop_due, getas_due, max_cursors, max_snapshots, new_name_due, uncursor_due, undup_due}
 use Rattle.session.specs.Questions.{located_reply, names_in, place_reply, refusal_of_question}
 use Rattle.session.specs.Refusals.{add_due, first_of, insert_due, remove_due, set_due, unless}
@@ -116,59 +117,59 @@ note_texts notes = map note_text (reverse notes)
 abbrev pub taken : Stored → Taken
 taken s = record { number = s.kept.number; end = s.kept.end; used = (space_of s.kept).used }
 
--- what comes of a command of a session that is not shut
-abbrev pub outcome_in : World → Command → Outcome
-outcome_in w commands.Nothing = gives [] w
-outcome_in w (commands.Getas name schema) =
+-- what comes of a command of a session that is not shut, where these viewers may be asked
+abbrev pub outcome_in : List Meaning → World → Command → Outcome
+outcome_in viewers w commands.Nothing = gives [] w
+outcome_in viewers w (commands.Getas name schema) =
     unless_due (getas_due w name schema) w
     (gives (reply_line (codes "ok " ++ spelling name schema)) (with_tables w (structured w.store.views name schema)))
-outcome_in w (commands.Drop name) = unless_due (drop_due w name) w (gives (reply_bytes Plain) (with_tables w (without_view w.store.views name)))
-outcome_in w commands.Struct = gives (lines_text (structures w.store.views)) w
+outcome_in viewers w (commands.Drop name) = unless_due (drop_due w name) w (gives (reply_bytes Plain) (with_tables w (without_view w.store.views name)))
+outcome_in viewers w commands.Struct = gives (lines_text (structures w.store.views)) w
 -- the reply to `add` is the place of the row; the replies to `insert` and `remove` are the sizes after them
-outcome_in w (commands.Add route literals) =
+outcome_in viewers w (commands.Add route literals) =
     unless_due (add_due w.store.views route literals) w
     (gives (reply_bytes (Count (size_named w.store.views route))) (with_tables w (inserted w.store.views route (size_named w.store.views route) 1 literals)))
-outcome_in w (commands.Insert route place copies literals) =
+outcome_in viewers w (commands.Insert route place copies literals) =
     unless_due (insert_due w.store.views route place copies literals) w
     (gives (reply_bytes (Count (size_named w.store.views route + copies))) (with_tables w (inserted w.store.views route place copies literals)))
-outcome_in w (commands.Set route row prop literal) =
+outcome_in viewers w (commands.Set route row prop literal) =
     unless_due (set_due w.store.views route row prop (literal_of literal)) w
     (gives (reply_bytes Plain) (with_tables w (changed w.store.views route row prop (literal_of literal))))
-outcome_in w (commands.Remove route place rows) =
+outcome_in viewers w (commands.Remove route place rows) =
     unless_due (remove_due w.store.views route place rows) w
     (gives (reply_bytes (Count (size_named w.store.views route - rows))) (with_tables w (removed w.store.views route place rows)))
-outcome_in w (commands.Size e) = told (size_due (names_in w) (query_of e)) w (λ size. gives (reply_bytes (Count size)) w)
-outcome_in w (commands.Show e) = told (rows_due (names_in w) (query_of e)) w (λ rows. gives (lines_text rows) w)
-outcome_in w (commands.Find e start criteria) =
-    told (find_due (names_in w) (query_of e) start criteria) w (λ place. gives (reply_bytes (place_reply place)) w)
-outcome_in w (commands.Search e criteria) =
-    told (search_due (names_in w) (query_of e) criteria) w (λ place. gives (reply_bytes (Count place)) w)
-outcome_in w (commands.Locate e criteria) =
-    told (locate_due (names_in w) (query_of e) criteria) w (λ at. gives (reply_bytes (located_reply at)) w)
+outcome_in viewers w (commands.Size e) = told (size_due (names_in w) viewers (query_of e)) w (λ size. gives (reply_bytes (Count size)) w)
+outcome_in viewers w (commands.Show e) = told (rows_due (names_in w) viewers (query_of e)) w (λ rows. gives (lines_text rows) w)
+outcome_in viewers w (commands.Find e start criteria) =
+    told (find_due (names_in w) viewers (query_of e) start criteria) w (λ place. gives (reply_bytes (place_reply place)) w)
+outcome_in viewers w (commands.Search e criteria) =
+    told (search_due (names_in w) viewers (query_of e) criteria) w (λ place. gives (reply_bytes (Count place)) w)
+outcome_in viewers w (commands.Locate e criteria) =
+    told (locate_due (names_in w) viewers (query_of e) criteria) w (λ at. gives (reply_bytes (located_reply at)) w)
 -- the reply to `dup` is the number of rows
-outcome_in w (commands.Dup name e) =
-    told (answer (names_in w) (query_of e)) w (λ t.
+outcome_in viewers w (commands.Dup name e) =
+    told (answer (names_in w) viewers (query_of e)) w (λ t.
     unless_due (new_name_due w name (length w.snapshots) max_snapshots) w (gives (reply_bytes (Count (length t.rows))) (with_snapshot w name t)))
-outcome_in w (commands.Undup name) =
+outcome_in viewers w (commands.Undup name) =
     unless_due (undup_due w name) w (gives (reply_bytes Plain) (record w { snapshots = without_kept w.snapshots name }))
-outcome_in w (commands.Cursor name target) = set_on (standing_of w.store.views w.snapshots target) w name target
-outcome_in w (commands.Uncursor name) =
+outcome_in viewers w (commands.Cursor name target) = set_on (standing_of w.store.views w.snapshots target) w name target
+outcome_in viewers w (commands.Uncursor name) =
     unless_due (uncursor_due w name) w (gives (reply_bytes Plain) (record w { cursors = without_cursor w.cursors name }))
-outcome_in w (commands.Next name) =
+outcome_in viewers w (commands.Next name) =
     told (next_due w.store.views w.snapshots w.cursors name) w (λ place. gives (reply_bytes (Count place)) (moved_in w name place))
-outcome_in w (commands.Prev name) =
+outcome_in viewers w (commands.Prev name) =
     told (previous_due w.store.views w.snapshots w.cursors name) w (λ place. gives (reply_bytes (Count place)) (moved_in w name place))
-outcome_in w (commands.Row name) =
+outcome_in viewers w (commands.Row name) =
     told (row_due w.store.views w.snapshots w.cursors name) w (λ text. gives (reply_line (codes "ok " ++ text)) w)
-outcome_in w (commands.Commit note) = unless_due (commit_due w.store) w (commits note)
-outcome_in w commands.Log = gives (lines_text (note_texts w.store.kept.notes)) w
-outcome_in w commands.Rollback = gives (reply_bytes (Rollback w.store.kept.number)) (without_cursors (with_store w (rolled_back w.store)))
-outcome_in w commands.Reopen = reopens
-outcome_in w commands.Revert = unless_due (revert_due w.store) w reverts
-outcome_in w commands.Space = gives (reply_bytes (Space (taken w.store))) w
-outcome_in w commands.Quit = gives (reply_bytes Quit) w
+outcome_in viewers w (commands.Commit note) = unless_due (commit_due w.store) w (commits note)
+outcome_in viewers w commands.Log = gives (lines_text (note_texts w.store.kept.notes)) w
+outcome_in viewers w commands.Rollback = gives (reply_bytes (Rollback w.store.kept.number)) (without_cursors (with_store w (rolled_back w.store)))
+outcome_in viewers w commands.Reopen = reopens
+outcome_in viewers w commands.Revert = unless_due (revert_due w.store) w reverts
+outcome_in viewers w commands.Space = gives (reply_bytes (Space (taken w.store))) w
+outcome_in viewers w commands.Quit = gives (reply_bytes Quit) w
 -- no line reads as one of the others yet
-outcome_in w _ = gives [] w
+outcome_in viewers w _ = gives [] w
 
 -- what a session that is shut answers as any other does
 abbrev pub goes_when_shut : Command → Bool
@@ -177,8 +178,8 @@ goes_when_shut commands.Reopen = true
 goes_when_shut commands.Quit = true
 goes_when_shut _ = false
 
-abbrev pub outcome_of : World → Command → Outcome
-outcome_of w command = if is_shut w.store && not (goes_when_shut command) then refused Shut w else outcome_in w command
+abbrev pub outcome_of : List Meaning → World → Command → Outcome
+outcome_of viewers w command = if is_shut w.store && not (goes_when_shut command) then refused Shut w else outcome_in viewers w command
 
 -- a command that is never answered for want of memory, once its line was read
 abbrev pub takes_memory : Command → Bool

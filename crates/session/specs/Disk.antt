@@ -3,7 +3,7 @@ use Rattle.std.specs.Prelude.{◌≡◌, ◌⊎◌, ℕ, ◌≤◌, List, ◌∷
 use Rattle.commit_marks.specs.Marks.{other_slot, slot_range}
 use Rattle.commit_plan.specs.Plans.{IsPlanOf, Planned}
 use Rattle.commit_writes.specs.Blocks.{extents_of}
-use Rattle.host_io.specs.Disk.{IsSound, Range, settled}
+use Rattle.host_io.specs.Disk.{IsImage, IsSound, Range, settled}
 use Rattle.host_io.specs.Ranges.{AgreesBut}
 use Rattle.lines.specs.Machine.{State}
 use Rattle.recovery.specs.Commits.{Commit}
@@ -63,3 +63,8 @@ IsAllowed state image = IsKept state image ⊎ IsAttempted state image
 pub record IsInOrder (state : State World) : Type 0 where
   pub sound : IsSound state.disk
   pub rests : is_shut state.world.store ≡ false → Rests state.world.store state.disk
+
+-- the state is as its next line needs it, whatever may be asked then, and each image that a crash may leave now is allowed
+pub record IsSteady (state : State World) : Type 0 where
+  pub allowed : (image : List ℕ) → IsImage state.disk image → IsAllowed state image
+  pub ready : IsInOrder state

@@ -1,20 +1,24 @@
 -- What a crash may leave while a command is carried out.
-use Rattle.std.specs.Prelude.{◌≡◌, ◌⊎◌, ℕ, List}
+use Rattle.std.specs.Prelude.{◌≡◌, ◌⊎◌, ℕ, false, List, None}
 use Rattle.cmd_text.specs.Lines.{Reads}
 use Rattle.cmd_text.specs.declared.command.Command.{Command}
+use Rattle.cmd_text.specs.declared.command.Command.TheVariants as commands
 use Rattle.commit_plan.specs.Plans.{Planned}
 use Rattle.host_io.specs.Disk.{IsImage}
 use Rattle.host_io.specs.Outside.{Moment}
 use Rattle.lines.specs.Machine.{State}
 use Rattle.recovery.specs.Refusals.{MayStand}
-use Rattle.session.specs.Commands.{commits, outcome_of}
+use Rattle.storage.specs.Stored.{is_shut}
+use Rattle.session.specs.Commands.{commit_due}
 use Rattle.session.specs.Disk.{IsAllowed, IsNext}
 use Rattle.session.specs.World.{World}
 
--- While the command is carried out a crash may leave the commit that is kept, or the next one with that as the one before it.
+-- While a commit is made a crash may leave the commit that is kept, or the next one with that as the one before it.
 pub record IsCommitting (state : State World) (command : Command) (image : List ℕ) : Type 0 where
   pub note : List ℕ
-  pub due : outcome_of state.world command ≡ commits note
+  pub asked : command ≡ commands.Commit note
+  pub unshut : is_shut state.world.store ≡ false
+  pub due : commit_due state.world.store ≡ None
   pub planned : Planned
   pub next : IsNext state.world.store note planned
   pub stands : MayStand state.world.store.kept planned.next image
@@ -30,3 +34,8 @@ pub record IsUnderWay (state : State World) (line image : List ℕ) : Type 0 whe
   pub command : Command
   pub reads : Reads line command
   pub commits : IsCommitting state command image
+
+-- A moment while a line is answered: nothing is said, and what a crash may leave is allowed before the line, or is what it may leave.
+pub record IsWithinLine (state : State World) (line said : List ℕ) (at : Moment) : Type 0 where
+  pub silent : at.said ≡ said
+  pub images : (image : List ℕ) → IsImage at.disk image → IsAllowed state image ⊎ IsUnderWay state line image

@@ -7,6 +7,7 @@ use Rattle.cmd_text.specs.declared.error.CmdError.{CmdError}
 use Rattle.cmd_text.specs.declared.refusal.Refusal.TheVariants.{Memory}
 use Rattle.cmd_text.specs.declared.reply.Reply.TheVariants.{Refused}
 use Rattle.lines.specs.Machine.{Machine, State}
+use Rattle.viewers.specs.Meanings.{Meaning}
 use Rattle.session.specs.Carried.{Carried, Gives}
 use Rattle.session.specs.Commands.{takes_memory}
 use Rattle.session.specs.Disk.{IsAllowed, IsInOrder}
@@ -15,11 +16,11 @@ use Rattle.session.specs.Moments.{IsUnderWay}
 use Rattle.session.specs.Refusals.{refusal_of_reading}
 use Rattle.session.specs.World.{World}
 
--- the line reads as a command, and this came of it
-pub record CarriesOut (known : Type 0) (old : State World) (line reply : List ℕ) (new : State World) : Type 0 where
+-- the line reads as a command, and this came of it where these viewers may be asked
+pub record CarriesOut (known : Type 0) (viewers : List Meaning) (old : State World) (line reply : List ℕ) (new : State World) : Type 0 where
   pub command : Command
   pub reads : Reads line command
-  pub carried : Carried known command old reply new
+  pub carried : Carried known viewers command old reply new
 
 -- the line is no command, and is refused at its first offence
 pub record RefusesLine (known : Type 0) (old : State World) (line reply : List ℕ) (new : State World) : Type 0 where
@@ -33,13 +34,13 @@ pub record LacksMemory (known : Type 0) (old : State World) (line reply : List �
   pub refuses : Gives known (reply_bytes (Refused Memory)) old.world old reply new
 
 -- What the line may do. What is said of the disk's bytes holds where they are known.
-abbrev pub Step : Type 0 → State World → List ℕ → List ℕ → State World → Type 0
-Step known old line reply new = CarriesOut known old line reply new ⊎ (RefusesLine known old line reply new ⊎ LacksMemory known old line reply new)
+abbrev pub Step : Type 0 → List Meaning → State World → List ℕ → List ℕ → State World → Type 0
+Step known viewers old line reply new = CarriesOut known viewers old line reply new ⊎ (RefusesLine known old line reply new ⊎ LacksMemory known old line reply new)
 
--- The session over a disk whose bytes are known, as a machine.
-abbrev pub machine : Machine World
-machine = record {
-  answers = Step (Unit {0});
+-- The session over a disk whose bytes are known, where these viewers may be asked, as a machine.
+abbrev pub machine : List Meaning → Machine World
+machine viewers = record {
+  answers = Step (Unit {0}) viewers;
   ends = is_quit;
   allowed = IsAllowed;
   under_way = IsUnderWay;

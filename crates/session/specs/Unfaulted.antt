@@ -6,6 +6,7 @@ use Rattle.host_io.specs.Calls.{Rose}
 use Rattle.lines.specs.Lines.{IsTooLong}
 use Rattle.lines.specs.Machine.{Run, State, Turn}
 use Rattle.storage.specs.Stored.{is_shut}
+use Rattle.viewers.specs.Meanings.{Meaning}
 use Rattle.session.specs.Carried.{Acknowledges, BringsBack, FindsDamage, Gives, IsFull, Reopens, WantsMemory}
 use Rattle.session.specs.Commands.{Outcome, gives, commits, reopens, reverts, outcome_in}
 use Rattle.session.specs.Step.{LacksMemory, RefusesLine, machine}
@@ -19,25 +20,25 @@ ComesWell reopens old reply new = Reopens (Unit {0}) old reply new
 ComesWell reverts old reply new = BringsBack (Unit {0}) old reply new ⊎ FindsDamage (Unit {0}) old reply new
 
 -- the line reads as a command, and gets what a session that is not shut owes it
-pub record CarriesWell (old : State World) (line reply : List ℕ) (new : State World) : Type 0 where
+pub record CarriesWell (viewers : List Meaning) (old : State World) (line reply : List ℕ) (new : State World) : Type 0 where
   pub command : Command
   pub reads : Reads line command
-  pub comes : ComesWell (outcome_in old.world command) old reply new ⊎ WantsMemory (Unit {0}) command old reply new
+  pub comes : ComesWell (outcome_in viewers old.world command) old reply new ⊎ WantsMemory (Unit {0}) command old reply new
 
-abbrev pub StepsWell : State World → List ℕ → List ℕ → State World → Type 0
-StepsWell old line reply new = CarriesWell old line reply new ⊎ (RefusesLine (Unit {0}) old line reply new ⊎ LacksMemory (Unit {0}) old line reply new)
+abbrev pub StepsWell : List Meaning → State World → List ℕ → List ℕ → State World → Type 0
+StepsWell viewers old line reply new = CarriesWell viewers old line reply new ⊎ (RefusesLine (Unit {0}) old line reply new ⊎ LacksMemory (Unit {0}) old line reply new)
 
 -- A turn of a session that was not shut: it is not shut after it, and the line got what it is due, unless it was too long.
-pub record IsAnswered (old : State World) (turn : Turn World) : Type 0 where
+pub record IsAnswered (viewers : List Meaning) (old : State World) (turn : Turn World) : Type 0 where
   pub unshut : is_shut turn.after.world.store ≡ false
-  pub well : IsTooLong turn.line ⊎ StepsWell old turn.line turn.reply turn.after
+  pub well : IsTooLong turn.line ⊎ StepsWell viewers old turn.line turn.reply turn.after
 
-abbrev pub AreAnswered : State World → List (Turn World) → Type 0
-AreAnswered old [] = Unit {0}
-AreAnswered old (turn ∷ turns) = IsAnswered old turn × AreAnswered turn.after turns
+abbrev pub AreAnswered : List Meaning → State World → List (Turn World) → Type 0
+AreAnswered viewers old [] = Unit {0}
+AreAnswered viewers old (turn ∷ turns) = IsAnswered viewers old turn × AreAnswered viewers turn.after turns
 
 -- From a session that is not shut, where the disk's faults do not rise, each line of a run is answered so.
 abbrev pub AnswersUnfaulted : Type 0
 AnswersUnfaulted =
-    (old last : State World) (lines : List (List ℕ)) (turns : List (Turn World)) → is_shut old.world.store ≡ false → Run machine old lines turns last
-    → (¬ Rose old.disk_faults last.disk_faults) → AreAnswered old turns
+    (viewers : List Meaning) (old last : State World) (lines : List (List ℕ)) (turns : List (Turn World)) → is_shut old.world.store ≡ false → Run (machine viewers) old lines turns last
+    → (¬ Rose old.disk_faults last.disk_faults) → AreAnswered viewers old turns

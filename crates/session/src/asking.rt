@@ -1,5 +1,5 @@
 //! Questions about expressions: their sizes and rows, and where they have values that are asked for.
-ghost use Rattle.std.specs.Prelude.{◌≡◌};
+ghost use Rattle.std.specs.Prelude.{◌≡◌, map};
 ghost use Rattle.cmd_text.specs.declared.command.Command.TheVariants as commands;
 ghost use Rattle.eval.specs.Parts.{IsWhole};
 ghost use Rattle.expr_text.specs.Meanings.{query_of};
@@ -8,47 +8,55 @@ ghost use Rattle.session.specs.Answered.{Answered};
 use crate::{Session, replies};
 use cmd_text::Reply;
 use expr_text::{Crits, Expr};
-use questions::{Known, Snapshots};
+use questions::{Known, Scope, Snapshots};
 use storage::Store;
+use viewers::Viewer;
 
 impl Session {
-    /// What the names of a question stand for.
-    fn known(&self) -> Known<'_>
-        ensures views { result.views.now ≡ self.now.store.views }
-        ensures snapshots { result.snapshots.now ≡ self.now.snapshots }
+    /// What a question may use.
+    fn scope<'a, V: Viewer>(&'a self, viewers: &'a [V]) -> Scope<'a, V>
+        ensures views { result.names.views.now ≡ self.now.store.views }
+        ensures snapshots { result.names.snapshots.now ≡ self.now.snapshots }
+        ensures viewers { result.viewers.now ≡ viewers.now }
     {
-        names_of(&self.store, &self.snapshots)
+        scope_of(&self.store, &self.snapshots, viewers)
     }
 
     /// Answers how many rows an expression has.
-    pub(crate) fn size(&self, expr: &Expr) -> Reply
+    pub(crate) fn size<V: Viewer>(&self, viewers: &[V], expr: &Expr) -> Reply
         requires { IsWhole (query_of expr.now) }
-        ensures { Answered (commands.Size expr.now) self.now result self.now }
+        ensures { Answered (map V.meaning viewers.now) (commands.Size expr.now) self.now result self.now }
     {
-        match self.known().size(self.alloc, expr) {
+        match self.scope(viewers).size(self.alloc, expr) {
             Ok(size) => replies::counted(size),
             Err(error) => replies::unanswered(error),
         }
     }
 
     /// Answers the rows of an expression.
-    pub(crate) fn rows(&self, expr: &Expr) -> Reply
+    pub(crate) fn rows<V: Viewer>(&self, viewers: &[V], expr: &Expr) -> Reply
         requires { IsWhole (query_of expr.now) }
-        ensures { Answered (commands.Show expr.now) self.now result self.now }
+        ensures { Answered (map V.meaning viewers.now) (commands.Show expr.now) self.now result self.now }
     {
-        match self.known().rows(self.alloc, expr) {
+        match self.scope(viewers).rows(self.alloc, expr) {
             Ok(texts) => Reply::Lines(texts),
             Err(error) => replies::unanswered(error),
         }
     }
 
     /// Answers where the first row with the values stands, from a start on.
-    pub(crate) fn find(&self, expr: &Expr, start: u64, criteria: &Crits) -> Reply
+    pub(crate) fn find<V: Viewer>(
+        &self,
+        viewers: &[V],
+        expr: &Expr,
+        start: u64,
+        criteria: &Crits,
+    ) -> Reply
         requires { IsWhole (query_of expr.now) }
-        ensures { Answered (commands.Find expr.now start criteria.now) self.now result self.now }
+        ensures { Answered (map V.meaning viewers.now) (commands.Find expr.now start criteria.now) self.now result self.now }
     {
         match self
-            .known()
+            .scope(viewers)
             .find(self.alloc, expr, start, criteria.as_slice())
         {
             Ok(place) => replies::place(place),
@@ -57,22 +65,28 @@ impl Session {
     }
 
     /// Answers where rows with the values stand in a sorting, or would stand.
-    pub(crate) fn search(&self, expr: &Expr, criteria: &Crits) -> Reply
+    pub(crate) fn search<V: Viewer>(&self, viewers: &[V], expr: &Expr, criteria: &Crits) -> Reply
         requires { IsWhole (query_of expr.now) }
-        ensures { Answered (commands.Search expr.now criteria.now) self.now result self.now }
+        ensures { Answered (map V.meaning viewers.now) (commands.Search expr.now criteria.now) self.now result self.now }
     {
-        match self.known().search(self.alloc, expr, criteria.as_slice()) {
+        match self
+            .scope(viewers)
+            .search(self.alloc, expr, criteria.as_slice())
+        {
             Ok(place) => replies::counted(place),
             Err(error) => replies::unanswered(error),
         }
     }
 
     /// Answers the same, and how many rows have the values.
-    pub(crate) fn locate(&self, expr: &Expr, criteria: &Crits) -> Reply
+    pub(crate) fn locate<V: Viewer>(&self, viewers: &[V], expr: &Expr, criteria: &Crits) -> Reply
         requires { IsWhole (query_of expr.now) }
-        ensures { Answered (commands.Locate expr.now criteria.now) self.now result self.now }
+        ensures { Answered (map V.meaning viewers.now) (commands.Locate expr.now criteria.now) self.now result self.now }
     {
-        match self.known().locate(self.alloc, expr, criteria.as_slice()) {
+        match self
+            .scope(viewers)
+            .locate(self.alloc, expr, criteria.as_slice())
+        {
             Ok(at) => replies::located(at),
             Err(error) => replies::unanswered(error),
         }
@@ -87,5 +101,21 @@ pub(crate) fn names_of<'a>(store: &'a Store, snapshots: &'a Snapshots) -> Known<
     Known {
         views: store.views(),
         snapshots: snapshots.as_slice(),
+    }
+}
+
+/// What a question may use: the views of a store, snapshots, and viewers.
+pub(crate) fn scope_of<'a, V: Viewer>(
+    store: &'a Store,
+    snapshots: &'a Snapshots,
+    viewers: &'a [V],
+) -> Scope<'a, V>
+    ensures views { result.names.views.now ≡ store.now.views }
+    ensures snapshots { result.names.snapshots.now ≡ snapshots.now }
+    ensures viewers { result.viewers.now ≡ viewers.now }
+{
+    Scope {
+        names: names_of(store, snapshots),
+        viewers,
     }
 }

@@ -5,7 +5,7 @@
 //! further command is a case of both.
 //!
 //! It stands on the commands and replies of `cmd_text`, the store of `storage`, the views of `view_store`, the new structures of
-//! `restructure`, and the questions, snapshots and cursors of `questions`. The loop of the crate `lines` cuts the input, calls `answer` and says what it gave.
+//! `restructure`, and the questions, snapshots and cursors of `questions`. A question may ask the viewers that each line is lent. The loop of the crate `lines` cuts the input, calls `answer` and says what it gave.
 #![tactic(auto)]
 
 mod asking;
@@ -25,5 +25,5 @@ mod words;
 
 pub use edits::MAX_COPIES;
 pub use laws::lines_are_answered;
-pub use session::Session;
+pub use session::{Session, Viewers};
 pub use starting::{StartError, start};

@@ -1,17 +1,18 @@
 //! Names beside those of views: snapshots and cursors.
-ghost use Rattle.std.specs.Prelude.{◌≡◌, length, IfErr, IfOk, OnErr, OnOk};
+ghost use Rattle.std.specs.Prelude.{◌≡◌, List, length, map, IfErr, IfOk, OnErr, OnOk};
 ghost use Rattle.std.specs.Result.{result_err};
 ghost use Rattle.cmd_text.specs.declared.command.Command.TheVariants as commands;
 ghost use Rattle.eval.specs.Parts.{IsWhole};
 ghost use Rattle.expr_text.specs.Meanings.{query_of};
 ghost use Rattle.questions.specs.Cursors.{without_cursor};
 ghost use Rattle.questions.specs.Kept.{table_of, without_kept};
+ghost use Rattle.viewers.specs.Meanings.{Meaning};
 ghost use Rattle.session.specs.Answered.{Answered};
 ghost use Rattle.session.specs.Commands.{with_cursor, with_snapshot};
 ghost use Rattle.session.specs.Naming.{is_beside_views as is_name_beside, is_taken as is_name_taken, new_name_due, uncursor_due, undup_due};
 ghost use Rattle.session.specs.Refusals.{AnswersDue};
 
-use crate::asking::names_of;
+use crate::asking::{names_of, scope_of};
 use crate::refusals::of_memory;
 use crate::{Session, replies};
 use cmd_text::{Refusal, Reply};
@@ -22,6 +23,7 @@ use questions::{
     take_out_cursor, take_out_snapshot,
 };
 use tables::Shared;
+use viewers::Viewer;
 
 impl Session {
     /// Whether a snapshot or a cursor has the name.
@@ -52,11 +54,11 @@ impl Session {
     }
 
     /// Keeps the value of an expression as a snapshot, and answers how many rows it has.
-    pub(crate) fn keep(&mut self, name: &Name, expr: &Expr) -> Reply
+    pub(crate) fn keep<V: Viewer>(&mut self, viewers: &[V], name: &Name, expr: &Expr) -> Reply
         requires { IsWhole (query_of expr.now) }
-        ensures { Answered (commands.Dup name.now expr.now) self.old result self.new }
+        ensures { Answered (map V.meaning viewers.now) (commands.Dup name.now expr.now) self.old result self.new }
     {
-        let table = match names_of(&self.store, &self.snapshots).table(self.alloc, expr) {
+        let table = match scope_of(&self.store, &self.snapshots, viewers).table(self.alloc, expr) {
             Ok(table) => table,
             Err(error) => return replies::unanswered(error),
         };
@@ -103,7 +105,7 @@ impl Session {
 
     /// Sets a cursor on the first row of what a name stands for, and answers its position.
     pub(crate) fn set_cursor(&mut self, name: &Name, target: &Name) -> Reply
-        ensures { Answered (commands.Cursor name.now target.now) self.old result self.new }
+        ensures { (viewers : List Meaning) → Answered viewers (commands.Cursor name.now target.now) self.old result self.new }
     {
         let Some(standing) = names_of(&self.store, &self.snapshots).standing(target) else {
             return replies::refused(Refusal::NoName);
@@ -150,7 +152,7 @@ impl Session {
 
     /// Moves a cursor one row further, and answers its position.
     pub(crate) fn next(&mut self, name: &Name) -> Reply
-        ensures { Answered (commands.Next name.now) self.old result self.new }
+        ensures { (viewers : List Meaning) → Answered viewers (commands.Next name.now) self.old result self.new }
     {
         match names_of(&self.store, &self.snapshots).next(&mut self.cursors, name) {
             Ok(position) => replies::counted(position),
@@ -160,7 +162,7 @@ impl Session {
 
     /// Moves a cursor one row back, and answers its position.
     pub(crate) fn previous(&mut self, name: &Name) -> Reply
-        ensures { Answered (commands.Prev name.now) self.old result self.new }
+        ensures { (viewers : List Meaning) → Answered viewers (commands.Prev name.now) self.old result self.new }
     {
         match names_of(&self.store, &self.snapshots).previous(&mut self.cursors, name) {
             Ok(position) => replies::counted(position),
@@ -170,7 +172,7 @@ impl Session {
 
     /// Answers the row at a cursor.
     pub(crate) fn row(&self, name: &Name) -> Reply
-        ensures { Answered (commands.Row name.now) self.now result self.now }
+        ensures { (viewers : List Meaning) → Answered viewers (commands.Row name.now) self.now result self.now }
     {
         let names = names_of(&self.store, &self.snapshots);
         match names.row(self.alloc, self.cursors.as_slice(), name) {

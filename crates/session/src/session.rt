@@ -1,23 +1,24 @@
-ghost use Rattle.std.specs.Prelude.{◌≡◌, ◌⊎◌, ◌+◌, ◌≤◌, ◌↔◌, ◌&&◌, [], not, true, false, length};
+ghost use Rattle.std.specs.Prelude.{◌≡◌, ◌⊎◌, ◌+◌, ◌≤◌, ◌↔◌, ◌&&◌, List, [], not, true, false, length, map};
 ghost use Rattle.cmd_text.specs.declared.command.Command.{Command as TheCommand};
 ghost use Rattle.cmd_text.specs.declared.command.Command.TheVariants as commands;
 ghost use Rattle.cmd_text.specs.Lines.{Reads};
 ghost use Rattle.cmd_text.specs.Replies.{reply_bytes};
 ghost use Rattle.host_io.specs.Calls.{CountsFaults};
 ghost use Rattle.host_io.specs.Outside.{Goes, Outside};
-ghost use Rattle.lines.specs.Crash.{IsReady};
 ghost use Rattle.lines.specs.Lines.{max_line};
 ghost use Rattle.lines.specs.Served.{state_of};
 ghost use Rattle.recovery.specs.Commits.{IsCommit};
 ghost use Rattle.storage.specs.Stored.{is_shut};
+ghost use Rattle.viewers.specs.Meanings.{Meaning};
 ghost use Rattle.session.specs.Answered.{Answered};
 ghost use Rattle.session.specs.Carried.{Carried, ChangesNothing};
 ghost use Rattle.session.specs.Commands.{goes_when_shut, off_disk, reach_of, taken, takes_memory};
+ghost use Rattle.session.specs.Disk.{IsSteady};
 ghost use Rattle.session.specs.Lines.{IsOfLine, is_blank, is_quit};
 ghost use Rattle.session.specs.Going.{GoesOn, GoesOnLine};
 ghost use Rattle.session.specs.Saying.{FitsIn, IsUnbounded, KeepsRoom};
 ghost use Rattle.session.specs.World.{world_over};
-ghost use Rattle.session.specs.Step.{Step, machine};
+ghost use Rattle.session.specs.Step.{Step};
 
 use crate::refusals::of_reading;
 use crate::replies;
@@ -31,6 +32,7 @@ use questions::{Cursors, Snapshots};
 use std::alloc::Global;
 use std::marker::Model;
 use storage::Store;
+use viewers::Viewer;
 
 /// A session: a store, whose views its lines edit and whose commits they make, and the snapshots and cursors beside its views.
 #[derive(Drop)]
@@ -39,6 +41,12 @@ pub struct Session {
     pub(crate) snapshots: Snapshots,
     pub(crate) cursors: Cursors,
     pub(crate) alloc: Global,
+}
+
+/// The viewers that the lines of a session may ask. The first of a name is asked.
+#[derive(Drop)]
+pub struct Viewers<'a, V: Viewer> {
+    pub list: &'a [V],
 }
 
 impl Model for Session {
@@ -77,10 +85,15 @@ impl Session {
     ///
     /// The disk is written by `Commit` alone, and a crash at any moment leaves the commit that is kept, or the one that is being made
     /// with that as the one before it.
-    pub fn step<H: Host>(&mut self, host: &mut H, command: &Command) -> Reply
+    pub fn step<H: Host, V: Viewer>(
+        &mut self,
+        host: &mut H,
+        viewers: &[V],
+        command: &Command,
+    ) -> Reply
         requires line { IsOfLine command.now }
-        requires ready { H.tells → IsReady machine (state_of self.old (H.outside host.old)) }
-        ensures carried { Carried H.tells command.now (state_of self.old (H.outside host.old)) (reply_bytes result) (state_of self.new (H.outside host.new)) }
+        requires ready { H.tells → IsSteady (state_of self.old (H.outside host.old)) }
+        ensures carried { Carried H.tells (map V.meaning viewers.now) command.now (state_of self.old (H.outside host.old)) (reply_bytes result) (state_of self.new (H.outside host.new)) }
 
         // The reply fits the room of a reply, or it is one of lines or of a row, and nothing changed before it is said.
         ensures fits { FitsIn (max_line + 1) result }
@@ -97,7 +110,7 @@ impl Session {
             Command::Commit(note) => self.commit(host, note),
             Command::Reopen => self.reopen(host),
             Command::Revert => self.revert(host),
-            _ => self.carry_out(command),
+            _ => self.carry_out(viewers, command),
         }
     }
 
@@ -109,10 +122,10 @@ impl Session {
     }
 
     /// Carries a command out that reaches no disk, and gives the reply to it.
-    fn carry_out(&mut self, command: &Command) -> Reply
+    fn carry_out<V: Viewer>(&mut self, viewers: &[V], command: &Command) -> Reply
         requires line { IsOfLine command.now }
         requires no_disk { reach_of command.now ≡ off_disk }
-        ensures { Answered command.now self.old result self.new }
+        ensures { Answered (map V.meaning viewers.now) command.now self.old result self.new }
     {
         match command {
             Command::Nothing => Reply::Silent,
@@ -127,12 +140,12 @@ impl Session {
                 replies::done(self.set(path, *row, prop, literal))
             }
             Command::Remove(path, place, rows) => replies::count(self.remove(path, *place, *rows)),
-            Command::Size(expr) => self.size(expr),
-            Command::Show(expr) => self.rows(expr),
-            Command::Find(expr, start, criteria) => self.find(expr, *start, criteria),
-            Command::Search(expr, criteria) => self.search(expr, criteria),
-            Command::Locate(expr, criteria) => self.locate(expr, criteria),
-            Command::Dup(name, expr) => self.keep(name, expr),
+            Command::Size(expr) => self.size(viewers, expr),
+            Command::Show(expr) => self.rows(viewers, expr),
+            Command::Find(expr, start, criteria) => self.find(viewers, expr, *start, criteria),
+            Command::Search(expr, criteria) => self.search(viewers, expr, criteria),
+            Command::Locate(expr, criteria) => self.locate(viewers, expr, criteria),
+            Command::Dup(name, expr) => self.keep(viewers, name, expr),
             Command::Undup(name) => replies::done(self.give_up(name)),
             Command::Cursor(name, target) => self.set_cursor(name, target),
             Command::Uncursor(name) => replies::done(self.remove_cursor(name)),
@@ -154,7 +167,7 @@ impl Session {
 
     /// Gives up all edits since the last commit. It takes no memory.
     fn rollback(&mut self) -> Reply
-        ensures { Answered commands.Rollback self.old result self.new }
+        ensures { (viewers : List Meaning) → Answered viewers commands.Rollback self.old result self.new }
     {
         self.store.rollback();
         self.cursors.clear();
@@ -174,14 +187,20 @@ impl Session {
     }
 
     /// Answers a line that asks for something and goes on.
-    fn answer_line<H: Host>(&mut self, host: &mut H, line: &[u8], out: &mut Text)
+    fn answer_line<H: Host, V: Viewer>(
+        &mut self,
+        host: &mut H,
+        viewers: &[V],
+        line: &[u8],
+        out: &mut Text,
+    )
         requires short { length line.now ≤ max_line }
         requires asks { is_blank line.now ≡ false }
         requires goes_on { is_quit line.now ≡ false }
         requires empty { out.old.bytes ≡ [] }
         requires room { max_line + 1 ≤ out.old.spare }
-        requires ready { H.tells → IsReady machine (state_of self.old (H.outside host.old)) }
-        ensures step { Step H.tells (state_of self.old (H.outside host.old)) line.now out.new.bytes (state_of self.new (H.outside host.new)) }
+        requires ready { H.tells → IsSteady (state_of self.old (H.outside host.old)) }
+        ensures step { Step H.tells (map V.meaning viewers.now) (state_of self.old (H.outside host.old)) line.now out.new.bytes (state_of self.new (H.outside host.new)) }
         ensures room { KeepsRoom out.old out.new }
         ensures said { out.new.bytes ≡ [] → ⊥ }
         ensures counts { CountsFaults ⊥ (H.outside host.old) (H.outside host.new) }
@@ -189,7 +208,7 @@ impl Session {
     {
         match read_command(self.alloc, line) {
             Ok(command) => {
-                self.answer_command(host, &command, out);
+                self.answer_command(host, viewers, &command, out);
                 drop(command);
             }
             Err(error) => refuse(of_reading(error), out),
@@ -197,19 +216,25 @@ impl Session {
     }
 
     /// Carries a command out, and writes the reply to it.
-    fn answer_command<H: Host>(&mut self, host: &mut H, command: &Command, out: &mut Text)
+    fn answer_command<H: Host, V: Viewer>(
+        &mut self,
+        host: &mut H,
+        viewers: &[V],
+        command: &Command,
+        out: &mut Text,
+    )
         requires line { IsOfLine command.now }
         requires asks { command.now ≡ commands.Nothing → ⊥ }
         requires empty { out.old.bytes ≡ [] }
         requires room { max_line + 1 ≤ out.old.spare }
-        requires ready { H.tells → IsReady machine (state_of self.old (H.outside host.old)) }
-        ensures carried { Carried H.tells command.now (state_of self.old (H.outside host.old)) out.new.bytes (state_of self.new (H.outside host.new)) }
+        requires ready { H.tells → IsSteady (state_of self.old (H.outside host.old)) }
+        ensures carried { Carried H.tells (map V.meaning viewers.now) command.now (state_of self.old (H.outside host.old)) out.new.bytes (state_of self.new (H.outside host.new)) }
         ensures room { KeepsRoom out.old out.new }
         ensures said { out.new.bytes ≡ [] → ⊥ }
         ensures counts { CountsFaults ⊥ (H.outside host.old) (H.outside host.new) }
         ensures goes { H.tells → GoesOn command.now (state_of self.old (H.outside host.old)) (state_of self.new (H.outside host.new)) (H.outside host.old) (H.outside host.new) }
     {
-        let reply = self.step(host, command);
+        let reply = self.step(host, viewers, command);
         match say(&reply, out) {
             Ok(()) => {}
             Err(Memory) => refuse(Refusal::Memory, out),
@@ -224,12 +249,19 @@ fn goes_when_shut(command: &Command) -> bool
     matches!(command, Command::Nothing | Command::Reopen | Command::Quit)
 }
 
-impl<H: Host> lines::Session<H> for Session {
+impl<H: Host, V: Viewer> lines::Session<H, Viewers<'_, V>> for Session {
+    ghost use Rattle.std.specs.Prelude.{map};
     ghost use Rattle.session.specs.Step.{machine};
 
-    ghost machine = { machine };
+    ghost machine = { λ context. machine (map V.meaning context.list.now) };
 
-    fn answer(&mut self, host: &mut H, line: &[u8], out: &mut Text) -> Flow {
+    fn answer(
+        &mut self,
+        host: &mut H,
+        context: &Viewers<'_, V>,
+        line: &[u8],
+        out: &mut Text,
+    ) -> Flow {
         if is_quit(line) {
             say_quit(out);
             return Flow::Ends;
@@ -237,7 +269,7 @@ impl<H: Host> lines::Session<H> for Session {
         if is_blank(line) {
             return Flow::Goes;
         }
-        self.answer_line(host, line, out);
+        self.answer_line(host, context.list, line, out);
         Flow::Goes
     }
 }

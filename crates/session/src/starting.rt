@@ -2,11 +2,10 @@
 ghost use Rattle.std.specs.Prelude.{◌≡◌, ◌≢◌, ◌<◌, ◌^◌, [], IfErr, IfOk, IsErrOf};
 ghost use Rattle.host_io.specs.Calls.{CountsFaults, Looks};
 ghost use Rattle.host_io.specs.Disk.{IsSettled};
-ghost use Rattle.lines.specs.Crash.{IsReady};
 ghost use Rattle.lines.specs.Served.{state_of};
 ghost use Rattle.recovery.specs.Commits.{IsCommit};
+ghost use Rattle.session.specs.Disk.{IsSteady};
 ghost use Rattle.session.specs.Starting.{IsStartRefusal, StartsAs, cause_of_opening};
-ghost use Rattle.session.specs.Step.{machine};
 ghost use Rattle.session.specs.World.{world_over};
 ghost use Rattle.session.specs.declared.starting.StartError.TheVariants as start_error;
 ghost use Rattle.storage.specs.declared.mode.Mode.TheVariants as modes;
@@ -93,7 +92,7 @@ pub fn start<H: Host>(
 
     // The session has what the file stands for.
     ensures starts { H.tells → IfOk result (λ session. StartsAs mode cap (H.outside host.old).now.disk.seen (state_of session (H.outside host.new))) }
-    ensures ready { H.tells → IfOk result (λ session. IsReady machine (state_of session (H.outside host.new))) }
+    ensures ready { H.tells → IfOk result (λ session. IsSteady (state_of session (H.outside host.new))) }
 {
     if host.len()? == 0 {
         return make(alloc, host, mode, cap);
@@ -115,7 +114,7 @@ fn open_store<H: Host>(
     ensures same { H.tells → Looks (H.outside host.old) (H.outside host.new) }
     ensures refused { H.tells → IfErr result (IsStartRefusal mode (H.outside host.old) (H.outside host.new)) }
     ensures starts { H.tells → IfOk result (λ session. StartsAs mode cap (H.outside host.old).now.disk.seen (state_of session (H.outside host.new))) }
-    ensures ready { H.tells → IfOk result (λ session. IsReady machine (state_of session (H.outside host.new))) }
+    ensures ready { H.tells → IfOk result (λ session. IsSteady (state_of session (H.outside host.new))) }
 {
     match Store::open(alloc, host, mode, cap) {
         Ok(store) => Ok(session_over(alloc, store)),
@@ -141,7 +140,7 @@ fn make<H: Host>(alloc: Global, host: &mut H, mode: Mode, cap: u64) -> Result<Se
     ensures input { H.tells → (H.outside host.new).input ≡ (H.outside host.old).input }
     ensures refused { H.tells → IfErr result (IsStartRefusal mode (H.outside host.old) (H.outside host.new)) }
     ensures starts { H.tells → IfOk result (λ session. StartsAs mode cap (H.outside host.old).now.disk.seen (state_of session (H.outside host.new))) }
-    ensures ready { H.tells → IfOk result (λ session. IsReady machine (state_of session (H.outside host.new))) }
+    ensures ready { H.tells → IfOk result (λ session. IsSteady (state_of session (H.outside host.new))) }
 {
     if mode == Mode::Read {
         return Err(StartError::Empty);

@@ -1,16 +1,16 @@
 //! The commands that reach the disk: `commit`, `reopen` and `revert`.
-ghost use Rattle.std.specs.Prelude.{◌≡◌, ◌≤◌, IfErr, IfOk, false, length};
+ghost use Rattle.std.specs.Prelude.{◌≡◌, ◌≤◌, List, IfErr, IfOk, false, length};
 ghost use Rattle.cmd_text.specs.declared.command.Command.TheVariants as commands;
 ghost use Rattle.cmd_text.specs.Replies.{reply_bytes};
 ghost use Rattle.host_io.specs.Calls.{CountsFaults};
-ghost use Rattle.lines.specs.Crash.{IsReady};
 ghost use Rattle.lines.specs.Lines.{max_line};
 ghost use Rattle.lines.specs.Served.{state_of};
 ghost use Rattle.storage.specs.Stored.{is_shut};
+ghost use Rattle.viewers.specs.Meanings.{Meaning};
 ghost use Rattle.session.specs.Carried.{Carried};
+ghost use Rattle.session.specs.Disk.{IsSteady};
 ghost use Rattle.session.specs.Planning.{IsPlannedNext, IsUnplanned};
 ghost use Rattle.session.specs.Going.{GoesOn};
-ghost use Rattle.session.specs.Step.{machine};
 ghost use Rattle.session.specs.Saying.{IsOneLine};
 
 use crate::refusals::{of_opening, of_plan, of_revert};
@@ -23,8 +23,8 @@ impl Session {
     /// Stores the views as the next commit, with the note where it is not empty.
     pub(crate) fn commit<H: Host>(&mut self, host: &mut H, note: &Note) -> Reply
         requires open { is_shut self.old.store ≡ false }
-        requires ready { H.tells → IsReady machine (state_of self.old (H.outside host.old)) }
-        ensures carried { Carried H.tells (commands.Commit note.now) (state_of self.old (H.outside host.old)) (reply_bytes result) (state_of self.new (H.outside host.new)) }
+        requires ready { H.tells → IsSteady (state_of self.old (H.outside host.old)) }
+        ensures carried { (viewers : List Meaning) → Carried H.tells viewers (commands.Commit note.now) (state_of self.old (H.outside host.old)) (reply_bytes result) (state_of self.new (H.outside host.new)) }
         ensures one_line { IsOneLine result }
         ensures short { length (reply_bytes result) ≤ max_line }
         ensures counts { CountsFaults (result ≡ Reply.Refused Refusal.Disk) (H.outside host.old) (H.outside host.new) }
@@ -53,8 +53,8 @@ impl Session {
 
     /// Opens the file anew. Where the session is shut, what was pending is settled first. No cursor stands on any more.
     pub(crate) fn reopen<H: Host>(&mut self, host: &mut H) -> Reply
-        requires ready { H.tells → IsReady machine (state_of self.old (H.outside host.old)) }
-        ensures carried { Carried H.tells commands.Reopen (state_of self.old (H.outside host.old)) (reply_bytes result) (state_of self.new (H.outside host.new)) }
+        requires ready { H.tells → IsSteady (state_of self.old (H.outside host.old)) }
+        ensures carried { (viewers : List Meaning) → Carried H.tells viewers commands.Reopen (state_of self.old (H.outside host.old)) (reply_bytes result) (state_of self.new (H.outside host.new)) }
         ensures one_line { IsOneLine result }
         ensures short { length (reply_bytes result) ≤ max_line }
         ensures counts { CountsFaults (result ≡ Reply.Refused Refusal.Disk) (H.outside host.old) (H.outside host.new) }
@@ -71,8 +71,8 @@ impl Session {
     /// Brings the views of the commit before back. No cursor stands on any more.
     pub(crate) fn revert<H: Host>(&mut self, host: &mut H) -> Reply
         requires open { is_shut self.old.store ≡ false }
-        requires ready { H.tells → IsReady machine (state_of self.old (H.outside host.old)) }
-        ensures carried { Carried H.tells commands.Revert (state_of self.old (H.outside host.old)) (reply_bytes result) (state_of self.new (H.outside host.new)) }
+        requires ready { H.tells → IsSteady (state_of self.old (H.outside host.old)) }
+        ensures carried { (viewers : List Meaning) → Carried H.tells viewers commands.Revert (state_of self.old (H.outside host.old)) (reply_bytes result) (state_of self.new (H.outside host.new)) }
         ensures one_line { IsOneLine result }
         ensures short { length (reply_bytes result) ≤ max_line }
         ensures counts { CountsFaults (result ≡ Reply.Refused Refusal.Disk) (H.outside host.old) (H.outside host.new) }

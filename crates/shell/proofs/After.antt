@@ -7,6 +7,7 @@ use Rattle.session.specs.Starting.{StartsAs}
 use Rattle.storage.specs.Spaces.{Reports}
 use Rattle.storage.specs.declared.mode.Mode.{Mode}
 use Rattle.storage.specs.declared.mode.Mode.TheVariants.{Read}
+use Rattle.viewers.specs.Meanings.{Meaning}
 use Rattle.shell.specs.Faults.{IsFault}
 use Rattle.shell.specs.Ran.{Answers, Checks, Opens, RanChecking, RanServing, RefusesFile}
 use Rattle.shell.specs.Said.{IsSilent, check_line, fault_line}
@@ -34,8 +35,8 @@ module _ (old looked new : Outside) (looks : Looks old looked) (says : looked.sa
         record { now = then.now ∙ looks.still.now; past = then.past ∙ looks.still.past };
   }
 
-  answers_after : (mode : Mode) (cap : ℕ) (status : Status) → Answers mode cap status looked new → Answers mode cap status old new
-  answers_after mode cap status a = record {
+  answers_after : (viewers : List Meaning) (mode : Mode) (cap : ℕ) (status : Status) → Answers viewers mode cap status looked new → Answers viewers mode cap status old new
+  answers_after viewers mode cap status a = record {
     opened = a.opened;
     world = a.world;
     starts = record {
@@ -59,15 +60,15 @@ module _ (old looked new : Outside) (looks : Looks old looked) (says : looked.sa
     says = (c.says.0, part_after (check_line c.report) c.says.0 old looked new looks c.says.1, c.says.2);
   }
 
-pub ran_serving_after : (mode : Mode) (cap : ℕ) (status : Status) (old looked new : Outside) → Looks old looked → looked.say_faults ≡ old.say_faults → RanServing mode cap status looked new → RanServing mode cap status old new
-ran_serving_after mode cap Usage old looked new looks says ran = ran
-ran_serving_after mode cap Refused old looked new looks says ran = refuses_after old looked new looks says mode ran
-ran_serving_after mode cap Memory old looked new looks says ran = silent_after old looked new looks says ran
-ran_serving_after mode cap DiskFault old looked new looks says ran = opens_after old looked new looks says new ran
-ran_serving_after mode cap Done old looked new looks says ran = answers_after old looked new looks says mode cap Done ran
-ran_serving_after mode cap TakeFault old looked new looks says ran = answers_after old looked new looks says mode cap TakeFault ran
-ran_serving_after mode cap TooMuch old looked new looks says ran = answers_after old looked new looks says mode cap TooMuch ran
-ran_serving_after mode cap SayFault old looked new looks says ran = answers_after old looked new looks says mode cap SayFault ran
+pub ran_serving_after : (viewers : List Meaning) (mode : Mode) (cap : ℕ) (status : Status) (old looked new : Outside) → Looks old looked → looked.say_faults ≡ old.say_faults → RanServing viewers mode cap status looked new → RanServing viewers mode cap status old new
+ran_serving_after viewers mode cap Usage old looked new looks says ran = ran
+ran_serving_after viewers mode cap Refused old looked new looks says ran = refuses_after old looked new looks says mode ran
+ran_serving_after viewers mode cap Memory old looked new looks says ran = silent_after old looked new looks says ran
+ran_serving_after viewers mode cap DiskFault old looked new looks says ran = opens_after old looked new looks says new ran
+ran_serving_after viewers mode cap Done old looked new looks says ran = answers_after old looked new looks says viewers mode cap Done ran
+ran_serving_after viewers mode cap TakeFault old looked new looks says ran = answers_after old looked new looks says viewers mode cap TakeFault ran
+ran_serving_after viewers mode cap TooMuch old looked new looks says ran = answers_after old looked new looks says viewers mode cap TooMuch ran
+ran_serving_after viewers mode cap SayFault old looked new looks says ran = answers_after old looked new looks says viewers mode cap SayFault ran
 
 pub ran_checking_after : (status : Status) (old looked new : Outside) → Looks old looked → looked.say_faults ≡ old.say_faults → RanChecking status looked new → RanChecking status old new
 ran_checking_after Usage old looked new looks says ran = ran

@@ -15,6 +15,7 @@ use Rattle.recovery.specs.declared.error.OpenError.TheVariants as opening
 use Rattle.session.proofs.Undamaged.{no_cause}
 use Rattle.storage.specs.declared.mode.Mode.{Mode}
 use Rattle.storage.specs.declared.mode.Mode.TheVariants.{Read}
+use Rattle.viewers.specs.Meanings.{Meaning}
 use Rattle.shell.specs.Faults.{IsFault}
 use Rattle.shell.specs.Ran.{GoesWell, MayOpen, Ran, RanAs}
 use Rattle.shell.specs.declared.fault.FileFault.{FileFault}
@@ -39,15 +40,15 @@ empty_well mode file Empty none writes cause = writes cause.0
 empty_well mode file NotAStore none writes cause = cause.0 none
 empty_well mode file (Damaged place) none writes cause = cause.0 none
 
-opens_well : (task : Task) (mode : Mode) (cap : ℕ) (old new : Outside) → MayOpen task mode old.now.disk.seen → RanAs task mode cap Refused old new → ⊥
-opens_well Serve mode cap old new (inl empty) (fault, cause, says) = empty_well mode old.now.disk.seen fault empty.0 empty.1 cause
-opens_well Serve mode cap old new (inr stands) (fault, cause, says) = stands_well mode old.now.disk.seen stands.0 fault stands.1 cause
-opens_well Check mode cap old new stands (fault, cause, says) = stands_well Read old.now.disk.seen stands.0 fault stands.1 cause
+opens_well : (viewers : List Meaning) (task : Task) (mode : Mode) (cap : ℕ) (old new : Outside) → MayOpen task mode old.now.disk.seen → RanAs viewers task mode cap Refused old new → ⊥
+opens_well viewers Serve mode cap old new (inl empty) (fault, cause, says) = empty_well mode old.now.disk.seen fault empty.0 empty.1 cause
+opens_well viewers Serve mode cap old new (inr stands) (fault, cause, says) = stands_well mode old.now.disk.seen stands.0 fault stands.1 cause
+opens_well viewers Check mode cap old new stands (fault, cause, says) = stands_well Read old.now.disk.seen stands.0 fault stands.1 cause
 
 -- the budget was not passed
-within_budget : (task : Task) (mode : Mode) (cap : ℕ) (old new : Outside) → length old.input ≤ max_budget → RanAs task mode cap TooMuch old new → ⊥
-within_budget Check mode cap old new short ran = ran
-within_budget Serve mode cap old new short ran =
+within_budget : (viewers : List Meaning) (task : Task) (mode : Mode) (cap : ℕ) (old new : Outside) → length old.input ≤ max_budget → RanAs viewers task mode cap TooMuch old new → ⊥
+within_budget viewers Check mode cap old new short ran = ran
+within_budget viewers Serve mode cap old new short ran =
     let from = ran.ran in
     let serves = from.serves in
     let same : from.greeted.input ≡ old.input = from.greeting.input ∙ ran.starts.opens.input in
@@ -57,32 +58,32 @@ within_budget Serve mode cap old new short ran =
     let parts = length-append serves.ends.front (serves.ends.byte ∷ []) in
     let full = serves.ends.full in omega (arith, came, taken, more, parts, full, short)
 
-pub completes : (words : List (List ℕ)) (status : Status) (old new : Outside) → ((one other : Job) → AsksFor words one → AsksFor words other → IsSameJob one other)
-    → Ran words status old new → (status ≡ TakeFault → Rose old.take_faults new.take_faults) → (status ≡ SayFault → Rose old.say_faults new.say_faults)
+pub completes : (viewers : List Meaning) (words : List (List ℕ)) (status : Status) (old new : Outside) → ((one other : Job) → AsksFor words one → AsksFor words other → IsSameJob one other)
+    → Ran viewers words status old new → (status ≡ TakeFault → Rose old.take_faults new.take_faults) → (status ≡ SayFault → Rose old.say_faults new.say_faults)
     → (status ≡ DiskFault → Rose old.disk_faults new.disk_faults) → GoesWell words old new → (status ≡ Done) ⊎ (status ≡ Memory)
-completes words Done old new one ran takes says disk well = inl refl
-completes words Memory old new one ran takes says disk well = inr refl
-completes words Usage old new one ran takes says disk well = absurd (ran.0 (well.job, well.right))
-completes words TakeFault old new one ran takes says disk well = absurd (well.takes (takes refl))
-completes words SayFault old new one ran takes says disk well = absurd (well.says (says refl))
-completes words DiskFault old new one ran takes says disk well = absurd (well.disk (disk refl))
-completes words Refused old new one ran takes says disk well =
+completes viewers words Done old new one ran takes says disk well = inl refl
+completes viewers words Memory old new one ran takes says disk well = inr refl
+completes viewers words Usage old new one ran takes says disk well = absurd (ran.0 (well.job, well.right))
+completes viewers words TakeFault old new one ran takes says disk well = absurd (well.takes (takes refl))
+completes viewers words SayFault old new one ran takes says disk well = absurd (well.says (says refl))
+completes viewers words DiskFault old new one ran takes says disk well = absurd (well.disk (disk refl))
+completes viewers words Refused old new one ran takes says disk well =
     let same = one well.job ran.job well.right ran.asks in
-    absurd (opens_well ran.job.task ran.job.mode ran.job.cap old new
+    absurd (opens_well viewers ran.job.task ran.job.mode ran.job.cap old new
     (subst (λ (m : Mode). MayOpen ran.job.task m old.now.disk.seen) same.mode (subst (λ (t : Task). MayOpen t well.job.mode old.now.disk.seen) same.task well.opens)) ran.ran)
-completes words TooMuch old new one ran takes says disk well = absurd (within_budget ran.job.task ran.job.mode ran.job.cap old new well.short ran.ran)
+completes viewers words TooMuch old new one ran takes says disk well = absurd (within_budget viewers ran.job.task ran.job.mode ran.job.cap old new well.short ran.ran)
 
-silent : (task : Task) (words : List (List ℕ)) (mode : Mode) (cap : ℕ) (old new : Outside) → RanAs task mode cap Memory old new → Ran words Memory old new
-silent Serve words mode cap old new ran = ran
-silent Check words mode cap old new ran = ran
+silent : (viewers : List Meaning) (task : Task) (words : List (List ℕ)) (mode : Mode) (cap : ℕ) (old new : Outside) → RanAs viewers task mode cap Memory old new → Ran viewers words Memory old new
+silent viewers Serve words mode cap old new ran = ran
+silent viewers Check words mode cap old new ran = ran
 
 -- what came of a job, by its status
-pub ran_job : (words : List (List ℕ)) (job : Job) (status : Status) (old new : Outside) → AsksFor words job → status ≢ Usage → RanAs job.task job.mode job.cap status old new → Ran words status old new
-ran_job words job Usage old new asks right ran = absurd (right refl)
-ran_job words job Memory old new asks right ran = silent job.task words job.mode job.cap old new ran
-ran_job words job Done old new asks right ran = record { job = job; asks = asks; ran = ran }
-ran_job words job Refused old new asks right ran = record { job = job; asks = asks; ran = ran }
-ran_job words job TakeFault old new asks right ran = record { job = job; asks = asks; ran = ran }
-ran_job words job SayFault old new asks right ran = record { job = job; asks = asks; ran = ran }
-ran_job words job TooMuch old new asks right ran = record { job = job; asks = asks; ran = ran }
-ran_job words job DiskFault old new asks right ran = record { job = job; asks = asks; ran = ran }
+pub ran_job : (viewers : List Meaning) (words : List (List ℕ)) (job : Job) (status : Status) (old new : Outside) → AsksFor words job → status ≢ Usage → RanAs viewers job.task job.mode job.cap status old new → Ran viewers words status old new
+ran_job viewers words job Usage old new asks right ran = absurd (right refl)
+ran_job viewers words job Memory old new asks right ran = silent viewers job.task words job.mode job.cap old new ran
+ran_job viewers words job Done old new asks right ran = record { job = job; asks = asks; ran = ran }
+ran_job viewers words job Refused old new asks right ran = record { job = job; asks = asks; ran = ran }
+ran_job viewers words job TakeFault old new asks right ran = record { job = job; asks = asks; ran = ran }
+ran_job viewers words job SayFault old new asks right ran = record { job = job; asks = asks; ran = ran }
+ran_job viewers words job TooMuch old new asks right ran = record { job = job; asks = asks; ran = ran }
+ran_job viewers words job DiskFault old new asks right ran = record { job = job; asks = asks; ran = ran }

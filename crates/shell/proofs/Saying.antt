@@ -15,6 +15,7 @@ use Rattle.session.specs.declared.starting.StartError.{StartError}
 use Rattle.session.specs.declared.starting.StartError.TheVariants as error
 use Rattle.storage.specs.declared.mode.Mode.{Mode}
 use Rattle.storage.specs.declared.space.Report.{Report}
+use Rattle.viewers.specs.Meanings.{Meaning}
 use Rattle.shell.specs.Faults.{IsFault, fault_of}
 use Rattle.shell.specs.Said.{IsSilent, SaysPart, SaysOnly, check_line, fault_line, greeting_line}
 use Rattle.shell.specs.declared.fault.FileFault.{FileFault}
@@ -75,10 +76,10 @@ greets_in_part world old new (Err error) failed says = record {
 }
 
 -- a run that was greeted and served
-serves_from : {T E : Type 0} (end : End) (world : World) (old greeted new : Outside) (last : World) (result : Result T E)
+serves_from : {T E : Type 0} (viewers : List Meaning) (end : End) (world : World) (old greeted new : Outside) (last : World) (result : Result T E)
     → is_err result ≡ false → SaysAll (greeting_line world.store.kept.number) old greeted result
-    → Serves machine max_budget end world last greeted new → ServesFrom world end old new
-serves_from end world old greeted new last result fine says serves = record {
+    → Serves (machine viewers) max_budget end world last greeted new → ServesFrom viewers world end old new
+serves_from viewers end world old greeted new last result fine says serves = record {
   greeted = greeted;
   greeting = says_whole (greeting_line world.store.kept.number) old greeted result fine says;
   last = last;
@@ -86,23 +87,23 @@ serves_from end world old greeted new last result fine says serves = record {
 }
 
 -- the status of lines that were served says what their end says
-pub serves_as : (end : End) (budget : ℕ) (world after : World) (old new : Outside) → Serves machine budget end world after old new → ServesAs (status_of end) budget world after old new
-serves_as Done budget world after old new serves = serves
-serves_as TakeFault budget world after old new serves = serves
-serves_as SayFault budget world after old new serves = serves
-serves_as TooMuch budget world after old new serves = serves
+pub serves_as : (viewers : List Meaning) (end : End) (budget : ℕ) (world after : World) (old new : Outside) → Serves (machine viewers) budget end world after old new → ServesAs viewers (status_of end) budget world after old new
+serves_as viewers Done budget world after old new serves = serves
+serves_as viewers TakeFault budget world after old new serves = serves
+serves_as viewers SayFault budget world after old new serves = serves
+serves_as viewers TooMuch budget world after old new serves = serves
 
-pub ran_from : {T E : Type 0} (status : Status) (world : World) (old greeted new : Outside) (last : World) (result : Result T E)
+pub ran_from : {T E : Type 0} (viewers : List Meaning) (status : Status) (world : World) (old greeted new : Outside) (last : World) (result : Result T E)
     → is_err result ≡ false → SaysAll (greeting_line world.store.kept.number) old greeted result
-    → ServesAs status max_budget world last greeted new → RanFrom world status old new
-ran_from status.Done world old greeted new last result fine says serves = serves_from Done world old greeted new last result fine says serves
-ran_from status.TakeFault world old greeted new last result fine says serves = serves_from TakeFault world old greeted new last result fine says serves
-ran_from status.TooMuch world old greeted new last result fine says serves = serves_from TooMuch world old greeted new last result fine says serves
-ran_from status.SayFault world old greeted new last result fine says serves = inr (serves_from SayFault world old greeted new last result fine says serves)
-ran_from status.Usage world old greeted new last result fine says serves = absurd serves
-ran_from status.Refused world old greeted new last result fine says serves = absurd serves
-ran_from status.Memory world old greeted new last result fine says serves = absurd serves
-ran_from status.DiskFault world old greeted new last result fine says serves = absurd serves
+    → ServesAs viewers status max_budget world last greeted new → RanFrom viewers world status old new
+ran_from viewers status.Done world old greeted new last result fine says serves = serves_from viewers Done world old greeted new last result fine says serves
+ran_from viewers status.TakeFault world old greeted new last result fine says serves = serves_from viewers TakeFault world old greeted new last result fine says serves
+ran_from viewers status.TooMuch world old greeted new last result fine says serves = serves_from viewers TooMuch world old greeted new last result fine says serves
+ran_from viewers status.SayFault world old greeted new last result fine says serves = inr (serves_from viewers SayFault world old greeted new last result fine says serves)
+ran_from viewers status.Usage world old greeted new last result fine says serves = absurd serves
+ran_from viewers status.Refused world old greeted new last result fine says serves = absurd serves
+ran_from viewers status.Memory world old greeted new last result fine says serves = absurd serves
+ran_from viewers status.DiskFault world old greeted new last result fine says serves = absurd serves
 
 -- a line that was said after a look at the disk
 pub says_only-after : (line : List ℕ) (old looked new : Outside) → Looks old looked → looked.say_faults ≡ old.say_faults → SaysOnly line looked new → SaysOnly line old new
@@ -119,16 +120,16 @@ pub opens_of : (old new : Outside) → Looks old new → Opens old new
 opens_of old new looks = record { said = ap (λ (m : Moment). m.said) looks.still.now; input = looks.input; untouched = λ some. looks.still }
 
 -- a run that was served began with what the file stands for
-pub ran_serving : (mode : Mode) (cap : ℕ) (status : Status) (old opened new : Outside) (world : World) → Starts mode cap old opened world → IsServed status → RanFrom world status opened new
-    → RanServing mode cap status old new
-ran_serving mode cap status.Done old opened new world starts served ran = record { opened = opened; world = world; starts = starts; ran = ran }
-ran_serving mode cap status.TakeFault old opened new world starts served ran = record { opened = opened; world = world; starts = starts; ran = ran }
-ran_serving mode cap status.TooMuch old opened new world starts served ran = record { opened = opened; world = world; starts = starts; ran = ran }
-ran_serving mode cap status.SayFault old opened new world starts served ran = record { opened = opened; world = world; starts = starts; ran = ran }
-ran_serving mode cap status.Usage old opened new world starts served ran = absurd served
-ran_serving mode cap status.Refused old opened new world starts served ran = absurd served
-ran_serving mode cap status.Memory old opened new world starts served ran = absurd served
-ran_serving mode cap status.DiskFault old opened new world starts served ran = absurd served
+pub ran_serving : (viewers : List Meaning) (mode : Mode) (cap : ℕ) (status : Status) (old opened new : Outside) (world : World) → Starts mode cap old opened world → IsServed status → RanFrom viewers world status opened new
+    → RanServing viewers mode cap status old new
+ran_serving viewers mode cap status.Done old opened new world starts served ran = record { opened = opened; world = world; starts = starts; ran = ran }
+ran_serving viewers mode cap status.TakeFault old opened new world starts served ran = record { opened = opened; world = world; starts = starts; ran = ran }
+ran_serving viewers mode cap status.TooMuch old opened new world starts served ran = record { opened = opened; world = world; starts = starts; ran = ran }
+ran_serving viewers mode cap status.SayFault old opened new world starts served ran = record { opened = opened; world = world; starts = starts; ran = ran }
+ran_serving viewers mode cap status.Usage old opened new world starts served ran = absurd served
+ran_serving viewers mode cap status.Refused old opened new world starts served ran = absurd served
+ran_serving viewers mode cap status.Memory old opened new world starts served ran = absurd served
+ran_serving viewers mode cap status.DiskFault old opened new world starts served ran = absurd served
 
 -- a file that is refused, by why no session was started
 pub refuses_file : (mode : Mode) (error : StartError) (fault : FileFault) (old looked new : Outside) → fault_of error ≡ Ok fault → IsStartRefusal mode old looked error → looked.say_faults ≡ old.say_faults
@@ -146,15 +147,15 @@ refuses_file mode error.Failed fault old looked new is cause counts says = absur
 refuses_file mode error.Memory fault old looked new is cause counts says = absurd (let f : ◌≡◌ {A = Result FileFault Status} (Err status.Memory) (Ok fault) = is in cc)
 
 -- the status of a run in which the store was not opened
-pub unopened : (mode : Mode) (cap : ℕ) (error : StartError) (s : Status) (old new : Outside) → fault_of error ≡ Err s → IsStartRefusal mode old new error → Opens old new → RanServing mode cap s old new
-unopened mode cap error.Failed s old new is cause opens =
-    let same : status.DiskFault ≡ s = let f : ◌≡◌ {A = Result FileFault Status} (Err status.DiskFault) (Err s) = is in cc in subst (λ (x : Status). RanServing mode cap x old new) same opens
-unopened mode cap error.Memory s old new is cause opens =
+pub unopened : (viewers : List Meaning) (mode : Mode) (cap : ℕ) (error : StartError) (s : Status) (old new : Outside) → fault_of error ≡ Err s → IsStartRefusal mode old new error → Opens old new → RanServing viewers mode cap s old new
+unopened viewers mode cap error.Failed s old new is cause opens =
+    let same : status.DiskFault ≡ s = let f : ◌≡◌ {A = Result FileFault Status} (Err status.DiskFault) (Err s) = is in cc in subst (λ (x : Status). RanServing viewers mode cap x old new) same opens
+unopened viewers mode cap error.Memory s old new is cause opens =
     let same : status.Memory ≡ s = let f : ◌≡◌ {A = Result FileFault Status} (Err status.Memory) (Err s) = is in cc in
-    subst (λ (x : Status). RanServing mode cap x old new) same (silent_of old new cause)
-unopened mode cap error.Empty s old new is cause opens = absurd (let f : ◌≡◌ {A = Result FileFault Status} (Ok Empty) (Err s) = is in cc)
-unopened mode cap error.NotAStore s old new is cause opens = absurd (let f : ◌≡◌ {A = Result FileFault Status} (Ok NotAStore) (Err s) = is in cc)
-unopened mode cap (error.Damaged place) s old new is cause opens = absurd (let f : ◌≡◌ {A = Result FileFault Status} (Ok (Damaged place)) (Err s) = is in cc)
+    subst (λ (x : Status). RanServing viewers mode cap x old new) same (silent_of old new cause)
+unopened viewers mode cap error.Empty s old new is cause opens = absurd (let f : ◌≡◌ {A = Result FileFault Status} (Ok Empty) (Err s) = is in cc)
+unopened viewers mode cap error.NotAStore s old new is cause opens = absurd (let f : ◌≡◌ {A = Result FileFault Status} (Ok NotAStore) (Err s) = is in cc)
+unopened viewers mode cap (error.Damaged place) s old new is cause opens = absurd (let f : ◌≡◌ {A = Result FileFault Status} (Ok (Damaged place)) (Err s) = is in cc)
 
 pub unchecked : (error : StartError) (s : Status) (old new : Outside) → fault_of error ≡ Err s → Looks old new → RanChecking s old new
 unchecked error.Failed s old new is looks =

@@ -19,6 +19,7 @@ use Rattle.storage.specs.Spaces.{Reports}
 use Rattle.storage.specs.declared.mode.Mode.{Mode}
 use Rattle.storage.specs.declared.mode.Mode.TheVariants.{Read}
 use Rattle.storage.specs.declared.space.Report.{Report}
+use Rattle.viewers.specs.Meanings.{Meaning}
 use Rattle.shell.specs.Faults.{IsFault}
 use Rattle.shell.specs.Said.{IsSilent, SaysOnly, SaysPart, check_line, fault_line, greeting_line, usage_line}
 use Rattle.shell.specs.declared.fault.FileFault.{FileFault}
@@ -39,11 +40,11 @@ pub record Starts (mode : Mode) (cap : ℕ) (old opened : Outside) (world : Worl
 -- The greeting was said whole, and names the commit that is kept. From then on lines were served, up to this end: what was taken, answered
 -- and said, and what a crash at any moment since the greeting would have left, are those of a run of the session over the lines of the
 -- bytes taken.
-pub record ServesFrom (world : World) (end : End) (old new : Outside) : Type 0 where
+pub record ServesFrom (viewers : List Meaning) (world : World) (end : End) (old new : Outside) : Type 0 where
   pub greeted : Outside
   pub greeting : SaysPart (greeting_line world.store.kept.number) (greeting_line world.store.kept.number) old greeted
   pub last : World
-  pub serves : Serves machine max_budget end world last greeted new
+  pub serves : Serves (machine viewers) max_budget end world last greeted new
 
 -- the output failed within the greeting
 pub record GreetsInPart (world : World) (old new : Outside) : Type 0 where
@@ -52,22 +53,22 @@ pub record GreetsInPart (world : World) (old new : Outside) : Type 0 where
   pub short : length said < length (greeting_line world.store.kept.number)
 
 -- what each status says of a run that began with this world
-abbrev pub RanFrom : World → Status → Outside → Outside → Type 0
-RanFrom world Done old new = ServesFrom world all_done old new
-RanFrom world TakeFault old new = ServesFrom world take_fault old new
-RanFrom world TooMuch old new = ServesFrom world too_much old new
-RanFrom world SayFault old new = GreetsInPart world old new ⊎ ServesFrom world say_fault old new
-RanFrom world Usage old new = ⊥
-RanFrom world Refused old new = ⊥
-RanFrom world Memory old new = ⊥
-RanFrom world DiskFault old new = ⊥
+abbrev pub RanFrom : List Meaning → World → Status → Outside → Outside → Type 0
+RanFrom viewers world Done old new = ServesFrom viewers world all_done old new
+RanFrom viewers world TakeFault old new = ServesFrom viewers world take_fault old new
+RanFrom viewers world TooMuch old new = ServesFrom viewers world too_much old new
+RanFrom viewers world SayFault old new = GreetsInPart world old new ⊎ ServesFrom viewers world say_fault old new
+RanFrom viewers world Usage old new = ⊥
+RanFrom viewers world Refused old new = ⊥
+RanFrom viewers world Memory old new = ⊥
+RanFrom viewers world DiskFault old new = ⊥
 
 -- The file was opened, and a run began with what it stands for.
-pub record Answers (mode : Mode) (cap : ℕ) (status : Status) (old new : Outside) : Type 0 where
+pub record Answers (viewers : List Meaning) (mode : Mode) (cap : ℕ) (status : Status) (old new : Outside) : Type 0 where
   pub opened : Outside
   pub world : World
   pub starts : Starts mode cap old opened world
-  pub ran : RanFrom world status opened new
+  pub ran : RanFrom viewers world status opened new
 
 -- a report was said, or a front of it where the output failed
 abbrev pub SaysReport : Report → Status → Outside → Outside → Type 0
@@ -82,30 +83,30 @@ pub record Checks (status : Status) (old new : Outside) : Type 0 where
   pub says : SaysReport report status old new
 
 -- Lines were served from this world up to the end that the status tells.
-abbrev pub ServesAs : Status → ℕ → World → World → Outside → Outside → Type 0
-ServesAs Done budget world after old new = Serves machine budget all_done world after old new
-ServesAs TakeFault budget world after old new = Serves machine budget take_fault world after old new
-ServesAs SayFault budget world after old new = Serves machine budget say_fault world after old new
-ServesAs TooMuch budget world after old new = Serves machine budget too_much world after old new
-ServesAs Usage budget world after old new = ⊥
-ServesAs Refused budget world after old new = ⊥
-ServesAs Memory budget world after old new = ⊥
-ServesAs DiskFault budget world after old new = ⊥
+abbrev pub ServesAs : List Meaning → Status → ℕ → World → World → Outside → Outside → Type 0
+ServesAs viewers Done budget world after old new = Serves (machine viewers) budget all_done world after old new
+ServesAs viewers TakeFault budget world after old new = Serves (machine viewers) budget take_fault world after old new
+ServesAs viewers SayFault budget world after old new = Serves (machine viewers) budget say_fault world after old new
+ServesAs viewers TooMuch budget world after old new = Serves (machine viewers) budget too_much world after old new
+ServesAs viewers Usage budget world after old new = ⊥
+ServesAs viewers Refused budget world after old new = ⊥
+ServesAs viewers Memory budget world after old new = ⊥
+ServesAs viewers DiskFault budget world after old new = ⊥
 
 -- the file is refused, and the line that is said names why
 abbrev pub RefusesFile : Mode → Outside → Outside → Type 0
 RefusesFile mode old new = (fault : FileFault) × IsFault mode old.now.disk.seen fault × SaysOnly (fault_line fault) old new
 
 -- a run that serves lines
-abbrev pub RanServing : Mode → ℕ → Status → Outside → Outside → Type 0
-RanServing mode cap Usage old new = ⊥
-RanServing mode cap Refused old new = RefusesFile mode old new
-RanServing mode cap Memory old new = IsSilent old new
-RanServing mode cap DiskFault old new = Opens old new
-RanServing mode cap Done old new = Answers mode cap Done old new
-RanServing mode cap TakeFault old new = Answers mode cap TakeFault old new
-RanServing mode cap TooMuch old new = Answers mode cap TooMuch old new
-RanServing mode cap SayFault old new = Answers mode cap SayFault old new
+abbrev pub RanServing : List Meaning → Mode → ℕ → Status → Outside → Outside → Type 0
+RanServing viewers mode cap Usage old new = ⊥
+RanServing viewers mode cap Refused old new = RefusesFile mode old new
+RanServing viewers mode cap Memory old new = IsSilent old new
+RanServing viewers mode cap DiskFault old new = Opens old new
+RanServing viewers mode cap Done old new = Answers viewers mode cap Done old new
+RanServing viewers mode cap TakeFault old new = Answers viewers mode cap TakeFault old new
+RanServing viewers mode cap TooMuch old new = Answers viewers mode cap TooMuch old new
+RanServing viewers mode cap SayFault old new = Answers viewers mode cap SayFault old new
 
 -- a run that looks at the file as a whole, and leaves it as it is
 abbrev pub RanChecking : Status → Outside → Outside → Type 0
@@ -118,26 +119,26 @@ RanChecking TakeFault old new = ⊥
 RanChecking TooMuch old new = ⊥
 RanChecking SayFault old new = Checks SayFault old new
 
-abbrev pub RanAs : Task → Mode → ℕ → Status → Outside → Outside → Type 0
-RanAs Serve mode cap status old new = RanServing mode cap status old new
-RanAs Check mode cap status old new = RanChecking status old new
+abbrev pub RanAs : List Meaning → Task → Mode → ℕ → Status → Outside → Outside → Type 0
+RanAs viewers Serve mode cap status old new = RanServing viewers mode cap status old new
+RanAs viewers Check mode cap status old new = RanChecking status old new
 
 -- the words ask for a job, and this is what came of it
-pub record RanFor (words : List (List ℕ)) (status : Status) (old new : Outside) : Type 0 where
+pub record RanFor (viewers : List Meaning) (words : List (List ℕ)) (status : Status) (old new : Outside) : Type 0 where
   pub job : Job
   pub asks : AsksFor words job
-  pub ran : RanAs job.task job.mode job.cap status old new
+  pub ran : RanAs viewers job.task job.mode job.cap status old new
 
 -- Where memory is wanting nothing is said, whatever the words.
-abbrev pub Ran : List (List ℕ) → Status → Outside → Outside → Type 0
-Ran words Usage old new = (¬ AsksForSome words) × SaysOnly usage_line old new
-Ran words Memory old new = IsSilent old new
-Ran words Refused old new = RanFor words Refused old new
-Ran words DiskFault old new = RanFor words DiskFault old new
-Ran words Done old new = RanFor words Done old new
-Ran words TakeFault old new = RanFor words TakeFault old new
-Ran words TooMuch old new = RanFor words TooMuch old new
-Ran words SayFault old new = RanFor words SayFault old new
+abbrev pub Ran : List Meaning → List (List ℕ) → Status → Outside → Outside → Type 0
+Ran viewers words Usage old new = (¬ AsksForSome words) × SaysOnly usage_line old new
+Ran viewers words Memory old new = IsSilent old new
+Ran viewers words Refused old new = RanFor viewers words Refused old new
+Ran viewers words DiskFault old new = RanFor viewers words DiskFault old new
+Ran viewers words Done old new = RanFor viewers words Done old new
+Ran viewers words TakeFault old new = RanFor viewers words TakeFault old new
+Ran viewers words TooMuch old new = RanFor viewers words TooMuch old new
+Ran viewers words SayFault old new = RanFor viewers words SayFault old new
 
 -- a file with which nothing is wrong: one that stands for a commit, or to serve lines from an empty one that may be written
 abbrev pub MayOpen : Task → Mode → List ℕ → Type 0

@@ -1,13 +1,12 @@
-ghost use Rattle.std.specs.Prelude.{◌≡◌, ◌⊎◌, ◌≢◌, ◌<◌, ◌^◌, IfOk, OnOk};
+ghost use Rattle.std.specs.Prelude.{◌≡◌, ◌⊎◌, ◌≢◌, ◌<◌, ◌^◌, map, IfOk, OnOk};
 ghost use Rattle.command_line.specs.Words.{AsksForSome, texts_of};
 ghost use Rattle.host_io.specs.Calls.{CountsDisk, CountsSay, Looks, Rose};
 ghost use Rattle.host_io.specs.Disk.{IsSettled};
 ghost use Rattle.host_io.specs.Outside.{Outside};
-ghost use Rattle.lines.specs.Crash.{IsReady};
 ghost use Rattle.lines.specs.Rooms.{IsClear};
 ghost use Rattle.lines.specs.Served.{state_of};
 ghost use Rattle.lines.specs.Spoken.{SaysAll};
-ghost use Rattle.session.specs.Step.{machine};
+ghost use Rattle.session.specs.Disk.{IsSteady};
 ghost use Rattle.shell.specs.Ran.{GoesWell, IsServed, Ran, RanAs, RanFrom, RanServing};
 ghost use Rattle.shell.specs.Said.{greeting_line};
 
@@ -25,6 +24,7 @@ use mk_value::Text;
 use session::{Session, start};
 use std::alloc::Global;
 use storage::Mode;
+use viewers::Viewer;
 
 /// What is said where the words are no command line.
 const USAGE: &str =
@@ -32,15 +32,15 @@ const USAGE: &str =
 
 /// Runs the program. `words` are its own name, options and the name of a file, which is made where it is absent and may be written. The
 /// store of the file is opened, or made where the file is empty; its number is said, and the lines of the input are answered one by
-/// one. With `--check` the file is looked at as a whole, and a report is said. A file that is neither empty nor a store is refused, and
+/// one; their expressions may ask the viewers, of which the first of a name is asked. With `--check` the file is looked at as a whole, and a report is said. A file that is neither empty nor a store is refused, and
 /// left as it is.
 ///
 /// All memory that serving takes for itself is taken before the file is attached.
-pub fn run<H: Host>(alloc: Global, words: &[&str], host: &mut H) -> Status
+pub fn run<H: Host, V: Viewer>(alloc: Global, words: &[&str], viewers: &[V], host: &mut H) -> Status
     // Nothing waits for a sync when the program starts.
     requires settled { H.tells → IsSettled (H.outside host.old).now.disk }
 
-    ensures ran { H.tells → Ran (texts_of words.now) result (H.outside host.old) (H.outside host.new) }
+    ensures ran { H.tells → Ran (map V.meaning viewers.now) (texts_of words.now) result (H.outside host.old) (H.outside host.new) }
     ensures usage { result ≡ Status.Usage → ¬ AsksForSome (texts_of words.now) }
     ensures asks_for_none { (¬ AsksForSome (texts_of words.now)) → (result ≡ Status.Usage) ⊎ (result ≡ Status.Memory) }
 
@@ -55,7 +55,7 @@ pub fn run<H: Host>(alloc: Global, words: &[&str], host: &mut H) -> Status
 {
     command_line::words_ask_for_one_job();
     match read_words(alloc, words) {
-        Ok(job) => run_job(alloc, &job, host),
+        Ok(job) => run_job(alloc, &job, viewers, host),
         Err(WordsError::Usage) => {
             let _ = say_all(host, USAGE.as_bytes());
             Status::Usage
@@ -65,10 +65,10 @@ pub fn run<H: Host>(alloc: Global, words: &[&str], host: &mut H) -> Status
 }
 
 /// Does what the words ask for.
-fn run_job<H: Host>(alloc: Global, job: &Job, host: &mut H) -> Status
+fn run_job<H: Host, V: Viewer>(alloc: Global, job: &Job, viewers: &[V], host: &mut H) -> Status
     requires settled { H.tells → IsSettled (H.outside host.old).now.disk }
     requires capped { job.now.cap < 2 ^ 63 }
-    ensures ran { H.tells → RanAs job.now.task job.now.mode job.now.cap result (H.outside host.old) (H.outside host.new) }
+    ensures ran { H.tells → RanAs (map V.meaning viewers.now) job.now.task job.now.mode job.now.cap result (H.outside host.old) (H.outside host.new) }
     ensures right { result ≢ Status.Usage }
     ensures take_fault { result ≡ Status.TakeFault → Rose (H.outside host.old).take_faults (H.outside host.new).take_faults }
     ensures say_fault { result ≡ Status.SayFault → Rose (H.outside host.old).say_faults (H.outside host.new).say_faults }
@@ -81,7 +81,7 @@ fn run_job<H: Host>(alloc: Global, job: &Job, host: &mut H) -> Status
         return Status::DiskFault;
     }
     match job.task {
-        Task::Serve => serve_file(alloc, job.mode, job.cap, &mut rooms, host),
+        Task::Serve => serve_file(alloc, job.mode, job.cap, viewers, &mut rooms, host),
         Task::Check => check_file(alloc, &mut rooms.reply, host),
     }
 }
@@ -95,10 +95,11 @@ fn attach<H: Host>(job: &Job, host: &mut H) -> Result<(), Failed>
 }
 
 /// Opens the store of the file or makes one, greets, and answers the lines of the input.
-fn serve_file<H: Host>(
+fn serve_file<H: Host, V: Viewer>(
     alloc: Global,
     mode: Mode,
     cap: u64,
+    viewers: &[V],
     rooms: &mut Rooms,
     host: &mut H,
 ) -> Status
@@ -106,14 +107,14 @@ fn serve_file<H: Host>(
     requires reply { IsClear rooms.old.reply }
     requires settled { H.tells → IsSettled (H.outside host.old).now.disk }
     requires capped { cap < 2 ^ 63 }
-    ensures ran { H.tells → RanServing mode cap result (H.outside host.old) (H.outside host.new) }
+    ensures ran { H.tells → RanServing (map V.meaning viewers.now) mode cap result (H.outside host.old) (H.outside host.new) }
     ensures right { result ≢ Status.Usage }
     ensures take_fault { result ≡ Status.TakeFault → Rose (H.outside host.old).take_faults (H.outside host.new).take_faults }
     ensures say_fault { result ≡ Status.SayFault → Rose (H.outside host.old).say_faults (H.outside host.new).say_faults }
     ensures disk_fault { result ≡ Status.DiskFault → Rose (H.outside host.old).disk_faults (H.outside host.new).disk_faults }
 {
     match start(alloc, host, mode, cap) {
-        Ok(mut session) => greet_and_serve(&mut session, rooms, host),
+        Ok(mut session) => greet_and_serve(&mut session, viewers, rooms, host),
         Err(error) => match fault_of(error) {
             Ok(fault) => refuse(fault, &mut rooms.reply, host),
             Err(status) => status,
@@ -122,11 +123,16 @@ fn serve_file<H: Host>(
 }
 
 /// Greets, and answers the lines of the input.
-fn greet_and_serve<H: Host>(session: &mut Session, rooms: &mut Rooms, host: &mut H) -> Status
+fn greet_and_serve<H: Host, V: Viewer>(
+    session: &mut Session,
+    viewers: &[V],
+    rooms: &mut Rooms,
+    host: &mut H,
+) -> Status
     requires line { IsClear rooms.old.line }
     requires reply { IsClear rooms.old.reply }
-    requires ready { H.tells → IsReady machine (state_of session.old (H.outside host.old)) }
-    ensures ran { H.tells → RanFrom session.old result (H.outside host.old) (H.outside host.new) }
+    requires ready { H.tells → IsSteady (state_of session.old (H.outside host.old)) }
+    ensures ran { H.tells → RanFrom (map V.meaning viewers.now) session.old result (H.outside host.old) (H.outside host.new) }
     ensures status { IsServed result }
     ensures take_fault { result ≡ Status.TakeFault → Rose (H.outside host.old).take_faults (H.outside host.new).take_faults }
     ensures say_fault { result ≡ Status.SayFault → Rose (H.outside host.old).say_faults (H.outside host.new).say_faults }
@@ -134,7 +140,14 @@ fn greet_and_serve<H: Host>(session: &mut Session, rooms: &mut Rooms, host: &mut
     if greet(session.number(), &mut rooms.reply, host).is_err() {
         return Status::SayFault;
     }
-    serve(session, host, &mut rooms.line, &mut rooms.reply, MAX_BUDGET)
+    serve(
+        session,
+        host,
+        viewers,
+        &mut rooms.line,
+        &mut rooms.reply,
+        MAX_BUDGET,
+    )
 }
 
 /// Says the greeting, which names the number of a commit.

@@ -12,6 +12,7 @@ use std::process::Abort;
 use std::test::Fail;
 use struct_text::parse;
 use tokens::read_literal;
+use viewers::StoredViewer;
 
 /// The views that are asked, each by its structure and its rows.
 const VIEWS: [(&str, &str); 10] = [
@@ -64,7 +65,8 @@ fn answer(alloc: Global, views: &Views, text: &str) -> Result<String, Fail> {
 fn value(alloc: Global, views: &Views, expr: &Expr) -> Result<String, Fail>
     requires { IsWhole (query_of expr.now) }
 {
-    match eval(alloc, expr, views) {
+    let viewers: [StoredViewer; 0] = [];
+    match eval(alloc, expr, views, &viewers) {
         Ok(table) => shown(alloc, &table),
         Err(EvalError::Name(error)) => of_name(alloc, error),
         Err(EvalError::Viewer(name)) => Ok(format!(in alloc; "no viewer {}", name.as_str())?),

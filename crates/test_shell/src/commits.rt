@@ -1,7 +1,8 @@
 //! A commit in a whole run: each of its calls fails, or the machine stops after it.
+use crate::unviewed::run;
 use host_io::{Effect, Fault, MemHost};
 use mk_value::{Bytes, Memory};
-use shell::{Status, run};
+use shell::Status;
 use std::alloc::Global;
 use std::process::Abort;
 use std::test::Fail;

@@ -12,11 +12,11 @@ use std::str;
 #[derive(Drop)]
 struct Echo;
 
-impl<H: Host> Session<H> for Echo {
+impl<H: Host> Session<H, ()> for Echo {
     ghost use Rattle.std.specs.Prelude.{◌≡◌, codes};
     ghost use Rattle.std.specs.Str.{bytes_eq};
 
-    ghost machine = { record {
+    ghost machine = { λ context. record {
       answers = λ old line reply new. new ≡ old;
       ends = λ line. bytes_eq line (codes "quit");
       allowed = λ state image. Unit {0};
@@ -24,7 +24,7 @@ impl<H: Host> Session<H> for Echo {
       ready = λ state. Unit {0};
     } };
 
-    fn answer(&mut self, _host: &mut H, line: &[u8], out: &mut Text) -> Flow {
+    fn answer(&mut self, _host: &mut H, _context: &(), line: &[u8], out: &mut Text) -> Flow {
         if !line.is_empty() {
             let text = str::from_utf8(line).unwrap_or("?");
             let _ = out.push_str(text);
@@ -57,6 +57,7 @@ pub fn run(
     let end = serve(
         &mut Echo,
         &mut host,
+        &(),
         &mut room,
         &mut out,
         budget.min(MAX_BUDGET),

@@ -15,4 +15,6 @@ mod running;
 #[cfg(test)]
 mod serving;
 #[cfg(test)]
+mod unviewed;
+#[cfg(test)]
 mod words;

@@ -1,18 +1,15 @@
 //! Runs of the whole program, each with its status.
-ghost use Rattle.std.specs.Prelude.{◌≡◌, ◌+◌, ◌≤◌, [], length};
-ghost use Rattle.lines.specs.Lines.{max_line};
-ghost use Rattle.lines.specs.Crash.{IsReady};
-ghost use Rattle.lines.specs.Served.{state_of};
-
-use host_io::{Effect, Fault, Host, MemHost};
-use lines::{Flow, MAX_LINE, Session as LineSession};
+use crate::unviewed::run;
+use host_io::{Effect, Fault, MemHost};
+use lines::MAX_LINE;
 use mk_value::{Bytes, Memory, Text};
 use session::start;
-use shell::{Status, run, serve};
+use shell::{Status, serve};
 use std::alloc::Global;
 use std::process::Abort;
 use std::test::Fail;
 use storage::Mode;
+use viewers::StoredViewer;
 
 const ROOM: usize = 16_384;
 
@@ -164,33 +161,6 @@ fn each_status_has_its_words(rt: HostRuntime) -> Result<(), Fail> {
     Ok(())
 }
 
-/// Answers a line as the loop over lines does.
-fn answer<H: Host, S: LineSession<H>>(
-    session: &mut S,
-    host: &mut H,
-    line: &[u8],
-    out: &mut Text,
-) -> Flow
-    requires short { length line.now ≤ max_line }
-    requires empty { out.old.bytes ≡ [] }
-    requires room { max_line + 1 ≤ out.old.spare }
-    requires ready { H.tells → IsReady S.machine (state_of session.old (H.outside host.old)) }
-{
-    session.answer(host, line, out)
-}
-
-/// A line by itself.
-#[test]
-fn a_line_is_answered(rt: HostRuntime) -> Result<(), Fail> {
-    let mut reply = Text::with_room(rt.alloc(), MAX_LINE + 1)?;
-    let mut host = MemHost::new(rt.alloc(), b"", b"", &[], 0, ROOM)?;
-    let mut session = start(rt.alloc(), &mut host, Mode::Write, CAP)?;
-    let flow = answer(&mut session, &mut host, b"getas x[a:I]", &mut reply);
-    assert!(rt; flow == Flow::Goes);
-    assert_eq!(rt; reply.as_str(), "ok x[a:I]\n");
-    Ok(())
-}
-
 /// A run that takes five bytes of two lines: `size` is answered, and one more byte comes.
 #[test]
 fn a_budget_is_kept(rt: HostRuntime) -> Result<(), Fail> {
@@ -198,7 +168,8 @@ fn a_budget_is_kept(rt: HostRuntime) -> Result<(), Fail> {
     let mut room = Bytes::with_room(rt.alloc(), MAX_LINE + 1)?;
     let mut reply = Text::with_room(rt.alloc(), MAX_LINE + 1)?;
     let mut session = start(rt.alloc(), &mut host, Mode::Write, CAP)?;
-    let status = serve(&mut session, &mut host, &mut room, &mut reply, 5);
+    let viewers: [StoredViewer; 0] = [];
+    let status = serve(&mut session, &mut host, &viewers, &mut room, &mut reply, 5);
     assert_eq!(rt; status, Status::TooMuch);
     assert_eq!(rt; host.said(), b"err 2 syntax 4\n".as_slice());
     Ok(())

@@ -30,9 +30,9 @@ pub(crate) fn answer_for<T: TableRead, V: Viewer>(
     columns: &Columns,
     row: usize,
 ) -> Result<i64, Memory>
-    requires asked { AreAsked (T.schema table.now) (V.takes viewer.now) columns.now }
+    requires asked { AreAsked (T.schema table.now) (V.meaning viewer.now).takes columns.now }
     requires row_in { row < length (T.rows table.now) }
-    ensures { IfOk result (λ answer. answer ≡ asked (V.gives viewer.now) columns.now (slice_index_or (T.rows table.now) row [])) }
+    ensures { IfOk result (λ answer. answer ≡ asked (V.meaning viewer.now).gives columns.now (slice_index_or (T.rows table.now) row [])) }
 {
     let _size = table.size();
     let values = values_in(alloc, table, columns, row)?;

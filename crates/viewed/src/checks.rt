@@ -19,7 +19,7 @@ pub(crate) fn check_calc<V: Viewer>(
     args: &[Name],
     new: &Name,
 ) -> Result<(), DerivedError>
-    ensures { result_err result ≡ calc_due (V.name viewer.now) (V.takes viewer.now) args.now new.now (record { schema = schema.now; rows = [] }) }
+    ensures { result_err result ≡ calc_due (V.meaning viewer.now).name (V.meaning viewer.now).takes args.now new.now (record { schema = schema.now; rows = [] }) }
 {
     if has(schema, new) {
         return Err(DerivedError::NameTaken(new.copy()?));
@@ -37,7 +37,7 @@ pub(crate) fn check_keep<V: Viewer>(
     viewer: &V,
     args: &[Name],
 ) -> Result<(), DerivedError>
-    ensures { result_err result ≡ keep_due (V.name viewer.now) (V.takes viewer.now) args.now schema.now }
+    ensures { result_err result ≡ keep_due (V.meaning viewer.now).name (V.meaning viewer.now).takes args.now schema.now }
 {
     check_args(schema, args)?;
     check_taken(schema, viewer, args)
@@ -53,7 +53,7 @@ fn check_args(schema: &Schema, args: &[Name]) -> Result<(), DerivedError>
 /// Refuses another number of arguments than the viewer takes, by the viewer's name, and else the first that is of another kind.
 fn check_taken<V: Viewer>(schema: &Schema, viewer: &V, args: &[Name]) -> Result<(), DerivedError>
     requires { absent schema.now args.now ≡ None }
-    ensures { result_err result ≡ not_taken (V.name viewer.now) (V.takes viewer.now) schema.now args.now }
+    ensures { result_err result ≡ not_taken (V.meaning viewer.now).name (V.meaning viewer.now).takes schema.now args.now }
 {
     let takes = viewer.takes();
     if args.len() != takes.len() {

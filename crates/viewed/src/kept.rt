@@ -26,8 +26,8 @@ pub fn keep<T: TableRead + Same + Drop, V: Viewer>(
     viewer: &V,
     args: &[Name],
 ) -> Result<Derived<T>, DerivedError>
-    ensures due { AnswersDue (keep_due (V.name viewer.now) (V.takes viewer.now) args.now base.schema) result }
-    ensures ok { IfOk result (λ d. table_of d ≡ keep (V.gives viewer.now) args.now (table_of base)) }
+    ensures due { AnswersDue (keep_due (V.meaning viewer.now).name (V.meaning viewer.now).takes args.now base.schema) result }
+    ensures ok { IfOk result (λ d. table_of d ≡ keep (V.meaning viewer.now).gives args.now (table_of base)) }
 {
     check_keep(base.schema(), viewer, args)?;
     let _size = base.size();
@@ -37,14 +37,14 @@ pub fn keep<T: TableRead + Same + Drop, V: Viewer>(
 }
 
 /// The positions of the rows whose answer is not 0.
-fn kept_positions<T: TableRead, V: Viewer>(
+pub fn kept_positions<T: TableRead, V: Viewer>(
     alloc: Global,
     table: &T,
     viewer: &V,
     columns: &Columns,
 ) -> Result<Positions, Memory>
-    requires { AreAsked (T.schema table.now) (V.takes viewer.now) columns.now }
-    ensures { IfOk result (λ positions. positions ≡ passing (is_kept (V.gives viewer.now) columns.now) [] (T.rows table.now)) }
+    requires { AreAsked (T.schema table.now) (V.meaning viewer.now).takes columns.now }
+    ensures { IfOk result (λ positions. positions ≡ passing (is_kept (V.meaning viewer.now).gives columns.now) [] (T.rows table.now)) }
 {
     let mut positions = Positions::new(alloc);
     for row in 0..table.size() {

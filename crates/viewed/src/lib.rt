@@ -11,4 +11,4 @@ mod checks;
 mod kept;
 
 pub use calculated::calc;
-pub use kept::keep;
+pub use kept::{keep, kept_positions};

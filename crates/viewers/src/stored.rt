@@ -25,9 +25,7 @@ impl StoredViewer {
     pub fn new(name: Name, law: Law, takes: Kinds, call: Call) -> StoredViewer
         requires callable { (row : _) → AreArguments (map domain_of takes) row.now → Call.pre call row }
         requires lawful { (row : _) (number : _) → AreArguments (map domain_of takes) row.now → Call.post call row number → number ≡ law_gives law row.now }
-        ensures name { ⟦<StoredViewer as Viewer>⟧.name result ≡ name }
-        ensures takes { ⟦<StoredViewer as Viewer>⟧.takes result ≡ map domain_of takes }
-        ensures gives { ⟦<StoredViewer as Viewer>⟧.gives result ≡ law_gives law }
+        ensures { ⟦<StoredViewer as Viewer>⟧.meaning result ≡ record { name = name; takes = map domain_of takes; gives = law_gives law } }
     {
         StoredViewer {
             name,
@@ -39,11 +37,7 @@ impl StoredViewer {
 }
 
 impl Viewer for StoredViewer {
-    ghost name = { λ v. v.name };
-
-    ghost takes = { λ v. map domain_of v.takes };
-
-    ghost gives = { λ v. law_gives v.law };
+    ghost meaning = { λ v. record { name = v.name; takes = map domain_of v.takes; gives = law_gives v.law } };
 
     fn name(&self) -> &Name {
         &self.name

@@ -12,7 +12,7 @@ taking-init g c =
       ready = c.requires.ready;
       so_far = λ tells count all.
           let none : 0 ≡ count = omega arith in
-          rw (c.requires.room.empty, ← none) (SoFar-start g.S.Session.machine c.args.session.now _ (c.requires.ready tells));
+          rw (c.requires.room.empty, ← none) (SoFar-start (g.S.Session.machine c.args.context.now) c.args.session.now _ (c.requires.ready tells));
       take_faults = omega arith;
       say_faults = omega arith;
       disk_faults = omega arith;

@@ -11,9 +11,9 @@ invariant-taking g l = record {
   within : l.left ≤ l.budget;
   room : HasLineRoom l.room;
   clear : IsClear l.out;
-  ready : g.H.Disk.tells → IsReady g.S.Session.machine (state_of l.session (g.H.Disk.outside l.host));
+  ready : g.H.Disk.tells → IsReady (g.S.Session.machine l.context) (state_of l.session (g.H.Disk.outside l.host));
   so_far : g.H.Disk.tells → (count : ℕ) → count + l.left ≡ l.budget
-      → SoFar g.S.Session.machine l.initial.session (g.H.Disk.outside l.initial.host) l.session (g.H.Disk.outside l.host) l.room.bytes [] count;
+      → SoFar (g.S.Session.machine l.context) l.initial.session (g.H.Disk.outside l.initial.host) l.session (g.H.Disk.outside l.host) l.room.bytes [] count;
   take_faults : (g.H.Disk.outside l.initial.host).take_faults ≤ (g.H.Disk.outside l.host).take_faults;
   say_faults : (g.H.Disk.outside l.initial.host).say_faults ≤ (g.H.Disk.outside l.host).say_faults;
   disk_faults : (g.H.Disk.outside l.initial.host).disk_faults ≤ (g.H.Disk.outside l.host).disk_faults;

@@ -1,8 +1,7 @@
 use Rattle.std.proofs.Common.{ap, sym, subst}
-use Rattle.lines.specs.Crash.{IsReady}
 use Rattle.lines.specs.Served.{state_of}
+use Rattle.session.specs.Disk.{IsSteady}
 use Rattle.session.specs.Starting.{IsStartRefusal, StartsAs}
-use Rattle.session.specs.Step.{machine}
 use Rattle.session.specs.World.{World, world_over}
 use Rattle.session.specs.declared.starting.StartError.{StartError}
 use Rattle.session.proofs.Started.{ready_open, start_refused, starts_open}
@@ -23,7 +22,7 @@ returns-in-Ok-clause-ready g c = λ tells.
     let new = g.H.Disk.outside c.open.new.disk in
     let world : World = world_over c.in-Ok.store in
     let e = c.in-Ok.ensures in
-    subst (λ (w : World). IsReady machine (state_of w new)) (sym c.session_over.ensures.store)
+    subst (λ (w : World). IsSteady (state_of w new)) (sym c.session_over.ensures.store)
     (ready_open world old new (e.same tells) c.session_over.ensures.whole (e.rests tells))
 
 pub returns-in-Err-clause-refused : goal.returns-in-Err-clause-refused

@@ -1,5 +1,5 @@
 -- The lines that are said in place of serving, and a run in which nothing goes wrong.
-use Rattle.std.proofs.Common.{ap, Err}
+use Rattle.std.proofs.Common.{map, ap, Err}
 use Rattle.command_line.specs.Words.{texts_of}
 use Rattle.shell.specs.Said.{usage_line}
 use Rattle.shell.proofs.Completing.{completes, ran_job}
@@ -12,11 +12,16 @@ returns-in-Ok-clause-complete g c = λ tells.
     let old = g.H.Disk.outside c.args.host.now in
     let new = g.H.Disk.outside c.run_job.new.host in
     let e = c.run_job.ensures in
-    completes words c.run_job.result old new (λ one other. c.words_ask_for_one_job.ensures words one other)
-    (ran_job words c.in-Ok.job c.run_job.result old new c.in-Ok.ensures.ok e.right (e.ran tells)) e.take_fault e.say_fault e.disk_fault
+    completes (map g.V.Viewer.meaning c.args.viewers.now) words c.run_job.result old new (λ one other. c.words_ask_for_one_job.ensures words one other)
+    (ran_job (map g.V.Viewer.meaning c.args.viewers.now) words c.in-Ok.job c.run_job.result old new c.in-Ok.ensures.ok e.right (e.ran tells)) e.take_fault e.say_fault e.disk_fault
 
 pub returns-in-Err-Usage-clause-ran : goal.returns-in-Err-Usage-clause-ran
 returns-in-Err-Usage-clause-ran g c = λ tells. (
   c.in-Err-Usage.ensures.usage (ap Err c.in-Err-Usage.field-0-is),
   says_only usage_line (g.H.Disk.outside c.args.host.now) (g.H.Disk.outside c.say_all.new.host) c.say_all.result (rw c.as_bytes.ensures.value at (c.say_all.ensures.says tells)) c.say_all.ensures.counts,
 )
+
+pub returns-in-Ok-clause-ran : goal.returns-in-Ok-clause-ran
+returns-in-Ok-clause-ran g c = λ tells.
+    ran_job (map g.V.Viewer.meaning c.args.viewers.now) (texts_of c.args.words.now) c.in-Ok.job c.run_job.result (g.H.Disk.outside c.args.host.now) (g.H.Disk.outside c.run_job.new.host) c.in-Ok.ensures.ok
+    c.run_job.ensures.right (c.run_job.ensures.ran tells)

@@ -1,4 +1,4 @@
-use Rattle.std.proofs.Common.{sym, subst}
+use Rattle.std.proofs.Common.{map, sym, subst}
 use Rattle.command_line.specs.declared.job.Task.{Task}
 use Rattle.shell.specs.Ran.{RanAs}
 use Rattle.shell.proofs.After.{ran_checking_after, ran_serving_after}
@@ -8,12 +8,12 @@ pub returns-in-Serve-clause-ran : goal.returns-in-Serve-clause-ran
 returns-in-Serve-clause-ran g c = λ tells.
     let old = g.H.Disk.outside c.args.host.now in
     let new = g.H.Disk.outside c.serve_file.new.host in
-    subst (λ (t : Task). RanAs t c.args.job.now.mode c.args.job.now.cap c.serve_file.result old new) (sym c.in-Serve.is)
-    (ran_serving_after c.args.job.now.mode c.args.job.now.cap c.serve_file.result old (g.H.Disk.outside c.attach.new.host) new (c.attach.ensures.same tells) c.attach.ensures.counts.says (c.serve_file.ensures.ran tells))
+    subst (λ (t : Task). RanAs (map g.V.Viewer.meaning c.args.viewers.now) t c.args.job.now.mode c.args.job.now.cap c.serve_file.result old new) (sym c.in-Serve.is)
+    (ran_serving_after (map g.V.Viewer.meaning c.args.viewers.now) c.args.job.now.mode c.args.job.now.cap c.serve_file.result old (g.H.Disk.outside c.attach.new.host) new (c.attach.ensures.same tells) c.attach.ensures.counts.says (c.serve_file.ensures.ran tells))
 
 pub returns-clause-ran : goal.returns-clause-ran
 returns-clause-ran g c = λ tells.
     let old = g.H.Disk.outside c.args.host.now in
     let new = g.H.Disk.outside c.check_file.new.host in
-    subst (λ (t : Task). RanAs t c.args.job.now.mode c.args.job.now.cap c.check_file.result old new) (sym c.in-Check.is)
+    subst (λ (t : Task). RanAs (map g.V.Viewer.meaning c.args.viewers.now) t c.args.job.now.mode c.args.job.now.cap c.check_file.result old new) (sym c.in-Check.is)
     (ran_checking_after c.check_file.result old (g.H.Disk.outside c.attach.new.host) new (c.attach.ensures.same tells) c.attach.ensures.counts.says (c.check_file.ensures.ran tells))

@@ -6,5 +6,5 @@ use Rattle.viewed.proofs.calculated.answered_rows.Given as goal
 
 abbrev pub invariant-loop-row : goal.invariant-loop-row
 invariant-loop-row g l =
-    (l.rows ≡ map (answered (g.V.Viewer.gives l.viewer) l.columns) (take l.row (g.T.TableRead.rows l.table)))
-    × All (λ row. FitsSigned w64 (asked (g.V.Viewer.gives l.viewer) l.columns row)) (take l.row (g.T.TableRead.rows l.table))
+    (l.rows ≡ map (answered (g.V.Viewer.meaning l.viewer).gives l.columns) (take l.row (g.T.TableRead.rows l.table)))
+    × All (λ row. FitsSigned w64 (asked (g.V.Viewer.meaning l.viewer).gives l.columns row)) (take l.row (g.T.TableRead.rows l.table))

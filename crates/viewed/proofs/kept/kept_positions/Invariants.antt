@@ -5,4 +5,4 @@ use Rattle.viewed.specs.Asking.{is_kept}
 use Rattle.viewed.proofs.kept.kept_positions.Given as goal
 
 abbrev pub invariant-loop-row : goal.invariant-loop-row
-invariant-loop-row g l = l.positions ≡ filter (λ i. is_kept (g.V.Viewer.gives l.viewer) l.columns (get_or (g.T.TableRead.rows l.table) i [])) (numbers l.row)
+invariant-loop-row g l = l.positions ≡ filter (λ i. is_kept (g.V.Viewer.meaning l.viewer).gives l.columns (get_or (g.T.TableRead.rows l.table) i [])) (numbers l.row)

@@ -1,4 +1,4 @@
-use Rattle.std.proofs.Common.{ap, subst, ◌∙◌, ◌++◌}
+use Rattle.std.proofs.Common.{map, ap, subst, ◌∙◌, ◌++◌}
 use Rattle.std.proofs.lemmas.Bool.{false≢true}
 use Rattle.cmd_text.specs.Lines.{Reads}
 use Rattle.cmd_text.specs.Replies.{reply_bytes}
@@ -20,7 +20,7 @@ pub returns-in-Ok-clause-step : goal.returns-in-Ok-clause-step
 returns-in-Ok-clause-step g c =
     let from = g.H.Disk.outside c.args.host.now in
     let to = g.H.Disk.outside c.answer_command.new.host in
-    step_of_command g.H.Disk.tells (state_of c.args.self.now from) (state_of c.answer_command.new.self to) c.args.line.now c.answer_command.new.out.bytes c.in-Ok.command c.in-Ok.ensures.reads
+    step_of_command g.H.Disk.tells (map g.V.Viewer.meaning c.args.viewers.now) (state_of c.args.self.now from) (state_of c.answer_command.new.self to) c.args.line.now c.answer_command.new.out.bytes c.in-Ok.command c.in-Ok.ensures.reads
     c.answer_command.ensures.carried
 
 pub returns-in-Ok-clause-goes : goal.returns-in-Ok-clause-goes
@@ -32,6 +32,6 @@ returns-in-Ok-clause-goes g c = λ tells.
 pub returns-in-Err-clause-step : goal.returns-in-Err-clause-step
 returns-in-Err-clause-step g c =
     let from = g.H.Disk.outside c.args.host.now in
-    step_of_error g.H.Disk.tells (state_of c.args.self.now from) c.args.line.now c.refuse.new.out.bytes c.in-Err.error
+    step_of_error g.H.Disk.tells (map g.V.Viewer.meaning c.args.viewers.now) (state_of c.args.self.now from) c.args.line.now c.refuse.new.out.bytes c.in-Err.error
     (λ command one reads. false≢true (c.in-Err.ensures.in_place command one reads)) c.in-Err.ensures.refused
     (c.refuse.ensures.bytes ∙ ap (λ front. front ++ reply_bytes (Refused c.of_reading.result)) c.requires.empty ∙ ap (λ r. reply_bytes (Refused r)) c.of_reading.ensures)

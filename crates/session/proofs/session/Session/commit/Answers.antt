@@ -12,7 +12,7 @@ use Rattle.session.proofs.session.Session.commit.Goals.{in-Ok-carry, in-Err-carr
 use Rattle.session.proofs.session.Session.commit.Goals as goal
 
 pub returns-clause-carried : goal.returns-clause-carried
-returns-clause-carried g c =
+returns-clause-carried g c = λ viewers.
     let from = g.H.Disk.outside c.args.host.now in
     let to = g.H.Disk.outside c.carry.new.disk in
     let inside : World = record { store = c.self.inside.store; snapshots = c.self.inside.snapshots; cursors = c.self.inside.cursors } in
@@ -21,15 +21,15 @@ returns-clause-carried g c =
     let reply = reply_bytes c.match-carry.result in
     let unshut : is_shut inside.store ≡ false = subst (λ (w : World). is_shut w.store ≡ false) (sym c.self.view_is) c.requires.«open» in
     let planned : IsPlannedNext inside.store note c.in-Ok.plan = subst (λ (w : World). IsPlannedNext w.store note c.in-Ok.plan) (sym c.self.view_is) c.in-Ok.ensures.planned in
-    subst (λ (w : World). Carried g.H.Disk.tells (commands.Commit note) (state_of w from) reply (state_of new to)) c.self.view_is
+    subst (λ (w : World). Carried g.H.Disk.tells viewers (commands.Commit note) (state_of w from) reply (state_of new to)) c.self.view_is
     (elim c.match-carry.branch [
       | in-Ok-carry w ↦
           let e = w.in-Ok-carry.ensures in
-          commit_made g.H.Disk.tells inside note reply unshut c.in-Ok.plan planned new from to e.places e.counts.disk.later w.in-Ok-carry.number e.number
+          commit_made g.H.Disk.tells viewers inside note reply unshut c.in-Ok.plan planned new from to e.places e.counts.disk.later w.in-Ok-carry.number e.number
           (ap reply_bytes (w.result-is ∙ w.committed.ensures.value)) (ap (with_store inside) e.ok) e.commits
       | in-Err-carry w ↦
           let e = w.in-Err-carry.ensures in
-          commit_failed g.H.Disk.tells inside note reply unshut c.in-Ok.plan planned new from to e.places e.counts.disk.later
+          commit_failed g.H.Disk.tells viewers inside note reply unshut c.in-Ok.plan planned new from to e.places e.counts.disk.later
           (ap reply_bytes (w.result-is ∙ w.refused-in-Err-carry.ensures.value)) (ap (with_store inside) e.err) (e.counts.disk.cause refl)
     ])
 
@@ -40,15 +40,14 @@ returns-clause-goes g c = λ tells.
     let inside : World = record { store = c.self.inside.store; snapshots = c.self.inside.snapshots; cursors = c.self.inside.cursors } in
     let new : World = with_store inside c.carry.new.self in
     let note = c.args.note.now in
-    let reply = reply_bytes c.match-carry.result in
     let unshut : is_shut inside.store ≡ false = subst (λ (w : World). is_shut w.store ≡ false) (sym c.self.view_is) c.requires.«open» in
     let planned : IsPlannedNext inside.store note c.in-Ok.plan = subst (λ (w : World). IsPlannedNext w.store note c.in-Ok.plan) (sym c.self.view_is) c.in-Ok.ensures.planned in
     subst (λ (w : World). GoesOn (commands.Commit note) (state_of w from) (state_of new to) from to) c.self.view_is
     (elim c.match-carry.branch [
       | in-Ok-carry w ↦
           let e = w.in-Ok-carry.ensures in
-          commit_goes g.H.Disk.tells inside note reply unshut c.in-Ok.plan planned new from to e.places e.counts.disk.later w.in-Ok-carry.number (ap (with_store inside) e.ok) (e.rests tells) (e.commits tells)
+          commit_goes inside note unshut c.in-Ok.plan planned new from to w.in-Ok-carry.number (ap (with_store inside) e.ok) (e.rests tells) (e.commits tells)
       | in-Err-carry w ↦
           let e = w.in-Err-carry.ensures in
-          commit_goes_wrong g.H.Disk.tells inside note reply unshut c.in-Ok.plan planned new from to e.places e.counts.disk.later w.in-Err-carry.field-0 (ap (with_store inside) e.err) (e.commits tells)
+          commit_goes_wrong inside note unshut c.in-Ok.plan planned new from to w.in-Err-carry.field-0 (ap (with_store inside) e.err) (e.commits tells)
     ])

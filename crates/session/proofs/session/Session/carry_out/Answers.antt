@@ -1,0 +1,30 @@
+-- What is answered whatever viewers may be asked.
+use Rattle.std.proofs.Common.{map, sym, subst}
+use Rattle.cmd_text.specs.declared.command.Command.{Command}
+use Rattle.session.specs.Answered.{Answered}
+use Rattle.session.proofs.session.Session.carry_out.Goals as goal
+
+pub returns-in-Cursor : goal.returns-in-Cursor
+returns-in-Cursor g c =
+    let viewers = map g.V.Viewer.meaning c.args.viewers.now in
+    subst (λ (x : Command). Answered viewers x c.args.self.now c.set_cursor.result c.set_cursor.new.self) (sym c.in-Cursor.is) (c.set_cursor.ensures viewers)
+
+pub returns-in-Next : goal.returns-in-Next
+returns-in-Next g c =
+    let viewers = map g.V.Viewer.meaning c.args.viewers.now in
+    subst (λ (x : Command). Answered viewers x c.args.self.now c.next.result c.next.new.self) (sym c.in-Next.is) (c.next.ensures viewers)
+
+pub returns-in-Prev : goal.returns-in-Prev
+returns-in-Prev g c =
+    let viewers = map g.V.Viewer.meaning c.args.viewers.now in
+    subst (λ (x : Command). Answered viewers x c.args.self.now c.previous.result c.previous.new.self) (sym c.in-Prev.is) (c.previous.ensures viewers)
+
+pub returns-in-Row : goal.returns-in-Row
+returns-in-Row g c =
+    let viewers = map g.V.Viewer.meaning c.args.viewers.now in
+    subst (λ (x : Command). Answered viewers x c.args.self.now c.row.result c.args.self.now) (sym c.in-Row.is) (c.row.ensures viewers)
+
+pub returns-in-Rollback : goal.returns-in-Rollback
+returns-in-Rollback g c =
+    let viewers = map g.V.Viewer.meaning c.args.viewers.now in
+    subst (λ (x : Command). Answered viewers x c.args.self.now c.rollback.result c.rollback.new.self) (sym c.in-Rollback.is) (c.rollback.ensures viewers)
