@@ -1,5 +1,7 @@
+mod Flagged
 pub mod Flagging
 pub mod Following
 pub mod Keying
 pub mod Numbering
+pub mod Operating
 pub mod Spans

@@ -1,5 +1,5 @@
 -- A run of equal keys has all rows of its key.
-use Rattle.std.proofs.Common.{◌≡◌, ℕ, zero, suc, ◌+◌, ◌-◌, ◌<◌, ◌≤◌, Bool, true, false, not, ◌&&◌, if◌then◌else◌, ltb, List, [], length, get_or, take, drop, None, refl, ap, sym, subst, ◌∙◌, arith, inl, inr}
+use Rattle.std.proofs.Common.{◌≡◌, ℕ, zero, suc, ◌+◌, ◌-◌, ◌<◌, ◌≤◌, Bool, true, false, not, ◌&&◌, if◌then◌else◌, ltb, List, [], ◌∷◌, length, get_or, take, drop, None, refl, ap, sym, subst, ◌∙◌, arith, inl, inr}
 use Rattle.std.specs.List.{count_by}
 use Rattle.std.specs.declared.cmp.Ordering.{Ordering}
 use Rattle.std.specs.declared.cmp.Ordering.TheVariants.{Less, Equal, Greater}
@@ -253,6 +253,60 @@ module _ (schema : List Attribute) (keys : List Key) (rows : List (List Datum)) 
         let q = r.1 in
         elim (cases_eq r.0 i) [ inl same_i ↦ let f = ap begin same_i in omega arith | inr ne ↦ let f = rising_begins r.0 i (omega arith) p in omega arith ]))
   ]
+
+  -- each row is in a run
+  record IsInRun (k : ℕ) : Type 0 where
+    run : ℕ
+    there : run < length (raised fs)
+    behind : begin run ≤ k
+    tied : same (key (begin run)) (key k) ≡ true
+
+  raised_run : (k : ℕ) → k < length kept → get_or fs k false ≡ true → IsInRun k
+  raised_run k p h =
+      let r = number_of k p h in
+      record { run = r.0; there = r.1; behind = (let e = r.2 in omega arith); tied = ap (λ j. same (key j) (key k)) r.2 ∙ tied_here k }
+
+  flag_first : 0 < length kept → get_or fs 0 false ≡ true
+  flag_first p = first kept p
+    where
+      first : (ks : List ℕ) → 0 < length ks → get_or (flags same ks) 0 false ≡ true
+      first [] q = absurd (omega arith)
+      first (k ∷ ks) q = refl
+
+  next_run : (k : ℕ) → suc k < length kept → IsInRun k → (b : Bool) → get_or fs (suc k) false ≡ b → IsInRun (suc k)
+  next_run k p before true h = raised_run (suc k) p h
+  next_run k p before false h =
+      let near : suc k - 1 ≡ k = omega arith in
+      let edge : same (key k) (key (suc k)) ≡ true =
+      ap (λ j. same (key j) (key (suc k))) (sym near) ∙ not_false_is (same (key (suc k - 1)) (key (suc k))) (flag_at same kept (suc k) p (λ e. absurd (omega arith)) ∙ h) in
+      let low = before.behind in
+      record {
+        run = before.run;
+        there = before.there;
+        behind = omega arith;
+        tied = elim (cases_eq (begin before.run) k) [
+          | inl e ↦ ap (λ j. same (key j) (key (suc k))) e ∙ edge
+          | inr ne ↦ between (begin before.run) k (suc k) (omega arith) (omega arith) p ∙ ap (λ b. b && same (key k) (key (suc k))) before.tied ∙ edge
+        ];
+      }
+
+  run_of : (k : ℕ) → k < length kept → IsInRun k
+  run_of zero p = raised_run 0 p (flag_first p)
+  run_of (suc k) p = next_run k p (run_of k (omega arith)) (get_or fs (suc k) false) refl
+
+  -- the first row of a run stands among the rows
+  pub first_within : (i : ℕ) → i < length (raised fs) → key (begin i) < length rows
+  first_within i p =
+      let q = raised_in fs i 0 p in
+      let n = long in
+      ((picked_positions schema (Sort keys) rows).inside (key (begin i)) (in_at kept (begin i) 0 (omega arith))).0
+
+  -- and each row has the key of one
+  pub row_in_run : (r : ℕ) → r < length rows → (i : ℕ) × (i < length (raised fs)) × (is_eq (row_cmp schema keys (get_or rows (key (begin i)) []) (get_or rows r [])) ≡ true)
+  row_in_run r p =
+      let k = place_of kept r ((picked_positions schema (Sort keys) rows).whole r p refl) in
+      let here = run_of k.0 k.1 in
+      (here.run, here.there, subst (λ x. same (key (begin here.run)) x ≡ true) (k.2 0) here.tied)
 
   -- keys ascend
   pub keys_rise : (i k : ℕ) → i < k → k < length (raised fs) → cmp (key (begin i)) (key (begin k)) ≡ Less

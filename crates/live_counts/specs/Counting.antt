@@ -1,10 +1,11 @@
 -- Counts of the rows of a table by their keys.
-use Rattle.std.specs.Prelude.{◌≡◌, ◌<◌, ◌≤◌, ◌-◌, ◌+◌, ℕ, true, false, nat_lt, if◌then◌else◌, List, [], length, map, slice_index_or, All, Option, Some, None}
+use Rattle.std.specs.Prelude.{◌≡◌, ◌<◌, ◌≤◌, ◌-◌, ◌+◌, ℕ, pos, true, false, nat_lt, if◌then◌else◌, List, [], ◌∷◌, ◌++◌, length, map, slice_index, slice_index_or, All, Option, Some, None}
 use Rattle.std.specs.Option.{ForSome}
-use Rattle.mk_value.specs.Data.{Datum}
+use Rattle.mk_value.specs.Data.{Datum, integer}
 use Rattle.mk_value.specs.Heading.{Attribute, Domain}
 use Rattle.mk_value.specs.Limits.{max_rows}
 use Rattle.relations.specs.declared.criteria.Key.{Key}
+use Rattle.relations.specs.Rows.{values_of}
 use Rattle.live.specs.Watching.{IsAsked, IsTurn, goes_from, is_sorting, placed, positions, root_turn}
 use Rattle.live.specs.declared.event.Event.{Event}
 use Rattle.live_counts.specs.Runs.{starts, ties}
@@ -53,3 +54,9 @@ pub record AreKept (counts : CountsState) : Type 0 where
   pub in_order : (i j d : ℕ) → i < j → j < length counts.starts → slice_index_or counts.starts i d < slice_index_or counts.starts j d
   pub small : length counts.kept ≤ max_rows
   pub ready : ForSome counts.noted (λ e. (counts.going ≡ placed counts.kept (goes_from (root_turn e))) × (0 < counts.room))
+
+-- a run as a row of the operator: the values of its first row for the names of the keys, and how long it is
+abbrev pub counted_row : List Attribute → List (List ℕ) → List (List Datum) → CountsState → ℕ → List Datum
+counted_row schema names rows counts i =
+    values_of schema names (slice_index_or rows (slice_index counts.kept (slice_index counts.starts i)) [])
+    ++ integer (pos (run_end counts i - slice_index counts.starts i)) ∷ []

@@ -1,3 +1,4 @@
 pub mod Counting
+pub mod Filtering
 pub mod Runs
 pub mod States

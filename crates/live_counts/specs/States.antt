@@ -12,3 +12,9 @@ pub record CountsState : Type 0 where
   pub room : ℕ
   pub going : Option ℕ
   pub noted : Option Event
+
+-- the columns of the values that the viewer is asked of; the positions of the rows that are kept; and how many more of them are taken without memory
+pub record FilterState : Type 0 where
+  pub columns : List ℕ
+  pub kept : List ℕ
+  pub room : ℕ

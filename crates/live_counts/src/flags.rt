@@ -7,7 +7,7 @@ ghost use Rattle.live_counts.specs.Runs.{going_flag, raised, without_flag};
 use live::{close, leave, open};
 
 /// The first place of the numbers from which on they are not below a number.
-fn first_from(starts: &[u32], number: usize) -> usize
+pub(crate) fn first_from(starts: &[u32], number: usize) -> usize
     requires order { (i j d : ℕ) → i < j → j < length starts.now → slice_index_or starts.now i d < slice_index_or starts.now j d }
     ensures within { result ≤ length starts.now }
     ensures below { (k : ℕ) → k < result → slice_index starts.now k < number }
@@ -27,7 +27,7 @@ fn first_from(starts: &[u32], number: usize) -> usize
 }
 
 /// The place of a number among the numbers, if it is there.
-fn number_at(starts: &[u32], number: usize) -> Option<usize>
+pub(crate) fn number_at(starts: &[u32], number: usize) -> Option<usize>
     requires order { (i j d : ℕ) → i < j → j < length starts.now → slice_index_or starts.now i d < slice_index_or starts.now j d }
     ensures { result ≡ position (λ k. k == number) starts.now }
 {

@@ -7,9 +7,12 @@
 
 mod beside;
 mod counts;
+mod filter;
 mod flags;
+mod kept;
 mod laws;
 mod making;
 
 pub use counts::LiveCounts;
-pub use laws::runs_count_rows;
+pub use filter::LiveFilter;
+pub use laws::{counts_are_the_operator, filters_answer, filters_keep, runs_count_rows};

@@ -1,10 +1,10 @@
 pub mod Calling
-mod Finding
+pub mod Finding
 mod Following
-mod Searching
-mod Keyed
+pub mod Searching
+pub mod Keyed
 mod Lists
-mod Moving
-mod Prefixes
-mod Putting
+pub mod Moving
+pub mod Prefixes
+pub mod Putting
 mod Sorting

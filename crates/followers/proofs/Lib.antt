@@ -1,0 +1,5 @@
+pub mod Eventful
+pub mod Hashing
+pub mod Homing
+pub mod Ordering
+pub mod Raising

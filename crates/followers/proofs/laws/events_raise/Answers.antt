@@ -1,0 +1,5 @@
+use Rattle.followers.proofs.Raising.{raised_is}
+use Rattle.followers.proofs.laws.events_raise.Goals as goal
+
+pub returns : goal.returns
+returns c = raised_is

@@ -1,0 +1,4 @@
+pub mod Edits
+pub mod Events
+pub mod Lines
+pub mod Origins
