@@ -54,21 +54,31 @@ fn time_integer_reads<R: Clock + Print>(rt: &R, column: &IntCol) -> Result<i64> 
 
 /// Times what edits a column of integers.
 fn time_integer_edits<R: Clock + Print>(rt: &R, column: &mut IntCol, values: &[i64]) -> Result<()> {
+    time_integer_sets(rt, column, values)?;
+    time_integer_moves(rt, column, values)?;
+    let start = Instant::now(rt)?;
+    integers::set_where_shared(column, values, EDITS as usize)?;
+    print_time(rt, "shared", &start, EDITS)
+}
+
+/// Times what sets values of a column of integers that nothing shares.
+fn time_integer_sets<R: Clock + Print>(rt: &R, column: &mut IntCol, values: &[i64]) -> Result<()> {
     let start = Instant::now(rt)?;
     integers::set_in_order(column, values)?;
     print_time(rt, "set", &start, COUNT)?;
     let start = Instant::now(rt)?;
     integers::set_at_random(column, values)?;
-    print_time(rt, "set_random", &start, COUNT)?;
+    print_time(rt, "set_random", &start, COUNT)
+}
+
+/// Times what puts values into a column of integers and takes them out.
+fn time_integer_moves<R: Clock + Print>(rt: &R, column: &mut IntCol, values: &[i64]) -> Result<()> {
     let start = Instant::now(rt)?;
     integers::insert_in_the_middle(column, values, EDITS as usize)?;
     print_time(rt, "insert", &start, EDITS)?;
     let start = Instant::now(rt)?;
     integers::remove_in_the_middle(column, EDITS as usize)?;
-    print_time(rt, "remove", &start, EDITS)?;
-    let start = Instant::now(rt)?;
-    integers::set_where_shared(column, values, EDITS as usize)?;
-    print_time(rt, "shared", &start, EDITS)
+    print_time(rt, "remove", &start, EDITS)
 }
 
 /// Times the calls of a column of so many copies of a text, and prints a line. The sum keeps what was read.
@@ -115,38 +125,56 @@ fn time_text_edits<R: Clock + Print>(
     longer: &[u8],
     count: u32,
 ) -> Result<()> {
-    let start = Instant::now(rt)?;
-    texts::set_in_order(column, text)?;
-    print_time(rt, "set", &start, count)?;
-    let start = Instant::now(rt)?;
-    texts::set_at_random(column, text, count as usize)?;
-    print_time(rt, "set_random", &start, count)?;
+    time_text_sets(rt, column, text, count)?;
     let start = Instant::now(rt)?;
     texts::set_in_order(column, longer)?;
     print_time(rt, "set_longer", &start, count)?;
-    let start = Instant::now(rt)?;
-    texts::insert_in_the_middle(column, text, EDITS as usize)?;
-    print_time(rt, "insert", &start, EDITS)?;
-    let start = Instant::now(rt)?;
-    texts::remove_in_the_middle(column, EDITS as usize)?;
-    print_time(rt, "remove", &start, EDITS)?;
+    time_text_moves(rt, column, text)?;
     let start = Instant::now(rt)?;
     texts::set_where_shared(column, text, EDITS as usize)?;
     print_time(rt, "shared", &start, EDITS)
 }
 
+/// Times what sets texts of a column that nothing shares, to one as long.
+fn time_text_sets<R: Clock + Print>(
+    rt: &R,
+    column: &mut BytesCol,
+    text: &[u8],
+    count: u32,
+) -> Result<()> {
+    let start = Instant::now(rt)?;
+    texts::set_in_order(column, text)?;
+    print_time(rt, "set", &start, count)?;
+    let start = Instant::now(rt)?;
+    texts::set_at_random(column, text, count as usize)?;
+    print_time(rt, "set_random", &start, count)
+}
+
+/// Times what puts texts into a column and takes them out.
+fn time_text_moves<R: Clock + Print>(rt: &R, column: &mut BytesCol, text: &[u8]) -> Result<()> {
+    let start = Instant::now(rt)?;
+    texts::insert_in_the_middle(column, text, EDITS as usize)?;
+    print_time(rt, "insert", &start, EDITS)?;
+    let start = Instant::now(rt)?;
+    texts::remove_in_the_middle(column, EDITS as usize)?;
+    print_time(rt, "remove", &start, EDITS)
+}
+
+/// The widths that are timed.
+static WIDTHS: [Width; 7] = [
+    Width::W1,
+    Width::W2,
+    Width::W4,
+    Width::W8,
+    Width::W16,
+    Width::W32,
+    Width::W64,
+];
+
 /// Times all calls, at each width and at three lengths of texts.
 pub fn measure_all<R: Clock + Print + AllocGlobal>(rt: &R) -> Result<()> {
-    for width in [
-        Width::W1,
-        Width::W2,
-        Width::W4,
-        Width::W8,
-        Width::W16,
-        Width::W32,
-        Width::W64,
-    ] {
-        time_integers(rt, width)?;
+    for width in &WIDTHS {
+        time_integers(rt, *width)?;
     }
     time_texts(rt, &[b'x'; 5], &[b'x'; 6], COUNT)?;
     time_texts(rt, &[b'x'; 100], &[b'x'; 101], COUNT)?;

@@ -1,12 +1,11 @@
 //! Times what the store is made of, in nanoseconds a call or a row.
 //!
-//! `bench packing` times packed integers, `bench columns` columns of integers and of texts, and `bench operators` the operators.
+//! `bench columns` times columns of integers and of texts, and `bench operators` the operators.
 //! Without a word the operators go over a few rows, and what they answer is printed without times.
 #![tactic(auto)]
 
 mod columns;
 mod operators;
-mod packing;
 
 use anyhow::{Result, bail};
 use std::env;
@@ -15,9 +14,8 @@ fn main(rt: HostRuntime) -> Result<()> {
     let words: Vec<String> = env::args(&rt)?.collect(rt.alloc())?;
     match words.get(1).map(|word| word.as_str()) {
         None => operators::list_all(&rt),
-        Some("packing") => packing::measure_all(&rt),
         Some("columns") => columns::measure_all(&rt),
         Some("operators") => operators::measure_all(&rt),
-        Some(_) => bail!("the words are packing, columns or operators"),
+        Some(_) => bail!("the words are columns or operators"),
     }
 }

@@ -10,10 +10,10 @@ use std::process::Abort;
 use std::test::Fail;
 
 /// The longest short value.
-const SHORT: [u8; 512] = [b'c'; 512];
+static SHORT: [u8; 512] = [b'c'; 512];
 
 /// The shortest memo.
-const MEMO: [u8; 513] = [b'd'; 513];
+static MEMO: [u8; 513] = [b'd'; 513];
 
 /// The column of an empty value, b, the longest short value and the shortest memo.
 fn of_all_sizes(alloc: Global) -> Result<BytesCol, Fail>

@@ -4,6 +4,7 @@
 ghost use Rattle.std.specs.Prelude.{◌+◌, ◌≤◌, length};
 
 use segments::{Replaced, Segments, Shared, Splice, replace_parts};
+use std::alloc::Global;
 use std::process::Abort;
 use std::test::Fail;
 
@@ -44,13 +45,21 @@ fn no_segments(rt: HostRuntime) -> Result<(), Fail> {
     Ok(())
 }
 
+/// Segments of four items, one and three.
+fn three(alloc: Global) -> Result<Segments<4>, Fail> {
+    Ok(Segments::from_counts(alloc, &[4, 1, 3])?)
+}
+
+/// A place, its segment, and how far into that it is.
+static PLACES: [(usize, usize, usize); 5] = [(0, 0, 0), (3, 0, 3), (4, 1, 0), (5, 2, 0), (7, 2, 2)];
+
 /// Where the items of three segments stand.
 #[test]
 fn items_of_three_segments(rt: HostRuntime) -> Result<(), Fail> {
-    let three = Segments::from_counts(rt.alloc(), &[4, 1, 3])?;
+    let three = three(rt.alloc())?;
     assert!(rt; three.count() == 3 && three.len() == 8);
-    for (at, segment, offset) in [(0, 0, 0), (3, 0, 3), (4, 1, 0), (5, 2, 0), (7, 2, 2)] {
-        stands(&rt, &three, at, segment, offset);
+    for (at, segment, offset) in &PLACES {
+        stands(&rt, &three, *at, *segment, *offset);
     }
     Ok(())
 }
@@ -58,15 +67,25 @@ fn items_of_three_segments(rt: HostRuntime) -> Result<(), Fail> {
 /// Which segments edits replace.
 #[test]
 fn segments_that_edits_replace(rt: HostRuntime) -> Result<(), Fail> {
-    let three = Segments::from_counts(rt.alloc(), &[4, 1, 3])?;
+    let three = three(rt.alloc())?;
     // Items 2 to 5 go: one of each segment is among them.
     replaces(&rt, &three, (2, 6, 0), (0, 3, 0, 8));
     // An item before place 4: the segment before is full, and the one behind has one item.
     replaces(&rt, &three, (4, 4, 1), (1, 2, 4, 5));
-    // An item at the edge of two segments of three and four items fills the first.
+    Ok(())
+}
+
+/// An item at the edge of two segments of three and four items fills the first.
+#[test]
+fn an_item_fills_the_segment_before_it(rt: HostRuntime) -> Result<(), Fail> {
     let room = Segments::from_counts(rt.alloc(), &[3, 4])?;
     replaces(&rt, &room, (3, 3, 1), (0, 1, 0, 3));
-    // An item behind a full segment, which is the last.
+    Ok(())
+}
+
+/// An item behind a full segment, which is the last.
+#[test]
+fn an_item_behind_all_begins_a_segment(rt: HostRuntime) -> Result<(), Fail> {
     let full = Segments::from_counts(rt.alloc(), &[4])?;
     replaces(&rt, &full, (4, 4, 1), (1, 1, 4, 4));
     Ok(())

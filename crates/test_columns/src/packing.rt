@@ -7,7 +7,7 @@ use std::alloc::Global;
 use std::process::Abort;
 
 /// Both ends of each width, and the first value past each.
-const ENDS: [(i64, Width); 22] = [
+static ENDS: [(i64, Width); 22] = [
     (0, Width::W0),
     (1, Width::W1),
     (2, Width::W2),
@@ -34,16 +34,26 @@ const ENDS: [(i64, Width); 22] = [
 
 #[test]
 fn each_value_has_its_least_width(rt: HostRuntime) {
-    for (value, want) in ENDS {
-        assert_eq!(rt; Width::of(value), want, "of {value}");
-        assert_eq!(rt; width_for(&[0, value]), want, "for 0 and {value}");
+    for (value, want) in &ENDS {
+        assert_eq!(rt; Width::of(*value), *want, "of {value}");
+        assert_eq!(rt; width_for(&[0, *value]), *want, "for 0 and {value}");
     }
-    assert_eq!(rt; width_for(&[]), Width::W0);
-    assert_eq!(rt; width_for(&[0, 3]), Width::W2);
-    assert_eq!(rt; width_for(&[200, -1]), Width::W16);
 }
 
-const BITS: [(u8, Option<Width>); 10] = [
+static LISTS: [(&[i64], Width); 3] = [
+    (&[], Width::W0),
+    (&[0, 3], Width::W2),
+    (&[200, -1], Width::W16),
+];
+
+#[test]
+fn a_list_has_the_width_of_its_widest(rt: HostRuntime) {
+    for (values, want) in &LISTS {
+        assert_eq!(rt; width_for(values), *want);
+    }
+}
+
+static BITS: [(u8, Option<Width>); 10] = [
     (0, Some(Width::W0)),
     (1, Some(Width::W1)),
     (2, Some(Width::W2)),
@@ -57,10 +67,14 @@ const BITS: [(u8, Option<Width>); 10] = [
 ];
 
 #[test]
-fn a_width_knows_itself(rt: HostRuntime) {
-    for (bits, want) in BITS {
-        assert_eq!(rt; Width::from_bits(bits), want, "{bits} bits");
+fn a_width_has_its_bits(rt: HostRuntime) {
+    for (bits, want) in &BITS {
+        assert_eq!(rt; Width::from_bits(*bits), *want, "{bits} bits");
     }
+}
+
+#[test]
+fn a_width_knows_itself(rt: HostRuntime) {
     assert_eq!(rt; Width::W32.bits(), 32);
     assert_eq!(rt; Width::W2.packed_len(5), 2);
     assert_eq!(rt; Width::W2.wider(Width::W16), Width::W16);
@@ -73,7 +87,7 @@ fn refusal(alloc: Global, width: Width, count: u8, byte: u8) -> Option<PackError
     unpack(alloc, width, usize::from(count), &[byte]).err()
 }
 
-const REFUSALS: [(Width, u8, u8, PackError); 8] = [
+static REFUSALS: [(Width, u8, u8, PackError); 8] = [
     (Width::W8, 1, 1, PackError::NotLeast(Width::W8, Width::W1)),
     (Width::W8, 1, 15, PackError::NotLeast(Width::W8, Width::W4)),
     (Width::W4, 2, 0, PackError::NotLeast(Width::W4, Width::W0)),
@@ -86,8 +100,11 @@ const REFUSALS: [(Width, u8, u8, PackError); 8] = [
 
 #[test]
 fn bytes_that_are_not_well_packed_are_refused(rt: HostRuntime) {
-    for (width, count, byte, want) in REFUSALS {
-        assert_eq!(rt; refusal(rt.alloc(), width, count, byte), Some(want));
+    for (width, count, byte, want) in &REFUSALS {
+        assert_eq!(rt;
+            refusal(rt.alloc(), *width, *count, *byte).as_ref(),
+            Some(want)
+        );
     }
 }
 
@@ -122,58 +139,78 @@ fn values_are_packed_over_what_was_there(rt: HostRuntime) {
     assert_eq!(rt; packed.as_slice(), [0x95].as_slice());
 }
 
-fn packs<R: Abort + AllocGlobal>(
-    rt: &R,
-    values: &[i64],
-    width: Width,
-    want: &[u8],
-) -> Result<(), PackError> {
-    let least = width_for(values);
-    assert_eq!(rt; least, width);
-    let bytes = pack(rt.alloc(), least, values)?;
-    assert_eq!(rt; bytes.as_slice(), want);
-    let count = values.len();
-    assert!(rt; count < 100);
-    check(width, count, want)?;
-    let back = unpack(rt.alloc(), width, count, want)?;
-    assert_eq!(rt; back.as_slice(), values);
-    Ok(())
-}
+/// Values, their least width, and the bytes that they are packed into.
+type Packed = (&'static [i64], Width, &'static [u8]);
 
-/// Values and their bytes, both ways, and the lists that they are given in.
-#[test]
-fn packs_and_unpacks(rt: HostRuntime) -> Result<(), PackError> {
-    packs(&rt, &[], Width::W0, &[])?;
-    packs(&rt, &[0, 0, 0], Width::W0, &[])?;
-    packs(&rt, &[1, 0, 0, 1, 0, 0, 0, 1, 1], Width::W1, &[0x89, 0x01])?;
-    packs(&rt, &[3, 0, 1, 2, 1], Width::W2, &[0x93, 0x01])?;
-    packs(&rt, &[15, 1, 2], Width::W4, &[0x1f, 0x02])?;
-    packs(&rt, &[-1, 127, -128], Width::W8, &[0xff, 0x7f, 0x80])?;
-    packs(&rt, &[-2, 258], Width::W16, &[0xfe, 0xff, 0x02, 0x01])?;
-    packs(
-        &rt,
+static PACKED: [Packed; 9] = [
+    (&[], Width::W0, &[]),
+    (&[0, 0, 0], Width::W0, &[]),
+    (&[1, 0, 0, 1, 0, 0, 0, 1, 1], Width::W1, &[0x89, 0x01]),
+    (&[3, 0, 1, 2, 1], Width::W2, &[0x93, 0x01]),
+    (&[15, 1, 2], Width::W4, &[0x1f, 0x02]),
+    (&[-1, 127, -128], Width::W8, &[0xff, 0x7f, 0x80]),
+    (&[-2, 258], Width::W16, &[0xfe, 0xff, 0x02, 0x01]),
+    (
         &[-32_769, 1],
         Width::W32,
         &[0xff, 0x7f, 0xff, 0xff, 1, 0, 0, 0],
-    )?;
-    packs(
-        &rt,
+    ),
+    (
         &[0x0102_0304_0506_0708, -1],
         Width::W64,
         &[
             8, 7, 6, 5, 4, 3, 2, 1, 255, 255, 255, 255, 255, 255, 255, 255,
         ],
-    )
+    ),
+];
+
+/// The bytes of values of a width, which is their least.
+fn packed(alloc: Global, width: Width, values: &[i64]) -> Result<Bytes, PackError> {
+    if width_for(values) != width {
+        return Err(PackError::NotLeast(width, width_for(values)));
+    }
+    pack(alloc, width_for(values), values)
 }
 
-/// The lists that values and bytes are given in.
+/// The values of bytes that are well packed.
+fn unpacked(
+    rt: &impl Abort,
+    alloc: Global,
+    width: Width,
+    count: usize,
+    bytes: &[u8],
+) -> Result<Values, PackError> {
+    assert!(rt; count < 100);
+    check(width, count, bytes)?;
+    unpack(alloc, width, count, bytes)
+}
+
+/// Values and their bytes, both ways.
 #[test]
-fn lists(rt: HostRuntime) -> Result<(), PackError> {
+fn packs_and_unpacks(rt: HostRuntime) -> Result<(), PackError> {
+    for (values, width, bytes) in &PACKED {
+        let packed = packed(rt.alloc(), *width, values)?;
+        assert_eq!(rt; packed.as_slice(), *bytes);
+        let back = unpacked(&rt, rt.alloc(), *width, values.len(), bytes)?;
+        assert_eq!(rt; back.as_slice(), *values);
+    }
+    Ok(())
+}
+
+/// The list that bytes are given in.
+#[test]
+fn a_list_of_bytes(rt: HostRuntime) -> Result<(), PackError> {
     let mut bytes = Bytes::new(rt.alloc());
     assert!(rt; bytes.is_empty());
     bytes.push(7)?;
     assert_eq!(rt; bytes.len(), 1);
     assert_eq!(rt; bytes.into_vec().as_slice(), [7].as_slice());
+    Ok(())
+}
+
+/// The list that values are given in.
+#[test]
+fn a_list_of_values(rt: HostRuntime) -> Result<(), PackError> {
     let mut values = Values::new(rt.alloc());
     assert!(rt; values.is_empty());
     values.push(-7)?;

@@ -6,6 +6,8 @@
 #[cfg(test)]
 mod following;
 #[cfg(test)]
+mod lines;
+#[cfg(test)]
 mod ordered;
 #[cfg(test)]
 mod refusals;

@@ -26,7 +26,7 @@ const TWO: &str = "t[a:S,b:L,c:I]";
 const PAIRS: &str = r#"{("a",1,0),("a",3,0),("c",-5,0),("c",7,0)}"#;
 
 /// The steps of a view that is kept in order, and keys of several values. Worked by hand.
-const CASES: [Case; 15] = [
+static CASES: [Case; 15] = [
     Case {
         rows: (ONE, "{}"),
         keys: 1,
@@ -153,7 +153,7 @@ fn said(alloc: Global, case: &Case) -> Result<String, Fail> {
 
 #[test]
 fn a_key_has_its_place(rt: HostRuntime) -> Result<(), Fail> {
-    for case in CASES.iter() {
+    for case in &CASES {
         let said = said(rt.alloc(), case)?;
         assert_eq!(rt;
             said.as_str(),

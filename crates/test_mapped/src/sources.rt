@@ -5,7 +5,7 @@ ghost use Rattle.mk_value.specs.Tables.{IsComparable};
 ghost use Rattle.mk_value.specs.Values.{datum_of};
 ghost use Rattle.mk_value.specs.Kinds.{domain_of};
 
-use mk_value::{HeldRows, Kind, Row, Schema, Value, rows_fit, to_value};
+use mk_value::{HeldRows, Kind, Row, Rows, Schema, Value, rows_fit, to_value};
 use std::alloc::Global;
 use std::test::Fail;
 use struct_text::parse;
@@ -16,16 +16,32 @@ pub type Source = (&'static str, &'static str);
 
 /// The table of a structure text and a view literal.
 pub fn table(alloc: Global, source: &Source) -> Result<HeldRows, Fail> {
-    let (structure, rows) = source;
-    let (_, schema) = parse(alloc, structure)?;
-    let literal = read_literal(alloc, rows)?;
-    let Value::V(rows) = to_value(alloc, &literal, &Kind::V(schema.copy()?))? else {
-        return Err(Fail::new("no rows"));
-    };
+    let (structure, literal) = source;
+    let schema = schema_of(alloc, structure)?;
+    let rows = rows_of(alloc, &schema, literal)?;
     if !rows_fit(&rows, &schema) {
         return Err(Fail::new("no rows of the schema"));
     }
     Ok(HeldRows::of(schema, rows))
+}
+
+/// The schema of a structure text.
+fn schema_of(alloc: Global, structure: &str) -> Result<Schema, Fail> {
+    Ok(parse(alloc, structure)?.1)
+}
+
+/// The rows of a schema that a literal spells.
+fn rows_of(alloc: Global, schema: &Schema, literal: &str) -> Result<Rows, Fail> {
+    match value_of(alloc, &Kind::V(schema.copy()?), literal)? {
+        Value::V(rows) => Ok(rows),
+        _ => Err(Fail::new("no rows")),
+    }
+}
+
+/// The value of a kind that a literal spells.
+fn value_of(alloc: Global, kind: &Kind, literal: &str) -> Result<Value, Fail> {
+    let literal = read_literal(alloc, literal)?;
+    Ok(to_value(alloc, &literal, kind)?)
 }
 
 /// The one row of a table, as a key.

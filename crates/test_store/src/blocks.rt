@@ -3,6 +3,7 @@ ghost use Rattle.std.specs.Prelude.{◌<◌, ◌≤◌, length};
 ghost use Rattle.host_io.specs.Memory.{outside_of};
 ghost use Rattle.block_io.specs.Parts.{IsPart, part_bytes};
 
+use crate::worked::host_over;
 use block_io::{BlockError, Part, read_block, write_block};
 use bytes_col::BytesCol;
 use host_io::{Effect, Failed, Fault, MemHost};
@@ -29,11 +30,61 @@ fn written(rt: &impl Abort, alloc: Global, part: &Part<'_>) -> Result<Vec<u8>, F
     requires part { IsPart part.now }
     requires few { length (part_bytes part.now) < 10000 }
 {
-    let mut host = MemHost::new(alloc, &[0xff; 16], b"", &[], 0, 20000)?;
+    let mut host = host_over(alloc, &[0xff; 16], &[])?;
     assert!(rt; host.image().len() >= 16);
     write(&mut host, part)?;
+    behind(rt, alloc, &host)
+}
+
+/// The bytes of the file from 16 on.
+fn behind(rt: &impl Abort, alloc: Global, host: &MemHost) -> Result<Vec<u8>, Fail> {
     assert!(rt; host.image().len() >= 16);
     Ok(Vec::from_slice(alloc, &host.image()[16..])?)
+}
+
+/// What is written of bytes as they are.
+fn written_raw(rt: &impl Abort, alloc: Global, bytes: &[u8]) -> Result<Vec<u8>, Fail> {
+    assert!(rt; bytes.len() < 10000);
+    written(rt, alloc, &Part::Raw(bytes))
+}
+
+/// What is written of a column of numbers.
+fn written_numbers(rt: &impl Abort, alloc: Global, column: &IntCol) -> Result<Vec<u8>, Fail> {
+    assert!(rt; column.packed().len() < 10000);
+    written(rt, alloc, &Part::Ints(column))
+}
+
+/// What is written of the short texts of a column.
+fn written_short(rt: &impl Abort, alloc: Global, column: &BytesCol) -> Result<Vec<u8>, Fail> {
+    assert!(rt; column.short().len() < 10000);
+    written(rt, alloc, &Part::Short(column))
+}
+
+/// What is written of the memo at a place of a column.
+fn written_memo(
+    rt: &impl Abort,
+    alloc: Global,
+    column: &BytesCol,
+    at: usize,
+) -> Result<Vec<u8>, Fail> {
+    assert!(rt; at < column.len());
+    assert!(rt; column.value(at).len() < 10000);
+    written(rt, alloc, &Part::Memo(column, at))
+}
+
+/// So many bytes from the start of a file, read as a block.
+fn read(
+    rt: &impl Abort,
+    alloc: Global,
+    host: &mut MemHost,
+    len: usize,
+) -> Result<Bytes, BlockError> {
+    assert!(rt; len <= host.image().len());
+    let span = Span {
+        place: 0,
+        len: len as u64,
+    };
+    read_block(alloc, host, span)
 }
 
 fn repeated(alloc: Global, bytes: &[u8], byte: u8, count: usize) -> Result<Vec<u8>, Fail> {
@@ -47,36 +98,37 @@ fn repeated(alloc: Global, bytes: &[u8], byte: u8, count: usize) -> Result<Vec<u
 #[test]
 fn writes_numbers(rt: HostRuntime) -> Result<(), Fail> {
     let column = IntCol::from_values(rt.alloc(), &[31, 3, -1], None)?;
-    assert!(rt; column.packed().len() < 100);
-    let bytes = written(&rt, rt.alloc(), &Part::Ints(&column))?;
+    let bytes = written_numbers(&rt, rt.alloc(), &column)?;
     let wanted = repeated(rt.alloc(), &[0x1f, 0x03, 0xff], 0, 13)?;
     assert_eq!(rt; bytes.as_slice(), wanted.as_slice());
     Ok(())
 }
 
+/// The column of Ann, a long text, and Bo.
+fn texts(alloc: Global, long: &[u8]) -> Result<BytesCol, Fail> {
+    let values = vec![in alloc;
+        Bytes::from_slice(alloc, b"Ann")?,
+        Bytes::from_slice(alloc, long)?,
+        Bytes::from_slice(alloc, b"Bo")?,
+    ]?;
+    Ok(BytesCol::from_values(alloc, &values, None)?)
+}
+
 #[test]
 fn writes_texts(rt: HostRuntime) -> Result<(), Fail> {
     let long = repeated(rt.alloc(), b"", b'x', 600)?;
-    let mut values = Vec::new(rt.alloc());
-    values.push(Bytes::from_slice(rt.alloc(), b"Ann")?)?;
-    values.push(Bytes::from_slice(rt.alloc(), &long)?)?;
-    values.push(Bytes::from_slice(rt.alloc(), b"Bo")?)?;
-    assert!(rt; values.len() < 100);
-    let column = BytesCol::from_values(rt.alloc(), &values, None)?;
-    assert!(rt; column.short().len() < 100);
-    let short = written(&rt, rt.alloc(), &Part::Short(&column))?;
+    let column = texts(rt.alloc(), &long)?;
+    let short = written_short(&rt, rt.alloc(), &column)?;
     let wanted = repeated(rt.alloc(), b"AnnBo", 0, 11)?;
     assert_eq!(rt; short.as_slice(), wanted.as_slice());
-    assert!(rt; 1 < column.len());
-    assert!(rt; column.value(1).len() < 1000);
-    let memo = written(&rt, rt.alloc(), &Part::Memo(&column, 1))?;
+    let memo = written_memo(&rt, rt.alloc(), &column, 1)?;
     let wanted = repeated(rt.alloc(), &long, 0, 8)?;
     assert_eq!(rt; memo.as_slice(), wanted.as_slice());
     Ok(())
 }
 
 // How many bytes, and how many with their rounding. No bytes take no place; the second and the last take more than one piece.
-const LENGTHS: [(usize, usize); 6] = [
+static LENGTHS: [(usize, usize); 6] = [
     (0, 0),
     (4097, 4112),
     (1, 16),
@@ -85,43 +137,50 @@ const LENGTHS: [(usize, usize); 6] = [
     (8200, 8208),
 ];
 
-#[test]
-fn reads_what_was_written(rt: HostRuntime) -> Result<(), Fail> {
-    for (len, rounded) in LENGTHS {
-        let bytes = repeated(rt.alloc(), b"", b'm', len)?;
-        assert!(rt; bytes.len() < 10000);
-        let image = written(&rt, rt.alloc(), &Part::Raw(&bytes))?;
-        assert_eq!(rt; image.len(), rounded);
-        let mut host = MemHost::new(rt.alloc(), &image, b"", &[], 0, 0)?;
-        assert!(rt; len <= host.image().len());
-        let span = Span {
-            place: 0,
-            len: len as u64,
-        };
-        let read = read_block(rt.alloc(), &mut host, span)?;
-        assert_eq!(rt; read.as_slice(), bytes.as_slice());
-    }
+/// So many bytes come back as they were written, and take so many with their rounding.
+fn comes_back(rt: &impl Abort, alloc: Global, len: usize, rounded: usize) -> Result<(), Fail> {
+    let bytes = repeated(alloc, b"", b'm', len)?;
+    let image = written_raw(rt, alloc, &bytes)?;
+    assert_eq!(rt; image.len(), rounded);
+    let mut host = host_over(alloc, &image, &[])?;
+    let back = read(rt, alloc, &mut host, len)?;
+    assert_eq!(rt; back.as_slice(), bytes.as_slice());
     Ok(())
 }
 
 #[test]
-fn fails_with_the_disk(rt: HostRuntime) -> Result<(), Fail> {
-    let script = [Fault {
-        call: 1,
-        effect: Effect::Nothing,
-    }];
-    let bytes = repeated(rt.alloc(), b"", b'm', 5000)?;
-    assert!(rt; bytes.len() < 10000);
-    let mut host = MemHost::new(rt.alloc(), &bytes, b"", &script, 0, 20000)?;
-    assert!(rt; host.image().len() >= 5000);
-    let span = Span {
-        place: 0,
-        len: 5000,
-    };
-    let read = read_block(rt.alloc(), &mut host, span);
-    assert_eq!(rt; read.err(), Some(BlockError::Failed));
-    let mut host = MemHost::new(rt.alloc(), &bytes, b"", &script, 0, 20000)?;
-    assert!(rt; host.image().len() >= 5000);
-    assert!(rt; write(&mut host, &Part::Raw(&bytes)).is_err());
+fn reads_what_was_written(rt: HostRuntime) -> Result<(), Fail> {
+    for (len, rounded) in &LENGTHS {
+        comes_back(&rt, rt.alloc(), *len, *rounded)?;
+    }
     Ok(())
+}
+
+/// The second call fails, and leaves nothing.
+static SECOND_CALL: [Fault; 1] = [Fault {
+    call: 1,
+    effect: Effect::Nothing,
+}];
+
+#[test]
+fn a_read_fails_with_the_disk(rt: HostRuntime) -> Result<(), Fail> {
+    let bytes = repeated(rt.alloc(), b"", b'm', 5000)?;
+    let mut host = host_over(rt.alloc(), &bytes, &SECOND_CALL)?;
+    let back = read(&rt, rt.alloc(), &mut host, 5000);
+    assert_eq!(rt; back.err(), Some(BlockError::Failed));
+    Ok(())
+}
+
+#[test]
+fn a_write_fails_with_the_disk(rt: HostRuntime) -> Result<(), Fail> {
+    let bytes = repeated(rt.alloc(), b"", b'm', 5000)?;
+    let mut host = host_over(rt.alloc(), &bytes, &SECOND_CALL)?;
+    assert!(rt; write_raw(&rt, &mut host, &bytes).is_err());
+    Ok(())
+}
+
+fn write_raw(rt: &impl Abort, host: &mut MemHost, bytes: &[u8]) -> Result<(), Failed> {
+    assert!(rt; bytes.len() < 10000);
+    assert!(rt; host.image().len() >= 16);
+    write(host, &Part::Raw(bytes))
 }

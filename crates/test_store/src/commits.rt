@@ -4,7 +4,7 @@ ghost use Rattle.std.specs.Prelude.{◌≡◌, ◌≤◌, [], ◌∷◌, length}
 ghost use Rattle.host_io.specs.Memory.{outside_of};
 ghost use Rattle.commit_writes.specs.Blocks.{Block};
 
-use crate::worked::WORKED;
+use crate::worked::{WORKED, host_over, worked};
 use block_io::{Part, write_block};
 use commit_marks::{Mark, Marks, read_marks};
 use commit_writes::{WritesBlocks, carry};
@@ -14,10 +14,10 @@ use std::process::Abort;
 use std::test::Fail;
 
 /// The block of `age`, 32 in 8 bits, which goes to the place of the first directory.
-const COLUMN: [u8; 1] = [0x20];
+static COLUMN: [u8; 1] = [0x20];
 
 /// The directory of the worked file with `age` at 192.
-const DIRECTORY: [u8; 86] = [
+static DIRECTORY: [u8; 86] = [
     0x01, 0x00, 0x00, 0x00, 0x14, 0x00, 0x00, 0x00, 0x70, 0x65, 0x6f, 0x70, 0x6c, 0x65, 0x5b, 0x6e,
     0x61, 0x6d, 0x65, 0x3a, 0x53, 0x2c, 0x61, 0x67, 0x65, 0x3a, 0x49, 0x5d, 0x01, 0x00, 0x00, 0x00,
     0x02, 0xd0, 0x00, 0x00, 0x00, 0x00, 0x00, 0x00, 0x00, 0x01, 0x00, 0x00, 0x00, 0x00, 0x00, 0x00,
@@ -27,7 +27,7 @@ const DIRECTORY: [u8; 86] = [
 ];
 
 /// The bytes of the worked file that the commit changes below its old end.
-const CHANGES: [(usize, u8); 8] = [
+static CHANGES: [(usize, u8); 8] = [
     (72, 0x02),
     (80, 0x60),
     (81, 0x01),
@@ -90,6 +90,12 @@ fn commit(host: &mut MemHost, marks: &Marks, column: &[u8], directory: &[u8]) ->
     carry(host, marks, &Blocks { column, directory }, &NEXT)
 }
 
+/// The number of the commit for which an image stands.
+fn number_of(alloc: Global, image: &[u8]) -> Result<u64, Fail> {
+    let mut host = host_over(alloc, image, &[])?;
+    Ok(read_marks(&mut host)?.chosen.number)
+}
+
 /// The number of the commit for which an image stands: of a crash after so many calls, which leaves the pending bytes so.
 fn number_left(
     rt: &impl Abort,
@@ -100,8 +106,7 @@ fn number_left(
 ) -> Result<u64, Fail> {
     assert!(rt; after <= host.calls());
     let image = host.crash(after, choice)?;
-    let mut again = MemHost::new(alloc, image.as_slice(), b"", &[], 0, 9)?;
-    Ok(read_marks(&mut again)?.chosen.number)
+    number_of(alloc, image.as_slice())
 }
 
 /// The numbers of the images of a crash that leaves the pending bytes as at the last sync, as written, and all `ff`.
@@ -113,12 +118,12 @@ const OLD: Numbers = [1, 1, 1];
 const OPENING: Numbers = [1, 2, 1];
 
 /// After so many calls, none of which failed.
-const AFTER: [Numbers; 9] = [OLD, OLD, OLD, OLD, OLD, OLD, OLD, OPENING, [2, 2, 2]];
+static AFTER: [Numbers; 9] = [OLD, OLD, OLD, OLD, OLD, OLD, OLD, OPENING, [2, 2, 2]];
 
-const EFFECTS: [Effect; 3] = [Effect::Nothing, Effect::Whole, Effect::Ones];
+static EFFECTS: [Effect; 3] = [Effect::Nothing, Effect::Whole, Effect::Ones];
 
 /// After the call that failed, for what it left: nothing, all of it, or all `ff`.
-const FAILED: [[Numbers; 3]; 8] = [
+static FAILED: [[Numbers; 3]; 8] = [
     [OLD, OLD, OLD],
     [OLD, OLD, OLD],
     [OLD, OLD, OLD],
@@ -146,11 +151,17 @@ fn shows(
     Ok(())
 }
 
+/// Commits the worked blocks.
+fn commit_worked(rt: &impl Abort, host: &mut MemHost, marks: &Marks) -> Result<(), Failed> {
+    assert!(rt; marks.slot <= 1);
+    assert!(rt; host.image().len() >= 352);
+    commit(host, marks, &COLUMN, &DIRECTORY)
+}
+
 /// Commits over the worked file with this script, and looks at the images after each of the calls before the one with this number.
 fn run(rt: &impl Abort, alloc: Global, script: &[Fault], calls: u64) -> Result<MemHost, Fail> {
-    let mut host = MemHost::new(alloc, &WORKED, b"", script, 0, 999)?;
-    assert!(rt; host.image().len() >= 352);
-    let answer = commit(&mut host, &MARKS, &COLUMN, &DIRECTORY);
+    let mut host = host_over(alloc, &WORKED, script)?;
+    let answer = commit_worked(rt, &mut host, &MARKS);
     assert_eq!(rt; answer.is_err(), !script.is_empty());
     for (after, numbers) in AFTER.iter().enumerate() {
         if (after as u64) < calls {
@@ -160,54 +171,68 @@ fn run(rt: &impl Abort, alloc: Global, script: &[Fault], calls: u64) -> Result<M
     Ok(host)
 }
 
+/// Commits with one call failing that leaves so much, and looks at the images after it.
+fn fails_at(
+    rt: &impl Abort,
+    alloc: Global,
+    call: u64,
+    effect: Effect,
+    numbers: &Numbers,
+) -> Result<(), Fail> {
+    let calls = call.saturating_add(1);
+    let host = run(rt, alloc, &[Fault { call, effect }], calls)?;
+    assert_eq!(rt; host.calls(), calls);
+    shows(rt, alloc, &host, calls, numbers)
+}
+
 #[test]
 fn leaves_one_of_two_commits(rt: HostRuntime) -> Result<(), Fail> {
     for (call, left) in FAILED.iter().enumerate() {
-        let call = call as u64;
         for (effect, numbers) in EFFECTS.iter().zip(left) {
-            let script = [Fault {
-                call,
-                effect: *effect,
-            }];
-            let host = run(&rt, rt.alloc(), &script, call + 1)?;
-            assert_eq!(rt; host.calls(), call + 1);
-            shows(&rt, rt.alloc(), &host, call + 1, numbers)?;
+            fails_at(&rt, rt.alloc(), call as u64, *effect, numbers)?;
         }
     }
     Ok(())
+}
+
+/// The worked file after the commit.
+fn committed(alloc: Global) -> Result<Vec<u8>, Fail> {
+    let mut file = worked(alloc, 352, &CHANGES)?;
+    file.extend_from_slice(&DIRECTORY)?;
+    file.extend_from_slice(&[0; 10])?;
+    Ok(file)
 }
 
 #[test]
 fn writes_the_next_commit(rt: HostRuntime) -> Result<(), Fail> {
     let host = run(&rt, rt.alloc(), &[], 9)?;
     assert_eq!(rt; host.calls(), 8);
-    let mut file = Vec::from_slice(rt.alloc(), &WORKED)?;
-    for (place, byte) in CHANGES {
-        if place < file.len() {
-            file[place] = byte;
-        }
-    }
-    file.extend_from_slice(&DIRECTORY)?;
-    file.extend_from_slice(&[0; 10])?;
-    assert_eq!(rt; host.image(), file.as_slice());
+    assert_eq!(rt; host.image(), committed(rt.alloc())?.as_slice());
     Ok(())
 }
 
+/// The marks of the worked file where the other slot is closed.
+const ALONE: Marks = Marks {
+    other: None,
+    ..MARKS
+};
+
+/// Commits over the worked file where the other slot is closed.
+fn run_alone(rt: &impl Abort, alloc: Global) -> Result<MemHost, Fail> {
+    let file = worked(alloc, 352, &[(64, 0)])?;
+    let mut host = host_over(alloc, &file, &[])?;
+    commit_worked(rt, &mut host, &ALONE)?;
+    Ok(host)
+}
+
+/// The write and the sync that would close the other slot are left out.
 #[test]
 fn leaves_a_closed_gate(rt: HostRuntime) -> Result<(), Fail> {
-    let mut file = Vec::from_slice(rt.alloc(), &WORKED)?;
-    assert!(rt; file.len() >= 352);
-    file[64] = 0;
-    let mut host = MemHost::new(rt.alloc(), &file, b"", &[], 0, 999)?;
-    assert!(rt; host.image().len() >= 352);
-    let marks = Marks {
-        other: None,
-        ..MARKS
-    };
-    assert!(rt; commit(&mut host, &marks, &COLUMN, &DIRECTORY).is_ok());
-    // The write and the sync that would close it are left out.
+    let host = run_alone(&rt, rt.alloc())?;
     assert_eq!(rt; host.calls(), 6);
-    assert_eq!(rt; number_left(&rt, rt.alloc(), &host, 4, Effect::Ones)?, 1);
-    assert_eq!(rt; number_left(&rt, rt.alloc(), &host, 6, Effect::Ones)?, 2);
+    for (after, number) in [(4, 1), (6, 2)] {
+        let left = number_left(&rt, rt.alloc(), &host, after, Effect::Ones)?;
+        assert_eq!(rt; left, number);
+    }
     Ok(())
 }

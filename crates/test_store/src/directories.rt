@@ -24,7 +24,7 @@ struct Mark {
 type Case = (usize, usize, &'static [u8], Option<u64>);
 
 // `people[name:S,age:I]` with one row, at 0, 4, 8, 28, 32, 33, 49, 65, 69 and 70.
-const PEOPLE: [&[u8]; 10] = [
+static PEOPLE: [&[u8]; 10] = [
     b"\x01\0\0\0",
     b"\x14\0\0\0",
     b"people[name:S,age:I]",
@@ -43,7 +43,7 @@ const PEOPLE_MARK: Mark = Mark {
     end: 352,
 };
 
-const PEOPLE_CASES: [Case; 35] = [
+static PEOPLE_CASES: [Case; 35] = [
     (0, 0, b"", None),
     (0, 1, b"\x01\x04\0\0", Some(0)),
     (0, 1, b"\0\x04\0\0", Some(86)),
@@ -87,7 +87,7 @@ const PEOPLE_CASES: [Case; 35] = [
 ];
 
 // `a[x:I]` with no rows and `b[y:L]` with one, at 0, 4, 8, 14, 18, 19, 35, 39, 45, 49 and 50.
-const TWO: [&[u8]; 11] = [
+static TWO: [&[u8]; 11] = [
     b"\x02\0\0\0",
     b"\x06\0\0\0",
     b"a[x:I]",
@@ -107,7 +107,7 @@ const TWO_MARK: Mark = Mark {
     end: 208,
 };
 
-const TWO_CASES: [Case; 12] = [
+static TWO_CASES: [Case; 12] = [
     (0, 0, b"", None),
     (0, 1, b"\x01\0\0\0", Some(35)),
     (0, 1, b"\x03\0\0\0", Some(66)),
@@ -123,7 +123,7 @@ const TWO_CASES: [Case; 12] = [
 ];
 
 // `a[b[c:I]]` with a table of one row and one of none, at 0, 4, 8, 17, 21, 25, 26, 42, 46 and 47.
-const NESTED: [&[u8]; 10] = [
+static NESTED: [&[u8]; 10] = [
     b"\x01\0\0\0",
     b"\x09\0\0\0",
     b"a[b[c:I]]",
@@ -136,7 +136,7 @@ const NESTED: [&[u8]; 10] = [
     b"\0\0\0\0\0\0\0\0\0\0\0\0\0\0\0\0",
 ];
 
-const NESTED_CASES: [Case; 11] = [
+static NESTED_CASES: [Case; 11] = [
     (0, 0, b"", None),
     (3, 10, b"\0\0\0\0", None),
     (3, 4, b"\x01\0\0\0", Some(42)),
@@ -151,7 +151,7 @@ const NESTED_CASES: [Case; 11] = [
 ];
 
 // `t[b:B]` with three rows, of which the first and the third are long, at 0, 4, 8, 14, 18, 19, 35, 51, 55, 59, 75 and 79.
-const LONG: [&[u8]; 12] = [
+static LONG: [&[u8]; 12] = [
     b"\x01\0\0\0",
     b"\x06\0\0\0",
     b"t[b:B]",
@@ -172,7 +172,7 @@ const LONG_MARK: Mark = Mark {
     end: 262_912,
 };
 
-const LONG_CASES: [Case; 13] = [
+static LONG_CASES: [Case; 13] = [
     (0, 0, b"", None),
     (7, 12, b"\0\0\0\0", None),
     (7, 8, b"\x03\0\0\0", Some(95)),
@@ -189,7 +189,7 @@ const LONG_CASES: [Case; 13] = [
 ];
 
 // No views and two notes, of the commits 3 and 9, at 0, 4, 8, 16, 20, 22, 30 and 34.
-const NOTED: [&[u8]; 8] = [
+static NOTED: [&[u8]; 8] = [
     b"\0\0\0\0",
     b"\x02\0\0\0",
     b"\x03\0\0\0\0\0\0\0",
@@ -206,7 +206,7 @@ const NOTED_MARK: Mark = Mark {
     end: 208,
 };
 
-const NOTED_CASES: [Case; 16] = [
+static NOTED_CASES: [Case; 16] = [
     (0, 0, b"", None),
     (1, 8, b"", Some(4)),
     (1, 2, b"\0\0\0\0", Some(4)),
@@ -324,25 +324,43 @@ fn reads_notes(rt: HostRuntime) -> Result<(), Fail> {
     check_cuts(&rt, rt.alloc(), &NOTED, NOTED_MARK)
 }
 
-// A version 2 asks for notes behind the views, and a version 1 has none; an empty directory has four bytes.
+const PEOPLE_WITH_NOTES: Mark = Mark {
+    version: 2,
+    ..PEOPLE_MARK
+};
+
+const NOTED_WITHOUT: Mark = Mark {
+    version: 1,
+    ..NOTED_MARK
+};
+
+// An empty directory has four bytes.
+static EMPTY: [&[u8]; 1] = [b"\0\0\0\0"];
+
+/// Reads the fields as they are, and says where they are refused.
+fn check_whole(
+    rt: &impl Abort,
+    alloc: Global,
+    fields: &[&[u8]],
+    mark: Mark,
+    refused: Option<u64>,
+) -> Result<(), Fail> {
+    check(rt, alloc, &joined(alloc, fields)?, mark, refused)
+}
+
+// A version 2 asks for notes behind the views, and a version 1 has none.
 #[test]
 fn versions_decide_of_notes(rt: HostRuntime) -> Result<(), Fail> {
-    let empty = [0; 4];
-    let worked = &WORKED[256..342];
-    check(&rt, rt.alloc(), &empty, PEOPLE_MARK, None)?;
-    check(&rt, rt.alloc(), &empty, NOTED_MARK, Some(4))?;
-    check(&rt, rt.alloc(), worked, PEOPLE_MARK, None)?;
-    let noted = Mark {
-        version: 2,
-        ..PEOPLE_MARK
-    };
-    check(&rt, rt.alloc(), worked, noted, Some(86))?;
-    let bare = Mark {
-        version: 1,
-        ..NOTED_MARK
-    };
-    let bytes = changed(rt.alloc(), &NOTED, &(0, 0, b"", None))?;
-    check(&rt, rt.alloc(), &bytes, bare, Some(4))
+    check_whole(&rt, rt.alloc(), &EMPTY, PEOPLE_MARK, None)?;
+    check_whole(&rt, rt.alloc(), &EMPTY, NOTED_MARK, Some(4))?;
+    check_whole(&rt, rt.alloc(), &PEOPLE, PEOPLE_WITH_NOTES, Some(86))?;
+    check_whole(&rt, rt.alloc(), &NOTED, NOTED_WITHOUT, Some(4))
+}
+
+// The directory that stands in the worked file.
+#[test]
+fn the_worked_file_has_a_directory(rt: HostRuntime) -> Result<(), Fail> {
+    check(&rt, rt.alloc(), &WORKED[256..342], PEOPLE_MARK, None)
 }
 
 fn span(place: u64, len: u64) -> Span {
@@ -431,29 +449,52 @@ fn noted(alloc: Global) -> Result<Dir, Fail> {
     Ok(Dir { views, notes })
 }
 
+/// What a directory holds.
+fn shown(alloc: Global, dir: &Dir) -> Result<String, Fail> {
+    Ok(format!(in alloc; "{dir:?}")?)
+}
+
+/// What the directory holds that these bytes are.
+fn shown_again(rt: &impl Abort, alloc: Global, bytes: &[u8], mark: Mark) -> Result<String, Fail> {
+    shown(alloc, &read(rt, alloc, bytes, mark)?)
+}
+
+/// The bytes of all fields.
+fn joined(alloc: Global, fields: &[&[u8]]) -> Result<Vec<u8>, Fail> {
+    changed(alloc, fields, &(0, 0, b"", None))
+}
+
 /// The directory has these bytes, and they are read as it.
 fn spells(
     rt: &impl Abort,
     alloc: Global,
-    dir: &Dir,
+    dir: Dir,
     fields: &[&[u8]],
     mark: Mark,
 ) -> Result<(), Fail> {
-    let bytes = encode(alloc, dir)?;
-    let expected = changed(alloc, fields, &(0, 0, b"", None))?;
-    assert_eq!(rt; bytes.as_slice(), expected.as_slice());
-    let again = read(rt, alloc, bytes.as_slice(), mark)?;
-    let wanted = format!(in alloc; "{dir:?}")?;
-    let found = format!(in alloc; "{again:?}")?;
-    assert_eq!(rt; found, wanted);
+    let bytes = joined(alloc, fields)?;
+    assert_eq!(rt; encode(alloc, &dir)?.as_slice(), bytes.as_slice());
+    let found = shown_again(rt, alloc, &bytes, mark)?;
+    assert_eq!(rt; found, shown(alloc, &dir)?);
     Ok(())
 }
 
 #[test]
-fn writes_what_is_read(rt: HostRuntime) -> Result<(), Fail> {
-    let alloc = rt.alloc();
-    spells(&rt, alloc, &people(alloc)?, &PEOPLE, PEOPLE_MARK)?;
-    spells(&rt, alloc, &nested(alloc)?, &NESTED, PEOPLE_MARK)?;
-    spells(&rt, alloc, &long(alloc)?, &LONG, LONG_MARK)?;
-    spells(&rt, alloc, &noted(alloc)?, &NOTED, NOTED_MARK)
+fn columns_are_written_as_they_are_read(rt: HostRuntime) -> Result<(), Fail> {
+    spells(&rt, rt.alloc(), people(rt.alloc())?, &PEOPLE, PEOPLE_MARK)
+}
+
+#[test]
+fn nested_tables_are_written_as_they_are_read(rt: HostRuntime) -> Result<(), Fail> {
+    spells(&rt, rt.alloc(), nested(rt.alloc())?, &NESTED, PEOPLE_MARK)
+}
+
+#[test]
+fn long_values_are_written_as_they_are_read(rt: HostRuntime) -> Result<(), Fail> {
+    spells(&rt, rt.alloc(), long(rt.alloc())?, &LONG, LONG_MARK)
+}
+
+#[test]
+fn notes_are_written_as_they_are_read(rt: HostRuntime) -> Result<(), Fail> {
+    spells(&rt, rt.alloc(), noted(rt.alloc())?, &NOTED, NOTED_MARK)
 }

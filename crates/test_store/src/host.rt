@@ -1,4 +1,7 @@
 // A host in memory, call by call. The expected values were worked out by hand from the script and the room.
+ghost use Rattle.std.specs.Prelude.{◌+◌, ◌≤◌, length};
+ghost use Rattle.host_io.specs.Memory.{outside_of};
+
 use host_io::{Disk, Effect, Failed, Fault, Host, MemHost};
 use std::process::Abort;
 use std::test::Fail;
@@ -18,21 +21,51 @@ enum Call {
 type Step = (Call, Option<u64>, &'static [u8]);
 
 // One fault at each kind of call, and a second entry for call 8, which counts for nothing.
-const SCRIPT: [(u64, Effect); 10] = [
-    (0, Effect::Whole),
-    (2, Effect::Whole),
-    (4, Effect::Whole),
-    (6, Effect::Nothing),
-    (7, Effect::Whole),
-    (8, Effect::Ones),
-    (8, Effect::Nothing),
-    (10, Effect::Whole),
-    (12, Effect::Whole),
-    (14, Effect::Whole),
+static SCRIPT: [Fault; 10] = [
+    Fault {
+        call: 0,
+        effect: Effect::Whole,
+    },
+    Fault {
+        call: 2,
+        effect: Effect::Whole,
+    },
+    Fault {
+        call: 4,
+        effect: Effect::Whole,
+    },
+    Fault {
+        call: 6,
+        effect: Effect::Nothing,
+    },
+    Fault {
+        call: 7,
+        effect: Effect::Whole,
+    },
+    Fault {
+        call: 8,
+        effect: Effect::Ones,
+    },
+    Fault {
+        call: 8,
+        effect: Effect::Nothing,
+    },
+    Fault {
+        call: 10,
+        effect: Effect::Whole,
+    },
+    Fault {
+        call: 12,
+        effect: Effect::Whole,
+    },
+    Fault {
+        call: 14,
+        effect: Effect::Whole,
+    },
 ];
 
 // Over the file `abcd` and the input `xyz`, with two bytes a piece.
-const SCRIPTED: [Step; 16] = [
+static SCRIPTED: [Step; 16] = [
     (Call::Attach, None, b"abcd"),
     (Call::Attach, Some(0), b"abcd"),
     (Call::Len, None, b"abcd"),
@@ -52,7 +85,7 @@ const SCRIPTED: [Step; 16] = [
 ];
 
 // So many calls, and the image of a crash that leaves what was pending as at the last sync, as written, and all `ff`.
-const IMAGES: [(u64, [&[u8]; 3]); 8] = [
+static IMAGES: [(u64, [&[u8]; 3]); 8] = [
     (0, [b"abcd", b"abcd", b"abcd"]),
     (6, [b"abcd", b"abcd", b"abcd"]),
     (7, [b"abcd", b"abcd", b"a\xff\xffd"]),
@@ -73,7 +106,7 @@ const IMAGES: [(u64, [&[u8]; 3]); 8] = [
 ];
 
 // Over an empty file and the input `xyz`, with room for three moments and three bytes, and no bound on a piece.
-const ROOMY: [Step; 9] = [
+static ROOMY: [Step; 9] = [
     (Call::Write(0, b"ab"), Some(0), b"ab"),
     (Call::Write(2, b"cd"), None, b"ab"),
     (Call::Say(b"no"), None, b"ab"),
@@ -85,10 +118,17 @@ const ROOMY: [Step; 9] = [
     (Call::Take, Some(0), b"ab"),
 ];
 
+/// Reads as many bytes as the piece has, from 1 on.
+fn fill(host: &mut MemHost, piece: &mut [u8]) -> Result<(), Failed>
+    requires { 1 + length piece.old ≤ length (outside_of host.old).now.disk.seen }
+{
+    host.read_at(1, piece)
+}
+
 fn read(rt: &impl Abort, host: &mut MemHost) -> Result<u64, Failed> {
     assert!(rt; host.image().len() >= 3);
     let mut piece = [0; 2];
-    host.read_at(1, &mut piece)?;
+    fill(host, &mut piece)?;
     assert_eq!(rt; piece, *b"bc");
     Ok(0)
 }
@@ -139,15 +179,11 @@ fn crash(rt: &impl Abort, host: &MemHost, after: u64, images: &[&[u8]; 3]) -> Re
 
 #[test]
 fn fails_and_crashes_by_the_script(rt: HostRuntime) -> Result<(), Fail> {
-    let mut script = Vec::new(rt.alloc());
-    for (call, effect) in SCRIPT {
-        script.push(Fault { call, effect })?;
-    }
-    let mut host = MemHost::new(rt.alloc(), b"abcd", b"xyz", &script, 2, 99)?;
+    let mut host = MemHost::new(rt.alloc(), b"abcd", b"xyz", &SCRIPT, 2, 99)?;
     run(&rt, &mut host, &SCRIPTED);
     assert_eq!(rt; host.said(), b"he".as_slice());
-    for (after, images) in IMAGES {
-        crash(&rt, &host, after, &images)?;
+    for (after, images) in &IMAGES {
+        crash(&rt, &host, *after, images)?;
     }
     Ok(())
 }

@@ -1,7 +1,8 @@
 // Files with changed bytes, and the writes of a commit to its slots. Expected values were worked out by hand.
-use crate::worked::WORKED;
+use crate::worked::{WORKED, host_over, worked};
 use commit_marks::{Mark, MarkError, Marks, close_other, open_gate, read_marks, write_body};
 use host_io::{Effect, Failed, Fault, MemHost};
+use std::alloc::Global;
 use std::process::Abort;
 use std::test::Fail;
 
@@ -16,7 +17,7 @@ struct Case {
     read: Result<Shown, MarkError>,
 }
 
-const CASES: [Case; 21] = [
+static CASES: [Case; 23] = [
     Case {
         len: 352,
         changes: &[],
@@ -122,15 +123,27 @@ const CASES: [Case; 21] = [
         changes: &[],
         read: Err(MarkError::NotAStore),
     },
-];
-
-// The greatest number of a commit, and one more.
-const NUMBERS: [([u8; 8], Result<Shown, MarkError>); 2] = [
-    (
-        [0xff, 0xff, 0xff, 0xff, 0xff, 0xff, 0xff, 0x7f],
-        Ok((0, (1 << 63) - 1, None)),
-    ),
-    ([0, 0, 0, 0, 0, 0, 0, 0x80], Err(MarkError::BadMark(64))),
+    // The greatest number of a commit, and one more.
+    Case {
+        len: 208,
+        changes: &[
+            (72, 0xff),
+            (73, 0xff),
+            (74, 0xff),
+            (75, 0xff),
+            (76, 0xff),
+            (77, 0xff),
+            (78, 0xff),
+            (79, 0x7f),
+            (128, 0),
+        ],
+        read: Ok((0, (1 << 63) - 1, None)),
+    },
+    Case {
+        len: 208,
+        changes: &[(79, 0x80), (128, 0)],
+        read: Err(MarkError::BadMark(64)),
+    },
 ];
 
 fn shown(marks: &Marks) -> Shown {
@@ -141,37 +154,48 @@ fn shown(marks: &Marks) -> Shown {
     )
 }
 
-fn set(file: &mut Vec<u8>, place: usize, byte: u8) {
-    if place < file.len() {
-        file[place] = byte;
-    }
+/// What is read of a file.
+fn read(alloc: Global, file: &[u8]) -> Result<Result<Shown, MarkError>, Fail> {
+    let mut host = host_over(alloc, file, &[])?;
+    Ok(read_marks(&mut host).map(|marks| shown(&marks)))
 }
 
 #[test]
 fn reads_marks(rt: HostRuntime) -> Result<(), Fail> {
     for case in &CASES {
-        let mut file = Vec::from_slice(rt.alloc(), &WORKED)?;
-        file.truncate(case.len);
-        for (place, byte) in case.changes {
-            set(&mut file, *place, *byte);
-        }
-        let mut host = MemHost::new(rt.alloc(), &file, b"", &[], 0, 9)?;
-        let read = read_marks(&mut host).map(|marks| shown(&marks));
-        assert_eq!(rt; read, case.read, "{:?}", case.changes);
-    }
-    for (number, wanted) in NUMBERS {
-        let mut file = Vec::from_slice(rt.alloc(), &WORKED)?;
-        file.truncate(208);
-        set(&mut file, 128, 0);
-        for (at, byte) in number.iter().enumerate() {
-            set(&mut file, 72 + at, *byte);
-        }
-        let mut host = MemHost::new(rt.alloc(), &file, b"", &[], 0, 9)?;
-        let read = read_marks(&mut host).map(|marks| shown(&marks));
-        assert_eq!(rt; read, wanted);
+        let file = worked(rt.alloc(), case.len, case.changes)?;
+        assert_eq!(rt; read(rt.alloc(), &file)?, case.read, "{:?}", case.changes);
     }
     Ok(())
 }
+
+/// What the marks of the worked file are read as.
+const MARKS: Marks = Marks {
+    chosen: Mark {
+        version: 1,
+        number: 1,
+        place: 256,
+        len: 86,
+        end: 352,
+    },
+    slot: 1,
+    other: Some(Mark {
+        version: 1,
+        number: 0,
+        place: 192,
+        len: 4,
+        end: 208,
+    }),
+};
+
+/// The mark that a commit over the worked file writes to slot 0.
+const NEXT: Mark = Mark {
+    version: 2,
+    number: 2,
+    place: 256,
+    len: 86,
+    end: 352,
+};
 
 /// A step of a commit over the worked file, which is to be in slot 0.
 #[derive(Clone, Copy)]
@@ -184,79 +208,56 @@ enum Step {
 fn take(rt: &impl Abort, host: &mut MemHost, marks: &Marks, step: Step) -> Result<(), Failed> {
     assert!(rt; host.image().len() >= 192);
     assert!(rt; marks.slot <= 1);
-    let next = Mark {
-        version: 2,
-        number: 2,
-        place: 256,
-        len: 86,
-        end: 352,
-    };
     match step {
         Step::Close => close_other(host, marks),
-        Step::Body => write_body(host, 0, &next),
+        Step::Body => write_body(host, 0, &NEXT),
         Step::Open => open_gate(host, 0),
     }
 }
 
 // The steps, and what is read after each.
-const STEPS: [(Step, Shown); 3] = [
+static STEPS: [(Step, Shown); 3] = [
     (Step::Close, (1, 1, None)),
     (Step::Body, (1, 1, None)),
     (Step::Open, (0, 2, Some(1))),
 ];
 
+/// Takes the steps until one fails, which is the one that makes the call with the number of the fault.
+fn take_all(rt: &impl Abort, alloc: Global, host: &mut MemHost, fault: u64) -> Result<(), Fail> {
+    let mut calls = 0;
+    for (step, wanted) in &STEPS {
+        let answer = take(rt, host, &MARKS, *step);
+        assert_eq!(rt; answer.is_err(), calls <= fault && fault < host.calls());
+        if answer.is_err() {
+            return Ok(());
+        }
+        calls = host.calls();
+        assert_eq!(rt; read(alloc, host.image())?, Ok(*wanted));
+    }
+    Ok(())
+}
+
+/// Each call of the three steps fails once; in the first run none.
 #[test]
 fn writes_marks(rt: HostRuntime) -> Result<(), Fail> {
-    // Each call of the three steps fails once; in the first run none.
     for fault in [9, 0, 1, 2, 3, 4] {
         let script = [Fault {
             call: fault,
             effect: Effect::Nothing,
         }];
-        let mut host = MemHost::new(rt.alloc(), &WORKED, b"", &script, 0, 999)?;
-        let marks = Marks {
-            chosen: Mark {
-                version: 1,
-                number: 1,
-                place: 256,
-                len: 86,
-                end: 352,
-            },
-            slot: 1,
-            other: Some(Mark {
-                version: 1,
-                number: 0,
-                place: 192,
-                len: 4,
-                end: 208,
-            }),
-        };
-        let mut calls = 0;
-        for (step, wanted) in STEPS {
-            let answer = take(&rt, &mut host, &marks, step);
-            assert_eq!(rt; answer.is_err(), calls <= fault && fault < host.calls());
-            if answer.is_err() {
-                break;
-            }
-            calls = host.calls();
-            let image = Vec::from_slice(rt.alloc(), host.image())?;
-            let mut again = MemHost::new(rt.alloc(), &image, b"", &[], 0, 9)?;
-            let read = read_marks(&mut again).map(|marks| shown(&marks));
-            assert_eq!(rt; read, Ok(wanted));
-        }
+        let mut host = host_over(rt.alloc(), &WORKED, &script)?;
+        take_all(&rt, rt.alloc(), &mut host, fault)?;
     }
-    // A slot that reads closed is not written closed.
-    let mut host = MemHost::new(rt.alloc(), &WORKED, b"", &[], 0, 9)?;
+    Ok(())
+}
+
+/// A slot that reads closed is not written closed.
+#[test]
+fn a_closed_slot_stays(rt: HostRuntime) -> Result<(), Fail> {
+    let mut host = host_over(rt.alloc(), &WORKED, &[])?;
     let alone = Marks {
-        chosen: Mark {
-            version: 1,
-            number: 1,
-            place: 256,
-            len: 86,
-            end: 352,
-        },
-        slot: 1,
         other: None,
+        ..MARKS
     };
     assert_eq!(rt; take(&rt, &mut host, &alone, Step::Close), Ok(()));
     assert_eq!(rt; host.calls(), 0);

@@ -69,74 +69,116 @@ fn span(place: u64, len: u64) -> Span
 // Worked by hand: a column of 64 numbers as its width goes from 0 to 1, 4, 32 and back to 0 bits, then 4,000 more
 // of one bit, or none at all, under a directory of 35 bytes; texts of 512 and 513 bytes; and a file that is only
 // ever extended, with the floor at its old end.
+static COMMITS: [Commit<'static>; 9] = [
+    Commit {
+        floor: 192,
+        used: &[Span { place: 192, len: 4 }],
+        lens: &[35],
+        places: &[208],
+        end: 256,
+    },
+    Commit {
+        floor: 192,
+        used: &[Span {
+            place: 208,
+            len: 35,
+        }],
+        lens: &[8, 35],
+        places: &[192, 256],
+        end: 304,
+    },
+    Commit {
+        floor: 192,
+        used: &[
+            Span { place: 192, len: 8 },
+            Span {
+                place: 256,
+                len: 35,
+            },
+        ],
+        lens: &[32, 35],
+        places: &[208, 304],
+        end: 352,
+    },
+    Commit {
+        floor: 192,
+        used: &[
+            Span {
+                place: 208,
+                len: 32,
+            },
+            Span {
+                place: 304,
+                len: 35,
+            },
+        ],
+        lens: &[256, 35],
+        places: &[352, 240],
+        end: 608,
+    },
+    Commit {
+        floor: 192,
+        used: &[
+            Span {
+                place: 352,
+                len: 256,
+            },
+            Span {
+                place: 240,
+                len: 35,
+            },
+        ],
+        lens: &[35],
+        places: &[192],
+        end: 608,
+    },
+    Commit {
+        floor: 192,
+        used: &[Span {
+            place: 192,
+            len: 35,
+        }],
+        lens: &[508, 35],
+        places: &[240, 752],
+        end: 800,
+    },
+    Commit {
+        floor: 192,
+        used: &[Span {
+            place: 192,
+            len: 35,
+        }],
+        lens: &[35],
+        places: &[240],
+        end: 288,
+    },
+    Commit {
+        floor: 192,
+        used: &[Span { place: 192, len: 4 }],
+        lens: &[4, 512, 513, 75],
+        places: &[208, 224, 736, 1264],
+        end: 1344,
+    },
+    Commit {
+        floor: 352,
+        used: &[
+            Span { place: 208, len: 1 },
+            Span { place: 224, len: 3 },
+            Span { place: 240, len: 1 },
+            Span {
+                place: 256,
+                len: 86,
+            },
+        ],
+        lens: &[1, 86],
+        places: &[352, 368],
+        end: 464,
+    },
+];
+
 #[test]
 fn places_blocks_at_the_least_place(rt: HostRuntime) -> Result<(), Fail> {
-    let commits = [
-        Commit {
-            floor: 192,
-            used: &[span(192, 4)],
-            lens: &[35],
-            places: &[208],
-            end: 256,
-        },
-        Commit {
-            floor: 192,
-            used: &[span(208, 35)],
-            lens: &[8, 35],
-            places: &[192, 256],
-            end: 304,
-        },
-        Commit {
-            floor: 192,
-            used: &[span(192, 8), span(256, 35)],
-            lens: &[32, 35],
-            places: &[208, 304],
-            end: 352,
-        },
-        Commit {
-            floor: 192,
-            used: &[span(208, 32), span(304, 35)],
-            lens: &[256, 35],
-            places: &[352, 240],
-            end: 608,
-        },
-        Commit {
-            floor: 192,
-            used: &[span(352, 256), span(240, 35)],
-            lens: &[35],
-            places: &[192],
-            end: 608,
-        },
-        Commit {
-            floor: 192,
-            used: &[span(192, 35)],
-            lens: &[508, 35],
-            places: &[240, 752],
-            end: 800,
-        },
-        Commit {
-            floor: 192,
-            used: &[span(192, 35)],
-            lens: &[35],
-            places: &[240],
-            end: 288,
-        },
-        Commit {
-            floor: 192,
-            used: &[span(192, 4)],
-            lens: &[4, 512, 513, 75],
-            places: &[208, 224, 736, 1264],
-            end: 1344,
-        },
-        Commit {
-            floor: 352,
-            used: &[span(208, 1), span(224, 3), span(240, 1), span(256, 86)],
-            lens: &[1, 86],
-            places: &[352, 368],
-            end: 464,
-        },
-    ];
-    for commit in &commits {
+    for commit in &COMMITS {
         let (places, end) = placed(&rt, rt.alloc(), commit.floor, commit.used, commit.lens)?;
         assert_eq!(rt; places.as_slice(), commit.places);
         assert_eq!(rt; end, commit.end);
@@ -153,31 +195,75 @@ struct Overlapping<'a> {
 }
 
 // Worked by hand. The first is a column whose place was turned from 240 to 224, where another block stands.
+static OVERLAPPING: [Overlapping<'static>; 4] = [
+    Overlapping {
+        spans: &[
+            Span { place: 208, len: 1 },
+            Span { place: 224, len: 3 },
+            Span { place: 224, len: 1 },
+            Span {
+                place: 256,
+                len: 86,
+            },
+        ],
+        first: Span { place: 224, len: 3 },
+        second: Span { place: 224, len: 1 },
+    },
+    Overlapping {
+        spans: &[
+            Span {
+                place: 256,
+                len: 86,
+            },
+            Span { place: 224, len: 1 },
+            Span { place: 208, len: 1 },
+            Span { place: 224, len: 3 },
+        ],
+        first: Span { place: 224, len: 1 },
+        second: Span { place: 224, len: 3 },
+    },
+    Overlapping {
+        spans: &[
+            Span {
+                place: 320,
+                len: 16,
+            },
+            Span {
+                place: 304,
+                len: 17,
+            },
+            Span { place: 208, len: 1 },
+            Span {
+                place: 192,
+                len: 17,
+            },
+        ],
+        first: Span {
+            place: 192,
+            len: 17,
+        },
+        second: Span { place: 208, len: 1 },
+    },
+    Overlapping {
+        spans: &[
+            Span {
+                place: 192,
+                len: 100,
+            },
+            Span { place: 272, len: 1 },
+            Span { place: 208, len: 1 },
+        ],
+        first: Span {
+            place: 192,
+            len: 100,
+        },
+        second: Span { place: 208, len: 1 },
+    },
+];
+
 #[test]
 fn names_the_first_neighbors_that_meet(rt: HostRuntime) -> Result<(), Fail> {
-    let rows = [
-        Overlapping {
-            spans: &[span(208, 1), span(224, 3), span(224, 1), span(256, 86)],
-            first: span(224, 3),
-            second: span(224, 1),
-        },
-        Overlapping {
-            spans: &[span(256, 86), span(224, 1), span(208, 1), span(224, 3)],
-            first: span(224, 1),
-            second: span(224, 3),
-        },
-        Overlapping {
-            spans: &[span(320, 16), span(304, 17), span(208, 1), span(192, 17)],
-            first: span(192, 17),
-            second: span(208, 1),
-        },
-        Overlapping {
-            spans: &[span(192, 100), span(272, 1), span(208, 1)],
-            first: span(192, 100),
-            second: span(208, 1),
-        },
-    ];
-    for row in &rows {
+    for row in &OVERLAPPING {
         assert!(rt; are_near_blocks(row.spans));
         let refusal = FreeMap::from_used(rt.alloc(), 192, row.spans).err();
         assert_eq!(rt; refusal, Some(FreeError::Overlap(row.first, row.second)));
@@ -200,24 +286,61 @@ fn gives_space_back(rt: HostRuntime) -> Result<(), Fail> {
     Ok(())
 }
 
+static EXTENTS: [(u64, u64); 4] = [(0, 0), (1, 16), (16, 16), (86, 96)];
+
 #[test]
 #[tactic(auto, unfolding(free_space::specs::Extents::extent_len))]
-fn rounds_up_to_16(rt: HostRuntime) -> Result<(), Fail> {
-    for (len, extent) in [(0, 0), (1, 16), (16, 16), (86, 96)] {
-        assert_eq!(rt; extent_len(len), extent);
+fn rounds_up_to_16(rt: HostRuntime) {
+    for (len, extent) in &EXTENTS {
+        assert!(rt; *len < FAR);
+        assert_eq!(rt; extent_len(*len), *extent);
     }
+}
+
+/// Spans, and whether each is a site in a file of 352 bytes.
+static SITES: [(Span, bool); 6] = [
+    (
+        Span {
+            place: 256,
+            len: 86,
+        },
+        true,
+    ),
+    (
+        Span {
+            place: 256,
+            len: 97,
+        },
+        false,
+    ),
+    (Span { place: 248, len: 8 }, false),
+    (
+        Span {
+            place: 176,
+            len: 16,
+        },
+        false,
+    ),
+    (Span { place: 256, len: 0 }, false),
+    (Span { place: 352, len: 1 }, false),
+];
+
+#[test]
+fn a_site_is_aligned_and_within_the_file(rt: HostRuntime) {
+    for (site, want) in &SITES {
+        assert_eq!(rt; is_site(352, site), *want);
+    }
+}
+
+#[test]
+#[tactic(auto, unfolding(free_space::specs::Extents::extent_len))]
+fn an_extent_ends_at_16(rt: HostRuntime) {
     assert_eq!(rt; extent_end(&span(256, 86)), 352);
-    assert!(rt; is_site(352, &span(256, 86)));
-    for site in [
-        span(256, 97),
-        span(248, 8),
-        span(176, 16),
-        span(256, 0),
-        span(352, 1),
-    ] {
-        assert!(rt; !is_site(352, &site));
-    }
-    // A place is found also for a block that no file can hold.
+}
+
+/// A place is found also for a block that no file can hold.
+#[test]
+fn a_place_for_what_no_file_holds(rt: HostRuntime) -> Result<(), Fail> {
     let last = u64::MAX - 15;
     let map = FreeMap::from_used(rt.alloc(), last, &[])?;
     assert_eq!(rt; map.place(u64::MAX), last);

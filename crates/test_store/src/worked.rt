@@ -1,6 +1,11 @@
-// A file worked out by hand: the commit of no views with number 0, and after it the commit of one view of one row,
-// `people[name:S,age:I]` with ("Ann",31), whose mark is that of slot 1.
-pub const WORKED: [u8; 352] = [
+// A file worked out by hand, and hosts over it.
+use host_io::{Fault, MemHost};
+use std::alloc::Global;
+use std::test::Fail;
+
+/// The commit of no views with number 0, and after it the commit of one view of one row, `people[name:S,age:I]` with
+/// ("Ann",31), whose mark is that of slot 1.
+pub static WORKED: [u8; 352] = [
     0x4d, 0x4b, 0x43, 0x4f, 0x4c, 0x53, 0x0d, 0x0a, 0x00, 0x00, 0x00, 0x00, 0x00, 0x00, 0x00, 0x00,
     0x00, 0x00, 0x00, 0x00, 0x00, 0x00, 0x00, 0x00, 0x00, 0x00, 0x00, 0x00, 0x00, 0x00, 0x00, 0x00,
     0x00, 0x00, 0x00, 0x00, 0x00, 0x00, 0x00, 0x00, 0x00, 0x00, 0x00, 0x00, 0x00, 0x00, 0x00, 0x00,
@@ -24,3 +29,24 @@ pub const WORKED: [u8; 352] = [
     0x00, 0x00, 0x00, 0x00, 0x00, 0x08, 0xf0, 0x00, 0x00, 0x00, 0x00, 0x00, 0x00, 0x00, 0x01, 0x00,
     0x00, 0x00, 0x00, 0x00, 0x00, 0x00, 0x00, 0x00, 0x00, 0x00, 0x00, 0x00, 0x00, 0x00, 0x00, 0x00,
 ];
+
+/// So many bytes of the worked file, with these bytes changed.
+pub fn worked(alloc: Global, len: usize, changes: &[(usize, u8)]) -> Result<Vec<u8>, Fail> {
+    let mut file = Vec::from_slice(alloc, &WORKED)?;
+    file.truncate(len);
+    for (place, byte) in changes {
+        set(&mut file, *place, *byte);
+    }
+    Ok(file)
+}
+
+fn set(file: &mut [u8], place: usize, byte: u8) {
+    if let Some(old) = file.get_mut(place) {
+        *old = byte;
+    }
+}
+
+/// A host over a file, with no input, and with room for more than a test writes.
+pub fn host_over(alloc: Global, file: &[u8], script: &[Fault]) -> Result<MemHost, Fail> {
+    Ok(MemHost::new(alloc, file, b"", script, 0, 20_000)?)
+}

@@ -27,7 +27,7 @@ fn all_read(rt: &impl Abort, alloc: Global, table: &[(&str, &str)]) -> Result<()
     Ok(())
 }
 
-const EXPRESSIONS: [(&str, &str); 33] = [
+static EXPRESSIONS: [(&str, &str); 33] = [
     ("people", "people"),
     ("  people ", "people"),
     ("t/0/a/12/b", "t/0/a/12/b"),
@@ -77,7 +77,7 @@ fn each_expression_reads(rt: HostRuntime) -> Result<(), Fail> {
     all_read(&rt, rt.alloc(), &EXPRESSIONS)
 }
 
-const PLACES: [(&str, &str); 40] = [
+static PLACES: [(&str, &str); 40] = [
     ("", "syntax 0"),
     ("   ", "syntax 3"),
     ("sort(a", "syntax 6"),
@@ -146,7 +146,7 @@ fn nested(
 }
 
 /// What stands before, how many operators inside one another, what in them, what behind, and how it reads.
-const DEPTHS: [(&str, usize, &str, &str, &str); 8] = [
+static DEPTHS: [(&str, usize, &str, &str, &str); 8] = [
     ("", 16, "t", "", "deep 75"),
     ("", 17, "t", "", "deep 75"),
     ("", 15, "concat(t,u)", "", "deep 75"),

@@ -72,7 +72,7 @@ fn all_cut(rt: &impl Abort, alloc: Global, table: &[(&str, &str)]) -> Result<(),
     Ok(())
 }
 
-const WORDS: [(&str, &str); 6] = [
+static WORDS: [(&str, &str); 6] = [
     ("_9Z", "0:_9Z "),
     (
         "abcdefghijklmnopqrstuvwxyz_0123",
@@ -89,7 +89,7 @@ fn words_are_names(rt: HostRuntime) -> Result<(), Fail> {
     all_cut(&rt, rt.alloc(), &WORDS)
 }
 
-const NUMBERS: [(&str, &str); 8] = [
+static NUMBERS: [(&str, &str); 8] = [
     ("0", "0:0 "),
     ("00", "none at 0"),
     ("9223372036854775807", "0:9223372036854775807 "),
@@ -105,7 +105,7 @@ fn numbers_have_64_bits_and_one_spelling(rt: HostRuntime) -> Result<(), Fail> {
     all_cut(&rt, rt.alloc(), &NUMBERS)
 }
 
-const MINUSES: [(&str, &str); 5] = [
+static MINUSES: [(&str, &str); 5] = [
     ("1-2", "0:1 1:-2 "),
     ("- 5", "0:Minus 2:5 "),
     ("--5", "0:Minus 1:-5 "),
@@ -118,7 +118,7 @@ fn a_minus_before_a_digit_begins_a_number(rt: HostRuntime) -> Result<(), Fail> {
     all_cut(&rt, rt.alloc(), &MINUSES)
 }
 
-const BYTE_STRINGS: [(&str, &str); 7] = [
+static BYTE_STRINGS: [(&str, &str); 7] = [
     ("x\"00ff\"", "0:x'00ff' "),
     ("x\"\"", "0:x'' "),
     ("x\"0\"", "none at 0"),
@@ -133,7 +133,7 @@ fn byte_strings_are_pairs_of_digits(rt: HostRuntime) -> Result<(), Fail> {
     all_cut(&rt, rt.alloc(), &BYTE_STRINGS)
 }
 
-const TEXTS: [(&str, &str); 9] = [
+static TEXTS: [(&str, &str); 9] = [
     ("\"a\\\"b\\\\c\\nd\"", "0:'a\\\"b\\\\c\\nd' "),
     ("\"\"", "0:'' "),
     ("\"é\"", "0:'é' "),
@@ -150,7 +150,7 @@ fn texts_have_three_escapes(rt: HostRuntime) -> Result<(), Fail> {
     all_cut(&rt, rt.alloc(), &TEXTS)
 }
 
-const SPACES: [(&str, &str); 8] = [
+static SPACES: [(&str, &str); 8] = [
     ("", ""),
     ("   ", ""),
     ("  a  b ", "2:a 5:b "),
@@ -177,7 +177,7 @@ fn all_read(rt: &impl Abort, alloc: Global, table: &[(&str, &str)]) -> Result<()
     Ok(())
 }
 
-const LITERALS: [(&str, &str); 11] = [
+static LITERALS: [(&str, &str); 11] = [
     ("2147483647", "2147483647"),
     (" -9223372036854775808 ", "-9223372036854775808"),
     ("\"a\\\"b\\\\c\\nd\"", "'a\"b\\c\nd'"),
@@ -198,7 +198,7 @@ fn literals_are_read(rt: HostRuntime) -> Result<(), Fail> {
     all_read(&rt, rt.alloc(), &LITERALS)
 }
 
-const OFFENCES: [(&str, &str); 13] = [
+static OFFENCES: [(&str, &str); 13] = [
     ("9223372036854775808", "none at 0"),
     ("  ", "none at 2"),
     ("x", "none at 0"),
@@ -221,7 +221,7 @@ fn the_first_offence_is_told(rt: HostRuntime) -> Result<(), Fail> {
     all_read(&rt, rt.alloc(), &OFFENCES)
 }
 
-const PATHS: [(&str, (bool, usize)); 10] = [
+static PATHS: [(&str, (bool, usize)); 10] = [
     ("d", (true, 1)),
     ("d 5", (true, 1)),
     ("d/0/a/9223372036854775807/b,", (true, 9)),
@@ -242,7 +242,7 @@ fn paths_stop_where_no_slash_goes_on(rt: HostRuntime) -> Result<(), Fail> {
     Ok(())
 }
 
-const FRONTS: [(&str, (bool, usize)); 7] = [
+static FRONTS: [(&str, (bool, usize)); 7] = [
     ("1 2", (true, 1)),
     ("{(1)} a", (true, 5)),
     ("{({(1),(2,3)})},", (true, 15)),

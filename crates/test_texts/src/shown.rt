@@ -1,6 +1,5 @@
-//! Literals and expressions as tests show them.
-use expr_text::{Expr, print_expr};
-use mk_value::{Literal, Text};
+//! Literals as tests show them.
+use mk_value::Literal;
 use std::alloc::Global;
 use std::test::Fail;
 
@@ -21,11 +20,4 @@ pub fn literal(alloc: Global, value: &Literal) -> Result<String, Fail> {
             Ok(format!(in alloc; "rows {count}")?)
         }
     }
-}
-
-/// The one spelling of an expression.
-pub fn expression(alloc: Global, expr: &Expr) -> Result<String, Fail> {
-    let mut out = Text::new(alloc);
-    print_expr(expr, &mut out)?;
-    Ok(String::from_str(alloc, out.as_str())?)
 }

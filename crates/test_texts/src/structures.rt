@@ -1,5 +1,6 @@
 //! Structure texts, read, refused and printed.
 use mk_value::{Kind, Text};
+use std::alloc::Global;
 use std::test::Fail;
 use struct_text::{StructError, parse, print};
 
@@ -14,91 +15,104 @@ const FULL: &str =
 /// The ninth bracket stands at byte 17.
 const DEEP: &str = "d[a[b[c[e[f[g[h[j[i:I]]]]]]]]]";
 
+static REFUSALS: [(&str, StructError); 34] = [
+    ("", StructError::Syntax(0)),
+    ("x", StructError::Syntax(1)),
+    ("x[", StructError::Syntax(2)),
+    ("x[]", StructError::Syntax(2)),
+    ("x[a", StructError::Syntax(3)),
+    ("x[a:", StructError::Syntax(4)),
+    ("x[a:I", StructError::Syntax(5)),
+    ("x[a:I,", StructError::Syntax(6)),
+    ("x[a:I,]", StructError::Syntax(6)),
+    ("x[a:I]]", StructError::Syntax(6)),
+    ("x[a:I],y[b:I]", StructError::Syntax(6)),
+    ("9x[a:I]", StructError::Syntax(0)),
+    (" x[a:I]", StructError::Syntax(0)),
+    ("x [a:I]", StructError::Syntax(1)),
+    ("x:I", StructError::Syntax(1)),
+    ("x[9a:I]", StructError::Syntax(2)),
+    ("x[a b:I]", StructError::Syntax(3)),
+    ("x[a,b:I]", StructError::Syntax(3)),
+    ("x[a:i]", StructError::Syntax(4)),
+    ("x[a:I;b:I]", StructError::Syntax(5)),
+    ("x[a:I[b:I]]", StructError::Syntax(5)),
+    ("x[\u{e9}:I]", StructError::Syntax(2)),
+    ("x\u{e9}[a:I]", StructError::Syntax(1)),
+    ("x[a:M]", StructError::Syntax(4)),
+    ("x[a:F]", StructError::Floating(4)),
+    ("x[a:D]", StructError::Floating(4)),
+    ("x[a:F,a:I]", StructError::Floating(4)),
+    ("x[a:I,b:D", StructError::Floating(8)),
+    ("x[a:I,a:S]", StructError::Repeated(6)),
+    ("x[a:I,a", StructError::Repeated(6)),
+    ("x[a:I,a!", StructError::Repeated(6)),
+    ("x[a:I,ab:S,a[b:I]]", StructError::Repeated(11)),
+    ("x[a[b:I],a:I]", StructError::Repeated(9)),
+    ("x[a[b:I,b:I],a:F]", StructError::Repeated(8)),
+];
+
+static REFUSALS_AT_LIMITS: [(&str, StructError); 6] = [
+    (
+        "aaaaaaaaaaaaaaaaaaaaaaaaaaaaaaaa[b:I]",
+        StructError::TooLong(0),
+    ),
+    (
+        "x[aaaaaaaaaaaaaaaaaaaaaaaaaaaaaaaa:I]",
+        StructError::TooLong(2),
+    ),
+    (
+        "x[a:I,aaaaaaaaaaaaaaaaaaaaaaaaaaaaaaaa",
+        StructError::TooLong(6),
+    ),
+    (
+        "x[a:F,aaaaaaaaaaaaaaaaaaaaaaaaaaaaaaaa:I]",
+        StructError::Floating(4),
+    ),
+    (MANY, StructError::TooMany(376)),
+    (DEEP, StructError::TooDeep(17)),
+];
+
+/// Why a text is no structure.
+fn refusal(alloc: Global, text: &str) -> Option<StructError> {
+    parse(alloc, text).err()
+}
+
 #[test]
-fn refusals(rt: HostRuntime) {
-    let rows = [
-        ("", StructError::Syntax(0)),
-        ("x", StructError::Syntax(1)),
-        ("x[", StructError::Syntax(2)),
-        ("x[]", StructError::Syntax(2)),
-        ("x[a", StructError::Syntax(3)),
-        ("x[a:", StructError::Syntax(4)),
-        ("x[a:I", StructError::Syntax(5)),
-        ("x[a:I,", StructError::Syntax(6)),
-        ("x[a:I,]", StructError::Syntax(6)),
-        ("x[a:I]]", StructError::Syntax(6)),
-        ("x[a:I],y[b:I]", StructError::Syntax(6)),
-        ("9x[a:I]", StructError::Syntax(0)),
-        (" x[a:I]", StructError::Syntax(0)),
-        ("x [a:I]", StructError::Syntax(1)),
-        ("x:I", StructError::Syntax(1)),
-        ("x[9a:I]", StructError::Syntax(2)),
-        ("x[a b:I]", StructError::Syntax(3)),
-        ("x[a,b:I]", StructError::Syntax(3)),
-        ("x[a:i]", StructError::Syntax(4)),
-        ("x[a:I;b:I]", StructError::Syntax(5)),
-        ("x[a:I[b:I]]", StructError::Syntax(5)),
-        ("x[\u{e9}:I]", StructError::Syntax(2)),
-        ("x\u{e9}[a:I]", StructError::Syntax(1)),
-        ("x[a:M]", StructError::Syntax(4)),
-        ("x[a:F]", StructError::Floating(4)),
-        ("x[a:D]", StructError::Floating(4)),
-        ("x[a:F,a:I]", StructError::Floating(4)),
-        ("x[a:I,b:D", StructError::Floating(8)),
-        ("x[a:I,a:S]", StructError::Repeated(6)),
-        ("x[a:I,a", StructError::Repeated(6)),
-        ("x[a:I,a!", StructError::Repeated(6)),
-        ("x[a:I,ab:S,a[b:I]]", StructError::Repeated(11)),
-        ("x[a[b:I],a:I]", StructError::Repeated(9)),
-        ("x[a[b:I,b:I],a:F]", StructError::Repeated(8)),
-    ];
-    for (text, wanted) in rows {
-        assert_eq!(rt; parse(rt.alloc(), text).err(), Some(wanted), "at {text}");
+fn each_offence_has_its_place(rt: HostRuntime) {
+    for (text, wanted) in &REFUSALS {
+        assert_eq!(rt; refusal(rt.alloc(), text), Some(*wanted), "at {text}");
     }
 }
 
 #[test]
 fn refusals_at_limits(rt: HostRuntime) {
-    let rows = [
-        (
-            "aaaaaaaaaaaaaaaaaaaaaaaaaaaaaaaa[b:I]",
-            StructError::TooLong(0),
-        ),
-        (
-            "x[aaaaaaaaaaaaaaaaaaaaaaaaaaaaaaaa:I]",
-            StructError::TooLong(2),
-        ),
-        (
-            "x[a:I,aaaaaaaaaaaaaaaaaaaaaaaaaaaaaaaa",
-            StructError::TooLong(6),
-        ),
-        (
-            "x[a:F,aaaaaaaaaaaaaaaaaaaaaaaaaaaaaaaa:I]",
-            StructError::Floating(4),
-        ),
-        (MANY, StructError::TooMany(376)),
-        (DEEP, StructError::TooDeep(17)),
-    ];
-    for (text, wanted) in rows {
-        assert_eq!(rt; parse(rt.alloc(), text).err(), Some(wanted), "at {text}");
+    for (text, wanted) in &REFUSALS_AT_LIMITS {
+        assert_eq!(rt; refusal(rt.alloc(), text), Some(*wanted), "at {text}");
     }
 }
 
+/// What a text is read as, printed.
+fn printed(alloc: Global, text: &str) -> Result<Text, Fail> {
+    let (name, schema) = parse(alloc, text)?;
+    let mut out = Text::new(alloc);
+    print(&name, &schema, &mut out)?;
+    Ok(out)
+}
+
+static STRUCTURES: [&str; 6] = [
+    "people[name:S,age:I]",
+    "x[a:I,b:L,c:S,d:B,e[f:I,a[a:I]]]",
+    "_9[a[a:I],b[a:I]]",
+    "aaaaaaaaaaaaaaaaaaaaaaaaaaaaaaa[aaaaaaaaaaaaaaaaaaaaaaaaaaaaaaa:B]",
+    "d[a[b[c[e[f[g[h[i:I]]]]]]]]",
+    FULL,
+];
+
 #[test]
 fn what_is_read_is_printed(rt: HostRuntime) -> Result<(), Fail> {
-    let texts = [
-        "people[name:S,age:I]",
-        "x[a:I,b:L,c:S,d:B,e[f:I,a[a:I]]]",
-        "_9[a[a:I],b[a:I]]",
-        "aaaaaaaaaaaaaaaaaaaaaaaaaaaaaaa[aaaaaaaaaaaaaaaaaaaaaaaaaaaaaaa:B]",
-        "d[a[b[c[e[f[g[h[i:I]]]]]]]]",
-        FULL,
-    ];
-    for text in texts {
-        let (name, schema) = parse(rt.alloc(), text)?;
-        let mut out = Text::new(rt.alloc());
-        print(&name, &schema, &mut out)?;
-        assert_eq!(rt; out.as_str(), text);
+    for text in STRUCTURES {
+        assert_eq!(rt; printed(rt.alloc(), text)?.as_str(), text);
     }
     Ok(())
 }

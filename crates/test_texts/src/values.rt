@@ -10,19 +10,27 @@ use std::test::Fail;
 use struct_text::parse;
 use tokens::read_literal;
 
+/// The schema of a structure text.
+fn schema_in(alloc: Global, text: &str) -> Result<Schema, Fail> {
+    Ok(parse(alloc, text)?.1)
+}
+
 /// The schema of one property `x` of a kind as a structure text has it after the name: `:I`, or properties in brackets.
 fn schema_of(alloc: Global, kind: &str) -> Result<Schema, Fail> {
-    let text = format!(in alloc; "t[x{kind}]")?;
-    let (_, schema) = parse(alloc, text.as_str())?;
-    Ok(schema)
+    schema_in(alloc, format!(in alloc; "t[x{kind}]")?.as_str())
+}
+
+/// The value of this kind that a literal spells.
+fn value_under(alloc: Global, kind: &Kind, literal: &str) -> Result<Value, Fail> {
+    let literal = read_literal(alloc, literal)?;
+    Ok(to_value(alloc, &literal, kind)?)
 }
 
 /// The value of this kind that a literal spells.
 fn value(alloc: Global, kind: &str, literal: &str) -> Result<Value, Fail> {
     let schema = schema_of(alloc, kind)?;
-    let literal = read_literal(alloc, literal)?;
     match schema.as_slice().first() {
-        Some(prop) => Ok(to_value(alloc, &literal, &prop.kind)?),
+        Some(prop) => value_under(alloc, &prop.kind, literal),
         None => Err(Fail::new("no property")),
     }
 }
@@ -41,7 +49,7 @@ fn becoming(alloc: Global, kind: &Kind, literal: &str) -> Result<Text, Fail> {
 }
 
 /// A kind, the text of its default, a literal, and what that becomes.
-const VALUES: [(&str, &str, &str, &str); 15] = [
+static VALUES: [(&str, &str, &str, &str); 15] = [
     (":I", "0", "2147483647", "2147483647"),
     // One above the greatest number of 32 bits.
     (":I", "0", "2147483648", "wrong kind"),
@@ -91,7 +99,7 @@ fn a_literal_becomes_a_value_or_does_not_fit(rt: HostRuntime) -> Result<(), Fail
 }
 
 /// A value by its kind and literal, another kind, and whether it fits that.
-const FITTING: [(&str, &str, &str, bool); 8] = [
+static FITTING: [(&str, &str, &str, bool); 8] = [
     (":I", "7", ":I", true),
     (":I", "7", ":L", false),
     (":L", "7", ":I", false),
@@ -129,7 +137,7 @@ fn a_text_with_a_zero_byte_fits_no_kind(rt: HostRuntime) -> Result<(), Fail> {
 }
 
 /// A kind, and two values of it in ascending order or equal.
-const ORDERS: [(&str, &str, &str, Ordering); 7] = [
+static ORDERS: [(&str, &str, &str, Ordering); 7] = [
     (":L", "-5", "3", Ordering::Less),
     (":I", "3", "3", Ordering::Equal),
     (":S", "\"ab\"", "\"abc\"", Ordering::Less),
@@ -153,7 +161,7 @@ fn key(alloc: Global, number: i32, down: bool, at: u64, longer: bool) -> Result<
 }
 
 /// The number, the position and the length of two keys, whether they go downwards, and their order.
-const KEYS: [((i32, u64, bool), (i32, u64, bool), bool, Ordering); 6] = [
+static KEYS: [((i32, u64, bool), (i32, u64, bool), bool, Ordering); 6] = [
     ((1, 9, false), (2, 0, false), false, Ordering::Less),
     ((1, 9, false), (1, 10, false), false, Ordering::Less),
     ((1, 9, false), (1, 9, false), false, Ordering::Equal),
@@ -236,7 +244,7 @@ fn a_table_of_plain_rows_is_read_by_row_and_column(rt: HostRuntime) -> Result<()
 }
 
 /// Texts that are names or none.
-const NAMES: [(&str, bool); 7] = [
+static NAMES: [(&str, bool); 7] = [
     ("_9Z", true),
     ("abcdefghijklmnopqrstuvwxyz_0123", true),
     ("abcdefghijklmnopqrstuvwxyz_01234", false),

@@ -35,14 +35,55 @@ pub fn samples(alloc: Global, width: Width, count: usize) -> Result<Vec<i64>, Me
     Ok(values)
 }
 
+/// Adds a value at the end, if there is room.
+fn append(column: &mut IntCol, value: i64) -> Result<(), Memory> {
+    let len = column.len();
+    if len < MOST {
+        column.insert(len, value, 1)?;
+    }
+    Ok(())
+}
+
+/// Inserts a value in the middle, if there is room.
+fn insert_half_way(column: &mut IntCol, value: i64) -> Result<(), Memory> {
+    let len = column.len();
+    if len < MOST {
+        column.insert(len / 2, value, 1)?;
+    }
+    Ok(())
+}
+
+/// Removes the value in the middle, if there is one.
+fn remove_half_way(column: &mut IntCol) -> Result<(), Memory> {
+    let len = column.len();
+    if len > 0 {
+        column.remove(len / 2, 1)?;
+    }
+    Ok(())
+}
+
+/// Sets the value at a place, if there is one.
+fn set(column: &mut IntCol, at: usize, value: i64) -> Result<(), Memory> {
+    if at < column.len() {
+        column.set(at, value)?;
+    }
+    Ok(())
+}
+
+/// Sets the value at a random place, if there is one.
+fn set_somewhere(column: &mut IntCol, random: &mut Random, value: i64) -> Result<(), Memory> {
+    let len = column.len();
+    if len > 0 {
+        column.set(random.place(len), value)?;
+    }
+    Ok(())
+}
+
 /// A column to which the values were added one by one.
 pub fn append_all(alloc: Global, values: &[i64]) -> Result<IntCol, Memory> {
     let mut column = IntCol::from_values(alloc, &[], None)?;
     for value in values {
-        let len = column.len();
-        if len < MOST {
-            column.insert(len, *value, 1)?;
-        }
+        append(&mut column, *value)?;
     }
     Ok(column)
 }
@@ -73,9 +114,7 @@ pub fn sum_at_random(column: &IntCol, count: usize) -> i64 {
 /// Sets the values in order.
 pub fn set_in_order(column: &mut IntCol, values: &[i64]) -> Result<(), Memory> {
     for (at, value) in values.iter().enumerate() {
-        if at < column.len() {
-            column.set(at, *value)?;
-        }
+        set(column, at, *value)?;
     }
     Ok(())
 }
@@ -84,10 +123,7 @@ pub fn set_in_order(column: &mut IntCol, values: &[i64]) -> Result<(), Memory> {
 pub fn set_at_random(column: &mut IntCol, values: &[i64]) -> Result<(), Memory> {
     let mut random = Random::new();
     for value in values {
-        let len = column.len();
-        if len > 0 {
-            column.set(random.place(len), *value)?;
-        }
+        set_somewhere(column, &mut random, *value)?;
     }
     Ok(())
 }
@@ -99,10 +135,7 @@ pub fn insert_in_the_middle(
     count: usize,
 ) -> Result<(), Memory> {
     for value in values.iter().take(count) {
-        let len = column.len();
-        if len < MOST {
-            column.insert(len / 2, *value, 1)?;
-        }
+        insert_half_way(column, *value)?;
     }
     Ok(())
 }
@@ -110,10 +143,7 @@ pub fn insert_in_the_middle(
 /// Removes so many values in the middle.
 pub fn remove_in_the_middle(column: &mut IntCol, count: usize) -> Result<(), Memory> {
     for _value in 0..count {
-        let len = column.len();
-        if len > 0 {
-            column.remove(len / 2, 1)?;
-        }
+        remove_half_way(column)?;
     }
     Ok(())
 }
@@ -123,10 +153,7 @@ pub fn set_where_shared(column: &mut IntCol, values: &[i64], count: usize) -> Re
     let mut random = Random::new();
     for value in values.iter().take(count) {
         let _copy = column.same()?;
-        let len = column.len();
-        if len > 0 {
-            column.set(random.place(len), *value)?;
-        }
+        set_somewhere(column, &mut random, *value)?;
     }
     Ok(())
 }

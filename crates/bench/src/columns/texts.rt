@@ -10,14 +10,55 @@ use std::cmp::Ordering;
 /// The most values of a column.
 const MOST: usize = 16_777_216;
 
+/// Adds a text at the end, if there is room.
+fn append(column: &mut BytesCol, text: &[u8]) -> Result<(), Memory> {
+    let len = column.len();
+    if len < MOST {
+        column.insert(len, text, 1)?;
+    }
+    Ok(())
+}
+
+/// Inserts a text in the middle, if there is room.
+fn insert_half_way(column: &mut BytesCol, text: &[u8]) -> Result<(), Memory> {
+    let len = column.len();
+    if len < MOST {
+        column.insert(len / 2, text, 1)?;
+    }
+    Ok(())
+}
+
+/// Removes the text in the middle, if there is one.
+fn remove_half_way(column: &mut BytesCol) -> Result<(), Memory> {
+    let len = column.len();
+    if len > 0 {
+        column.remove(len / 2, 1)?;
+    }
+    Ok(())
+}
+
+/// Sets the text at a place, if there is one.
+fn set(column: &mut BytesCol, at: usize, text: &[u8]) -> Result<(), Memory> {
+    if at < column.len() {
+        column.set(at, text)?;
+    }
+    Ok(())
+}
+
+/// Sets the text at a random place, if there is one.
+fn set_somewhere(column: &mut BytesCol, random: &mut Random, text: &[u8]) -> Result<(), Memory> {
+    let len = column.len();
+    if len > 0 {
+        column.set(random.place(len), text)?;
+    }
+    Ok(())
+}
+
 /// A column to which copies of the text were added one by one.
 pub fn append_all(alloc: Global, text: &[u8], count: usize) -> Result<BytesCol, Memory> {
     let mut column = BytesCol::from_values(alloc, &[], None)?;
     for _text in 0..count {
-        let len = column.len();
-        if len < MOST {
-            column.insert(len, text, 1)?;
-        }
+        append(&mut column, text)?;
     }
     Ok(column)
 }
@@ -68,9 +109,7 @@ pub fn count_equal(column: &BytesCol, text: &[u8], count: usize) -> u64 {
 /// Sets each value to the text, in order.
 pub fn set_in_order(column: &mut BytesCol, text: &[u8]) -> Result<(), Memory> {
     for at in 0..column.len() {
-        if at < column.len() {
-            column.set(at, text)?;
-        }
+        set(column, at, text)?;
     }
     Ok(())
 }
@@ -79,10 +118,7 @@ pub fn set_in_order(column: &mut BytesCol, text: &[u8]) -> Result<(), Memory> {
 pub fn set_at_random(column: &mut BytesCol, text: &[u8], count: usize) -> Result<(), Memory> {
     let mut random = Random::new();
     for _text in 0..count {
-        let len = column.len();
-        if len > 0 {
-            column.set(random.place(len), text)?;
-        }
+        set_somewhere(column, &mut random, text)?;
     }
     Ok(())
 }
@@ -94,10 +130,7 @@ pub fn insert_in_the_middle(
     count: usize,
 ) -> Result<(), Memory> {
     for _text in 0..count {
-        let len = column.len();
-        if len < MOST {
-            column.insert(len / 2, text, 1)?;
-        }
+        insert_half_way(column, text)?;
     }
     Ok(())
 }
@@ -105,10 +138,7 @@ pub fn insert_in_the_middle(
 /// Removes so many values in the middle, one by one.
 pub fn remove_in_the_middle(column: &mut BytesCol, count: usize) -> Result<(), Memory> {
     for _text in 0..count {
-        let len = column.len();
-        if len > 0 {
-            column.remove(len / 2, 1)?;
-        }
+        remove_half_way(column)?;
     }
     Ok(())
 }
@@ -118,10 +148,7 @@ pub fn set_where_shared(column: &mut BytesCol, text: &[u8], count: usize) -> Res
     let mut random = Random::new();
     for _text in 0..count {
         let _copy = column.same()?;
-        let len = column.len();
-        if len > 0 {
-            column.set(random.place(len), text)?;
-        }
+        set_somewhere(column, &mut random, text)?;
     }
     Ok(())
 }
