@@ -1,7 +1,7 @@
 //! Times the calls of `int_col` and `bytes_col` over columns of a million values, in nanoseconds a call.
 
 mod integers;
-mod random;
+pub mod random;
 mod texts;
 
 use anyhow::Result;

@@ -1,11 +1,12 @@
-//! Times what the store is made of, in nanoseconds a call or a row.
+//! Times what the store is made of, in nanoseconds a call, a row or an event.
 //!
-//! `bench columns` times columns of integers and of texts, and `bench operators` the operators.
-//! Without a word the operators go over a few rows, and what they answer is printed without times.
+//! `bench columns` times columns of integers and of texts, `bench operators` the operators, and `bench watches` what follows the events
+//! of a table. Without a word the operators go over a few rows, and what they answer is printed without times.
 #![tactic(auto)]
 
 mod columns;
 mod operators;
+mod watches;
 
 use anyhow::{Result, bail};
 use std::env;
@@ -16,6 +17,7 @@ fn main(rt: HostRuntime) -> Result<()> {
         None => operators::list_all(&rt),
         Some("columns") => columns::measure_all(&rt),
         Some("operators") => operators::measure_all(&rt),
-        Some(_) => bail!("the words are columns or operators"),
+        Some("watches") => watches::measure_all(&rt),
+        Some(_) => bail!("the words are columns, operators or watches"),
     }
 }

@@ -1,7 +1,7 @@
 //! Times the operators over a million rows that are held plainly, and prints for each operator the nanoseconds a row until it has
 //! answered, those until each value of the answer was copied out too, the rows that it answers, and what their values add up to.
 
-mod rows;
+pub mod rows;
 mod task;
 mod total;
 

@@ -1,0 +1,125 @@
+//! Times the events that watches, counts of a key and an index of keys follow, and prints for each of them and each number of rows the
+//! nanoseconds of an insertion, a removal and a change of one row. Only what follows is timed, not what edits the table.
+ghost use Rattle.std.specs.Prelude.{◌≡◌, ◌<◌};
+
+mod chains;
+mod counted;
+mod events;
+mod followed;
+mod follower;
+mod keyed;
+mod numbers;
+
+use self::chains::{Shown, watch_chain};
+use self::counted::count_numbers;
+use self::events::{EventKind, Places};
+use self::follower::Follower;
+use self::keyed::{Keys, index_keys};
+use crate::columns::random::Random;
+use anyhow::{Result, ensure};
+use mk_value::Steps;
+use std::marker::Brand;
+use std::rt::Clock;
+use std::sync::ledger::{Blank, Ledger};
+
+/// How many events of each kind are timed.
+const EVENTS: u32 = 300;
+
+/// How many events come before those that are timed, for which the kept positions may be moved to a larger place.
+const WARM: u32 = 3;
+
+/// Follows so many events of a kind, prints the nanoseconds an event, and gives what has followed them.
+fn time_events<R: Clock + Print + AllocGlobal, F: Follower + Drop, L: Ledger>(
+    rt: &R,
+    follower: F,
+    kind: EventKind,
+    places: Places,
+    steps: &mut Steps<L>,
+) -> Result<F> {
+    let mut random = Random::new();
+    let mut follower = follower;
+    let mut spent = 0.0;
+    for count in 0..WARM + EVENTS {
+        let size = follower.size();
+        ensure!(size > 0, "no rows");
+        let event = kind.event(places, &mut random, size);
+        let row = numbers::row(rt.alloc(), &mut random)?;
+        let (after, nanoseconds) = follower.follow(rt, &event, &row, steps)?;
+        follower = after;
+        if count >= WARM {
+            spent += nanoseconds;
+        }
+    }
+    print!(rt; " {:.0}", spent / f64::from(EVENTS))?;
+    Ok(follower)
+}
+
+/// Times the three kinds of events, and prints a line.
+fn time_follower<R: Clock + Print + AllocGlobal, F: Follower + Drop, L: Ledger>(
+    rt: &R,
+    what: &str,
+    follower: F,
+    places: Places,
+    steps: &mut Steps<L>,
+) -> Result<()> {
+    print!(rt; "{what} {}", follower.size())?;
+    let follower = time_events(rt, follower, EventKind::Insert, places, steps)?;
+    let follower = time_events(rt, follower, EventKind::Remove, places, steps)?;
+    let _follower = time_events(rt, follower, EventKind::Change, places, steps)?;
+    println!(rt; "")?;
+    Ok(())
+}
+
+/// Times watches by what they show, each over the one before, and prints a line.
+fn time_watches<R: Clock + Print + AllocGlobal, L: Ledger>(
+    rt: &R,
+    what: &str,
+    shown: &[Shown],
+    size: u32,
+    steps: &mut Steps<L>,
+) -> Result<()> {
+    let table = numbers::table(rt.alloc(), size)?;
+    let chain = watch_chain(rt.alloc(), table, shown)?;
+    time_follower(rt, what, chain, Places::Anywhere, steps)
+}
+
+/// Times what follows the events of a table of so many rows, and prints a line for each.
+fn time_all<R: Clock + Print + AllocGlobal, L: Ledger>(
+    rt: &R,
+    size: u32,
+    steps: &mut Steps<L>,
+) -> Result<()> {
+    let chain = [
+        Shown::LowerAmounts,
+        Shown::ByNumber,
+        Shown::LowerNumbers,
+        Shown::ByAmount,
+    ];
+    time_watches(rt, "selection", &[Shown::LowerAmounts], size, steps)?;
+    time_watches(rt, "sorting", &[Shown::ByAmount], size, steps)?;
+    time_watches(rt, "chain_of_2", &chain[..2], size, steps)?;
+    time_watches(rt, "chain_of_3", &chain[..3], size, steps)?;
+    time_watches(rt, "chain_of_4", &chain, size, steps)?;
+    let counts = count_numbers(rt.alloc(), numbers::table(rt.alloc(), size)?)?;
+    time_follower(rt, "counts", counts, Places::Anywhere, steps)?;
+    let index = index_keys(rt.alloc(), size, Keys::Scattered)?;
+    time_follower(rt, "index", index, Places::Anywhere, steps)?;
+    let index = index_keys(rt.alloc(), size, Keys::Ascending)?;
+    time_follower(rt, "index_end", index, Places::Last, steps)
+}
+
+/// Times all, at each number of rows, with a counter of steps made of a blank ledger.
+fn time_each_size<R: Clock + Print + AllocGlobal, L: Ledger>(rt: &R, blank: Blank) -> Result<()>
+    requires name { blank.name ≡ L.name }
+    requires parts { blank.parts ≡ L.parts }
+    requires some { 0 < blank.parts }
+{
+    let mut steps = Steps::<L>::new(blank);
+    time_all(rt, 50_000, &mut steps)?;
+    time_all(rt, 1_000_000, &mut steps)
+}
+
+/// Times what follows events, over 50,000 rows and over a million.
+pub fn measure_all<R: Clock + Print + AllocGlobal>(rt: &R) -> Result<()> {
+    time_each_size::<R, Brand>(rt, Blank::new(1))
+}

@@ -1,0 +1,69 @@
+//! Chains of watches, and what they show.
+
+use super::followed::{Followed, begin, put};
+use super::numbers::{AMOUNTS, NUMBERS};
+use crate::operators::rows::name;
+use anyhow::Result;
+use live::{Criteria, Keys, WatchOp};
+use mk_value::Value;
+use relations::{Criterion, Key};
+use std::alloc::Global;
+use tables::Table;
+
+/// What a watch shows.
+#[derive(Clone, Copy)]
+pub enum Shown {
+    /// The rows with the lower half of the amounts.
+    LowerAmounts,
+    /// The rows with the lower half of the numbers.
+    LowerNumbers,
+    /// All rows in the order of the amounts.
+    ByAmount,
+    /// All rows in the order of the numbers.
+    ByNumber,
+}
+
+impl Shown {
+    /// It as what is asked of a watch.
+    fn op(self, alloc: Global) -> Result<WatchOp> {
+        match self {
+            Shown::LowerAmounts => lower_half(alloc, b"amount", AMOUNTS),
+            Shown::LowerNumbers => lower_half(alloc, b"number", NUMBERS),
+            Shown::ByAmount => sorted_by(alloc, b"amount"),
+            Shown::ByNumber => sorted_by(alloc, b"number"),
+        }
+    }
+}
+
+/// The rows with the lower half of so many values of a property.
+fn lower_half(alloc: Global, prop: &[u8], values: usize) -> Result<WatchOp> {
+    let mut criteria = Criteria::new(alloc);
+    criteria.push(Criterion {
+        prop: name(prop)?,
+        low: Value::I(0),
+        high: Value::I(i32::try_from(values / 2)?),
+    })?;
+    Ok(WatchOp::Range(criteria))
+}
+
+/// All rows in the order of a property.
+fn sorted_by(alloc: Global, prop: &[u8]) -> Result<WatchOp> {
+    let mut keys = Keys::new(alloc);
+    keys.push(Key {
+        prop: name(prop)?,
+        down: false,
+    })?;
+    Ok(WatchOp::Sort(keys))
+}
+
+/// A table, and a watch for each of what is to be shown, over the one before.
+pub fn watch_chain(alloc: Global, table: Table, shown: &[Shown]) -> Result<Followed> {
+    let mut followed = begin(alloc, table);
+    let mut source = None;
+    for what in shown {
+        let (more, number) = put(followed, source, what.op(alloc)?)?;
+        followed = more;
+        source = Some(number);
+    }
+    Ok(followed)
+}

@@ -1,0 +1,76 @@
+//! A table and the counts of its numbers.
+ghost use Rattle.std.specs.Prelude.{◌≡◌, ◌<◌, ◌∷◌, [], false, length, IfOk};
+ghost use Rattle.mk_value.specs.Tables.{domain_at};
+ghost use Rattle.relations.specs.Fitting.{is_view};
+ghost use Rattle.live_counts.specs.Counting.{AreCounts};
+
+use super::events::is_place;
+use super::follower::{Follower, nanoseconds_since};
+use super::numbers::edit;
+use anyhow::{Context, Result, ensure};
+use live::{Event, Over};
+use live_counts::LiveCounts;
+use mk_value::{Positions, Row, Steps, TableRead};
+use relations::lookup::is_view;
+use std::alloc::Global;
+use std::rt::Clock;
+use std::sync::ledger::Ledger;
+use std::time::Instant;
+use tables::Table;
+
+/// A table, and the counts of its rows by the first property.
+#[derive(Drop)]
+pub struct Counted {
+    table: Table,
+    counts: LiveCounts,
+    ghost now: { AreCounts table.schema table.rows counts },
+}
+
+/// The first column, as the only one, if it is none of views.
+fn first_column(alloc: Global, table: &Table) -> Result<Positions>
+    ensures only { IfOk result (λ columns. columns ≡ 0 ∷ []) }
+    ensures there { IfOk result (λ _. 0 < length table.now.schema) }
+    ensures plain { IfOk result (λ _. is_view (domain_at table.now.schema 0) ≡ false) }
+{
+    let prop = table.schema().as_slice().first().context("no column")?;
+    ensure!(!is_view(&prop.kind), "a column of views");
+    let mut columns = Positions::new(alloc);
+    columns.push(0)?;
+    Ok(columns)
+}
+
+/// A table, and the counts of its numbers.
+pub fn count_numbers(alloc: Global, table: Table) -> Result<Counted> {
+    let columns = first_column(alloc, &table)?;
+    let counts = LiveCounts::make(alloc, &table, columns)?;
+    Ok(Counted { table, counts })
+}
+
+impl Follower for Counted {
+    fn size(&self) -> usize {
+        self.table.size()
+    }
+
+    fn follow<R: Clock, L: Ledger>(
+        self,
+        rt: &R,
+        event: &Event,
+        row: &Row,
+        steps: &mut Steps<L>,
+    ) -> Result<(Counted, f64)> {
+        let Counted {
+            mut table,
+            mut counts,
+        } = self;
+        ensure!(is_place(event, table.size()), "no such row");
+        counts.reserve(1)?;
+        let start = Instant::now(rt)?;
+        counts.before(&Over { rows: &table }, event, steps);
+        let before = nanoseconds_since(rt, &start)?;
+        edit(&mut table, event, row)?;
+        let start = Instant::now(rt)?;
+        counts.after(&Over { rows: &table }, event, steps);
+        let after = nanoseconds_since(rt, &start)?;
+        Ok((Counted { table, counts }, before + after))
+    }
+}

@@ -1,0 +1,30 @@
+//! What follows the events of a table.
+
+use anyhow::Result;
+use live::Event;
+use mk_value::{Row, Steps};
+use std::rt::Clock;
+use std::sync::ledger::Ledger;
+use std::time::Instant;
+
+/// A table, or the keys of one, with what follows its events.
+pub trait Follower {
+    /// The number of rows.
+    fn size(&self) -> usize;
+
+    /// What has followed an event, and the nanoseconds that following took. The row is the one that comes.
+    fn follow<R: Clock, L: Ledger>(
+        self,
+        rt: &R,
+        event: &Event,
+        row: &Row,
+        steps: &mut Steps<L>,
+    ) -> Result<(Self, f64)>
+    where
+        Self: Sized;
+}
+
+/// The nanoseconds since a moment.
+pub fn nanoseconds_since(rt: &impl Clock, start: &Instant) -> Result<f64> {
+    Ok(start.elapsed(rt)?.as_secs_f64() * 1e9)
+}

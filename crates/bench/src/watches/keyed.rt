@@ -1,0 +1,132 @@
+//! An index of keys that no two rows have.
+ghost use Rattle.std.specs.Prelude.{◌<◌, length, slice_set, IsTrue};
+ghost use Rattle.mapped.specs.Index.{AreKeys};
+
+use super::follower::{Follower, nanoseconds_since};
+use anyhow::{Result, bail, ensure};
+use live::Event;
+use mapped::HashIndex;
+use mk_value::{HeldRows, MAX_ROWS, Row, Rows, Steps, Value, rows_fit};
+use std::alloc::Global;
+use std::rt::Clock;
+use std::sync::ledger::Ledger;
+use std::time::Instant;
+use struct_text::parse;
+
+/// How keys follow one another.
+#[derive(Clone, Copy)]
+pub enum Keys {
+    /// Each is greater than all before.
+    Ascending,
+    /// They look random.
+    Scattered,
+}
+
+impl Keys {
+    /// The key of a number. No two have one.
+    fn key(self, alloc: Global, number: u32) -> Result<Row> {
+        let factor = match self {
+            Keys::Ascending => 1,
+            Keys::Scattered => 6_364_136_223_846_793_005,
+        };
+        let key = u64::from(number).wrapping_mul(factor);
+        let mut row = Row::new(alloc);
+        row.push(Value::L(key.cast_signed()))?;
+        Ok(row)
+    }
+}
+
+/// An index, and the keys that come to it.
+#[derive(Drop)]
+pub struct Keyed {
+    alloc: Global,
+    index: HashIndex,
+    keys: Keys,
+    next: u32,
+}
+
+/// An index of so many keys.
+pub fn index_keys(alloc: Global, count: u32, keys: Keys) -> Result<Keyed> {
+    let (_, schema) = parse(alloc, "orders[key:L]")?;
+    let mut rows = Rows::new(alloc);
+    for number in 0..count {
+        rows.push(keys.key(alloc, number)?)?;
+    }
+    ensure!(rows_fit(&rows, &schema), "no rows of the schema");
+    let index = HashIndex::make(alloc, &HeldRows::of(schema, rows), 1)?;
+    Ok(Keyed {
+        alloc,
+        index,
+        keys,
+        next: count,
+    })
+}
+
+/// A row with a key that no row has comes in. The nanoseconds that following took.
+fn insert<R: Clock>(rt: &R, index: &mut HashIndex, at: usize, key: Row) -> Result<f64> {
+    ensure!(at <= index.len() && index.len() < MAX_ROWS, "no place");
+    ensure!(index.find(&key).is_none(), "a key that a row has");
+    index.reserve(1)?;
+    let start = Instant::now(rt)?;
+    index.follow(&mapped::Event::Insert(at), Some(key));
+    nanoseconds_since(rt, &start)
+}
+
+/// A row goes. The nanoseconds that following took.
+fn remove<R: Clock>(rt: &R, index: &mut HashIndex, at: usize) -> Result<f64> {
+    if at >= index.len() {
+        bail!("no row");
+    }
+    index.reserve(1)?;
+    let start = Instant::now(rt)?;
+    index.follow(&mapped::Event::Remove(at), None);
+    nanoseconds_since(rt, &start)
+}
+
+/// A row gets a key that no other row has. The nanoseconds that following took.
+fn change<R: Clock>(rt: &R, index: &mut HashIndex, at: usize, key: Row) -> Result<f64> {
+    ensure!(at < index.len(), "no row");
+    ensure!(is_free(index, at, &key), "a key that another row has");
+    index.reserve(1)?;
+    let start = Instant::now(rt)?;
+    index.follow(&mapped::Event::Change(at), Some(key));
+    nanoseconds_since(rt, &start)
+}
+
+/// Whether no row but the one at a position has the key.
+fn is_free(index: &HashIndex, at: usize, key: &Row) -> bool
+    requires { at < length index.now.keys }
+    ensures { IsTrue result → AreKeys (slice_set index.now.keys at key.now) }
+{
+    let _size = index.len();
+    match index.find(key) {
+        Some(row) => row == at,
+        None => true,
+    }
+}
+
+impl Follower for Keyed {
+    fn size(&self) -> usize {
+        self.index.len()
+    }
+
+    /// Of the row the key alone matters here, and that is the next one.
+    fn follow<R: Clock, L: Ledger>(
+        self,
+        rt: &R,
+        event: &Event,
+        _row: &Row,
+        _steps: &mut Steps<L>,
+    ) -> Result<(Keyed, f64)> {
+        let mut keyed = self;
+        let key = keyed.keys.key(keyed.alloc, keyed.next)?;
+        keyed.next = keyed.next.wrapping_add(1);
+        let index = &mut keyed.index;
+        let nanoseconds = match *event {
+            Event::Insert(at) => insert(rt, index, at, key)?,
+            Event::Remove(at) => remove(rt, index, at)?,
+            Event::Change(at) => change(rt, index, at, key)?,
+        };
+        Ok((keyed, nanoseconds))
+    }
+}
