@@ -5,6 +5,9 @@
 #![tactic(auto)]
 
 mod counted;
+#[cfg(test)]
+mod filter_streams;
+mod filtered;
 mod followed;
 #[cfg(test)]
 mod streams;

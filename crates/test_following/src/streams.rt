@@ -14,13 +14,13 @@ use struct_text::parse;
 
 /// Numbers that follow from the first.
 #[derive(Drop)]
-struct Numbers {
-    state: u64,
+pub(crate) struct Numbers {
+    pub(crate) state: u64,
 }
 
 impl Numbers {
     /// The next number below a bound.
-    fn below(&mut self, bound: usize) -> usize
+    pub(crate) fn below(&mut self, bound: usize) -> usize
         requires { 0 < bound }
         ensures { result < bound }
     {
@@ -98,7 +98,7 @@ fn chain(alloc: Global, table: HeldRows, ops: &[usize]) -> Result<Followed, Fail
 }
 
 /// An event that may happen to so many rows.
-fn event(numbers: &mut Numbers, size: usize) -> Event {
+pub(crate) fn event(numbers: &mut Numbers, size: usize) -> Event {
     if size == 0 {
         return Event::Insert(0);
     }
