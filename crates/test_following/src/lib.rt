@@ -10,4 +10,7 @@ mod filter_streams;
 mod filtered;
 mod followed;
 #[cfg(test)]
+mod line_streams;
+mod lined;
+#[cfg(test)]
 mod streams;

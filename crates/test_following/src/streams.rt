@@ -33,7 +33,7 @@ impl Numbers {
 }
 
 /// A row of two numbers below five, so that many rows tie and many are the same.
-fn row(alloc: Global, numbers: &mut Numbers) -> Result<Row, Fail> {
+pub(crate) fn row(alloc: Global, numbers: &mut Numbers) -> Result<Row, Fail> {
     let mut row = Row::new(alloc);
     row.push(Value::I(numbers.below(5) as i32))?;
     row.push(Value::I(numbers.below(5) as i32))?;
@@ -41,7 +41,7 @@ fn row(alloc: Global, numbers: &mut Numbers) -> Result<Row, Fail> {
 }
 
 /// A table of a few rows.
-fn table(alloc: Global, numbers: &mut Numbers) -> Result<HeldRows, Fail> {
+pub(crate) fn table(alloc: Global, numbers: &mut Numbers) -> Result<HeldRows, Fail> {
     let (_, schema) = parse(alloc, "t[a:I,b:I]")?;
     let mut rows = Rows::new(alloc);
     for _ in 0..numbers.below(6) {
@@ -74,7 +74,7 @@ fn sort(alloc: Global, name: &str, down: bool) -> Result<WatchOp, Fail> {
 }
 
 /// One of six operators.
-fn op(alloc: Global, which: usize) -> Result<WatchOp, Fail> {
+pub(crate) fn op(alloc: Global, which: usize) -> Result<WatchOp, Fail> {
     match which {
         0 => range(alloc, "a[x:I]", 1, 3),
         1 => range(alloc, "b[x:I]", 2, 2),
