@@ -17,7 +17,7 @@ use Rattle.derived.specs.Refusals.{counts_due}
 use Rattle.relations.specs.Rows.{domain_of, is_among, once, properties_of, values_of}
 use Rattle.relations.specs.Sorting.{put, sorted}
 use Rattle.relations.proofs.Headings.{heading_of_names, once_distinct, once_some}
-use Rattle.grouping.specs.Groups.{counted_keys}
+use Rattle.grouping.specs.Groups.{counted_key, counted_keys}
 use Rattle.grouping.specs.Index.{keys_of, positions_of}
 use Rattle.relations.specs.WholeOrder.{whole_row_cmp}
 use Rattle.relations.proofs.Ascending.{IsIn, in_at, place_of}
@@ -144,3 +144,10 @@ pub counted_table : (t : Table) (keys : List (List ℕ)) (count : List ℕ) (sch
 counted_table t keys count schema rows whole plain e f =
     let g = f ∙ sym (counted_are t keys count whole plain) in
     λ i. record { schema = e i; rows = g i }
+
+-- there are as many counts as distinct keys
+pub counts_long : (t : Table) (keys : List (List ℕ)) (count : List ℕ) → AreRowsOf t.rows t.schema → a_view t.schema keys ≡ None
+    → length (keys_of (map (values_of t.schema (once keys)) t.rows)) ≡ length (counts keys count t).rows
+counts_long t keys count whole plain =
+    let keyed = map (values_of t.schema (once keys)) t.rows in
+    sym (ap (λ (rows : List (List Datum)). length rows) (counted_are t keys count whole plain) ∙ length-map (keys_of keyed) (counted_key keyed))

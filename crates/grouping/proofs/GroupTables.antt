@@ -23,7 +23,7 @@ use Rattle.relations.specs.Rows.{has, domain_of, is_among, once, others, propert
 use Rattle.relations.proofs.Headings.{heading_of_names, once_distinct, once_some, others_here, others_distinct}
 use Rattle.relations.proofs.Projections.{none_left_is}
 use Rattle.relations.proofs.Wholes.{rows_at_fit}
-use Rattle.grouping.specs.Groups.{grouped_keys}
+use Rattle.grouping.specs.Groups.{grouped_key, grouped_keys}
 use Rattle.grouping.specs.Index.{keys_of, positions_of}
 use Rattle.relations.proofs.Ascending.{in_at}
 use Rattle.grouping.proofs.CountTables.{keys_behind}
@@ -190,3 +190,11 @@ grouped_table t keys sub columns schema rows whole plain own e f =
     let h = e ∙ ap last (sym (others_once t.schema keys)) in
     let g = f ∙ sym (grouped_are t keys sub columns whole plain own) in
     λ i. record { schema = h i; rows = g i }
+
+-- there are as many groups as distinct keys
+pub groups_long : (t : Table) (keys : List (List ℕ)) (sub : List ℕ) → AreRowsOf t.rows t.schema → a_view t.schema keys ≡ None
+    → length (keys_of (map (values_of t.schema (once keys)) t.rows)) ≡ length (group_by keys sub t).rows
+groups_long t keys sub whole plain =
+    let keyed = map (values_of t.schema (once keys)) t.rows in
+    let columns = map (column_of t.schema) (others t.schema keys) in
+    sym (ap (λ (rows : List (List Datum)). length rows) (grouped_are t keys sub columns whole plain refl) ∙ length-map (keys_of keyed) (grouped_key columns t.rows keyed))

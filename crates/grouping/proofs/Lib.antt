@@ -2,8 +2,10 @@ pub mod Agreeing
 pub mod Ascending
 pub mod CountTables
 pub mod DistinctRows
+pub mod Covers
 pub mod Duplicates
 pub mod Entries
+pub mod Found
 pub mod GroupTables
 pub mod Indexes
 pub mod KeyColumns

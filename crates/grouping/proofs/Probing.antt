@@ -1,16 +1,18 @@
 -- A key of a table beside the values of a row: one column further.
-use Rattle.std.proofs.Common.{◌≡◌, ℕ, ◌+◌, ◌<◌, pos, true, false, List, [], ◌∷◌, length, get_or, map, drop, min, All, ap, sym, ◌∙◌, arith}
+use Rattle.std.proofs.Common.{◌≡◌, ℕ, ◌+◌, ◌<◌, pos, true, false, List, [], ◌∷◌, length, get_or, map, drop, min, All, refl, ap, sym, ◌∙◌, arith}
 use Rattle.std.specs.declared.cmp.Ordering.{Ordering}
-use Rattle.std.specs.Ordering.{is_ne, nat_cmp}
+use Rattle.std.specs.Ordering.{int_cmp, is_ne, nat_cmp}
+use Rattle.std.specs.Cmp.Lexicographic.{slice_cmp}
 use Rattle.std.proofs.lemmas.List.{get_or-map, length-map}
 use Rattle.mk_value.specs.Heading.{Attribute}
-use Rattle.mk_value.specs.Data.{Datum, integer, AreRowsOf, cell}
+use Rattle.mk_value.specs.Data.{Datum, integer, long, text, bytes, relation, AreRowsOf, cell}
 use Rattle.mk_value.specs.Lending.{Lends}
 use Rattle.mk_value.specs.declared.table.Lent.{Lent}
+use Rattle.mk_value.specs.declared.table.Lent.TheVariants.{I, L, S, B, V}
 use Rattle.mk_value.specs.Values.{datum_of}
 use Rattle.mk_value.specs.declared.value.Value.{Value}
 use Rattle.mk_value.proofs.Walks.{drop_map_read, map_read, same_default}
-use Rattle.relations.specs.Cells.{lent_cmp}
+use Rattle.relations.specs.Cells.{lent_cmp, lents_cmp}
 use Rattle.relations.specs.Columns.{values_at}
 use Rattle.relations.specs.Keys.{IsPlainColumn}
 use Rattle.relations.specs.WholeOrder.{whole_cmp, whole_row_cmp}
@@ -68,3 +70,16 @@ place_here rows keys columns at view p =
     let long = ap (λ (ks : List (List Datum)). length ks) view in
     let own = length-map rows (values_at columns) in
     omega arith
+
+-- two values that are lent compare as the one does with the other
+pub lents_lent : (one two : Lent) (d : Datum) → Lends two d → lents_cmp one two ≡ lent_cmp one d
+lents_lent (I n) (I m) (integer z) h = ap (int_cmp n) h
+lents_lent (L n) (L m) (long z) h = ap (int_cmp n) h
+lents_lent (S x) (S y) (text z) h = ap (slice_cmp nat_cmp x.now) h
+lents_lent (B x) (B y) (bytes z) h = ap (slice_cmp nat_cmp x.now) h
+lents_lent _ (I m) (integer z) h = refl
+lents_lent _ (L m) (long z) h = refl
+lents_lent _ (S y) (text z) h = refl
+lents_lent _ (B y) (bytes z) h = refl
+lents_lent _ (V count) (relation r) h = refl
+lents_lent _ _ _ h = absurd h

@@ -1,5 +1,5 @@
 -- What an index of rows tells of them.
-use Rattle.std.specs.Prelude.{◌≡◌, ℕ, zero, suc, ◌<◌, Bool, true, not, if◌then◌else◌, List, [], ◌∷◌, ◌++◌, length, map, filter, slice_index, slice_index_or, All, Contains}
+use Rattle.std.specs.Prelude.{◌≡◌, ℕ, zero, suc, ◌<◌, ◌≤◌, Bool, true, not, if◌then◌else◌, List, [], ◌∷◌, ◌++◌, length, map, filter, slice_index, slice_index_or, All, Contains}
 use Rattle.std.specs.declared.cmp.Ordering.{Ordering}
 use Rattle.std.specs.declared.cmp.Ordering.TheVariants.{Less}
 use Rattle.std.specs.Ordering.{nat_cmp, ordering_then, is_lt}
@@ -56,6 +56,12 @@ pub record IsIndexOf (rows : List (List Datum)) (order starts : List ℕ) : Type
 -- the number of distinct rows that are less than this one
 abbrev pub keys_less : List (List Datum) → List Datum → ℕ
 keys_less rows row = length (filter (λ key. is_lt (whole_row_cmp key row)) (keys_of rows))
+
+-- positions of keys, among whose keys each of the first n is
+pub record Cover (keys : List (List Datum)) (n : ℕ) (positions : List ℕ) : Type 0 where
+  pub few : length positions ≤ n
+  pub within : All (λ i. i < length keys) positions
+  pub each : (i : ℕ) → i < n → (k : ℕ) × Contains positions k × (slice_index_or keys k [] ≡ slice_index_or keys i [])
 
 -- the numbers below n
 abbrev pub numbers : ℕ → List ℕ

@@ -44,7 +44,7 @@ pub fn counts<T: TableRead + Same + Drop>(
 }
 
 /// Answers the first refusal that counting is due, which the rows have no part in.
-fn check_counts(schema: &Schema, keys: &[Name], count: &Name) -> Result<(), DerivedError>
+pub(crate) fn check_counts(schema: &Schema, keys: &[Name], count: &Name) -> Result<(), DerivedError>
     ensures { result_err result ≡ counts_due keys.now count.now (record { schema = schema.now; rows = [] }) }
 {
     if is_among(keys, count) {

@@ -50,7 +50,7 @@ pub fn group_by<T: TableRead + Same + Drop>(
 }
 
 /// Answers the first refusal that grouping is due, which the rows have no part in.
-fn check_group_by(schema: &Schema, keys: &[Name], sub: &Name) -> Result<(), DerivedError>
+pub(crate) fn check_group_by(schema: &Schema, keys: &[Name], sub: &Name) -> Result<(), DerivedError>
     ensures { result_err result ≡ group_by_due keys.now sub.now (record { schema = schema.now; rows = [] }) }
 {
     let _width = schema.len();

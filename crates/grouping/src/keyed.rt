@@ -4,6 +4,7 @@ ghost use Rattle.relations.specs.Refusals.{a_view, absent};
 ghost use Rattle.relations.specs.Rows.{once, others, properties_of, values_of};
 
 use crate::key_index::KeyIndex;
+use crate::keys::TableKeys;
 use derived::Derived;
 use mk_value::{Memory, Name, Props, Same, Schema, TableRead};
 use relations::{named_columns, other_columns, properties_in};
@@ -43,4 +44,18 @@ pub(crate) fn key_index<'a, T: TableRead + Same + Drop>(
 {
     let columns = named_columns(alloc, table.schema(), keys)?;
     KeyIndex::new(alloc, table, columns)
+}
+
+/// The keys of all rows.
+pub(crate) fn table_keys<'a, T: TableRead + Same + Drop>(
+    alloc: Global,
+    table: &'a Derived<T>,
+    keys: &[Name],
+) -> Result<TableKeys<'a, Derived<T>>, Memory>
+    requires named { absent table.now.schema keys.now ≡ None }
+    requires plain { a_view table.now.schema keys.now ≡ None }
+    ensures { IfOk result (λ keyed. keyed ≡ map (values_of table.now.schema (once keys.now)) table.now.rows) }
+{
+    let columns = named_columns(alloc, table.schema(), keys)?;
+    Ok(TableKeys::of(table, columns))
 }

@@ -38,7 +38,7 @@ mutual
 pub same_row_is : (a b : List Datum) → same_row a b ≡ is_eq (whole_row_cmp a b)
 same_row_is = lists_ties whole_cmp same_is
 
-equal_from_is : (o : Ordering) → is_eq o ≡ true → o ≡ Equal
+pub equal_from_is : (o : Ordering) → is_eq o ≡ true → o ≡ Equal
 equal_from_is Less e = absurd (false≢true e)
 equal_from_is Equal e = refl
 equal_from_is Greater e = absurd (false≢true e)

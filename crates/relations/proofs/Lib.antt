@@ -5,6 +5,7 @@ pub mod Cells
 pub mod Equal
 pub mod Faults
 pub mod Filtering
+pub mod Firsts
 pub mod Fitting
 pub mod Halving
 pub mod Headings
@@ -17,6 +18,7 @@ pub mod PlainKeys
 pub mod Projections
 pub mod RowOrder
 pub mod SameSchemas
+pub mod Scans
 pub mod Spelled
 pub mod Walked
 pub mod Wholes

@@ -3,12 +3,14 @@ pub mod Cells
 pub mod Columns
 pub mod Criteria
 pub mod Equality
+pub mod Firsts
 pub mod Fitting
 pub mod Keys
 pub mod OrderLaws
 pub mod Positions
 pub mod Refusals
 pub mod Rows
+pub mod Scanning
 pub mod Searching
 pub mod Sorting
 pub mod WholeOrder

@@ -1,8 +1,8 @@
-//! The order of a value that is lent beside another value.
+//! The order of a value that is lent beside another value, or another that is lent.
 ghost use Rattle.std.specs.Prelude.{◌≡◌};
 ghost use Rattle.mk_value.specs.Order.{kind_rank};
 ghost use Rattle.mk_value.specs.Values.{datum_of};
-ghost use Rattle.relations.specs.Cells.{lent_cmp, lent_rank};
+ghost use Rattle.relations.specs.Cells.{lent_cmp, lent_rank, lents_cmp};
 
 use mk_value::{Lent, Value};
 use std::cmp::Ordering;
@@ -18,6 +18,19 @@ pub fn cmp_lent(lent: Lent<'_>, with: &Value) -> Ordering
         (Lent::S(one), Value::S(two)) => one.cmp(two.as_str().as_bytes()),
         (Lent::B(one), Value::B(two)) => one.cmp(two.as_slice()),
         (lent, with) => rank_lent(lent).cmp(&rank(with)),
+    }
+}
+
+/// The order of two values that are lent, as of `cmp_lent`. It takes no memory.
+pub fn cmp_lents(one: Lent<'_>, two: Lent<'_>) -> Ordering
+    ensures { result ≡ lents_cmp one.entry two.entry }
+{
+    match (one, two) {
+        (Lent::I(one), Lent::I(two)) => one.cmp(&two),
+        (Lent::L(one), Lent::L(two)) => one.cmp(&two),
+        (Lent::S(one), Lent::S(two)) => one.cmp(two),
+        (Lent::B(one), Lent::B(two)) => one.cmp(two),
+        (one, two) => rank_lent(one).cmp(&rank_lent(two)),
     }
 }
 

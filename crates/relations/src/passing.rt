@@ -1,14 +1,13 @@
 //! The rows of a table whose values lie within bounds.
 ghost use Rattle.std.specs.Prelude.{◌≡◌, ◌<◌, [], length, slice_index_or, None, IfOk};
-ghost use Rattle.mk_value.specs.Data.{cell};
-ghost use Rattle.mk_value.specs.Tables.{IsComparable, domain_at};
-ghost use Rattle.relations.specs.Criteria.{is_in_range as is_row_in_range, is_within as is_value_within};
+ghost use Rattle.relations.specs.Criteria.{is_in_range as is_row_in_range};
 ghost use Rattle.relations.specs.Positions.{AreResolved, first_passing, passing};
 ghost use Rattle.relations.specs.Refusals.{range_due};
 
 use crate::columns::Columns;
 use crate::criteria::Criterion;
 use crate::lookup::column;
+use crate::scanning::{Window, first_lead, is_within, passes_by};
 use mk_value::{Memory, Positions, Schema, TableRead};
 use std::alloc::Global;
 
@@ -36,7 +35,7 @@ pub fn find<T: TableRead>(
     ensures { IfOk result (λ found. found ≡ first_passing (is_row_in_range (T.schema table.now) criteria.now) (T.rows table.now) start) }
 {
     let columns = columns_of(alloc, table.schema(), criteria)?;
-    Ok(first_from(table, &columns, criteria, start))
+    first_from(alloc, table, &columns, criteria, start)
 }
 
 /// Whether the values of a row lie at or between the bounds of the criteria. It takes no memory, and looks each name up.
@@ -81,9 +80,11 @@ fn passing_positions<T: TableRead>(
     requires { AreResolved (T.schema table.now) criteria.now columns.now }
     ensures { IfOk result (λ positions. positions ≡ passing (is_row_in_range (T.schema table.now) criteria.now) [] (T.rows table.now)) }
 {
+    let lead = first_lead(criteria);
+    let mut window = Window::new(alloc, table)?;
     let mut positions = Positions::new(alloc);
     for row in 0..table.size() {
-        if !passes(table, columns, criteria, row) {
+        if !passes_by(table, columns, criteria, lead, &mut window, row) {
             continue;
         }
         positions.push(row as u32)?;
@@ -93,51 +94,21 @@ fn passing_positions<T: TableRead>(
 
 /// The first row from a start on that lies within the bounds.
 fn first_from<T: TableRead>(
+    alloc: Global,
     table: &T,
     columns: &Columns,
     criteria: &[Criterion],
     start: usize,
-) -> Option<usize>
+) -> Result<Option<usize>, Memory>
     requires { AreResolved (T.schema table.now) criteria.now columns.now }
-    ensures { result ≡ first_passing (is_row_in_range (T.schema table.now) criteria.now) (T.rows table.now) start }
+    ensures { IfOk result (λ found. found ≡ first_passing (is_row_in_range (T.schema table.now) criteria.now) (T.rows table.now) start) }
 {
+    let lead = first_lead(criteria);
+    let mut window = Window::new(alloc, table)?;
     for row in start..table.size() {
-        if passes(table, columns, criteria, row) {
-            return Some(row);
+        if passes_by(table, columns, criteria, lead, &mut window, row) {
+            return Ok(Some(row));
         }
     }
-    None
-}
-
-/// Whether a row lies within the bounds.
-pub(crate) fn passes<T: TableRead>(
-    table: &T,
-    columns: &Columns,
-    criteria: &[Criterion],
-    row: usize,
-) -> bool
-    requires resolved { AreResolved (T.schema table.now) criteria.now columns.now }
-    requires row_in { row < length (T.rows table.now) }
-    ensures { result ≡ is_row_in_range (T.schema table.now) criteria.now (slice_index_or (T.rows table.now) row []) }
-{
-    let columns = columns.as_slice();
-    for at in 0..criteria.len() {
-        let criterion = &criteria[at];
-        if !is_within(table, row, columns[at], criterion) {
-            return false;
-        }
-    }
-    true
-}
-
-/// Whether a value lies within the bounds of a criterion.
-fn is_within<T: TableRead>(table: &T, row: usize, col: usize, criterion: &Criterion) -> bool
-    requires row_in { row < length (T.rows table.now) }
-    requires col_in { col < length (T.schema table.now) }
-    requires low { IsComparable criterion.now.low (domain_at (T.schema table.now) col) }
-    requires high { IsComparable criterion.now.high (domain_at (T.schema table.now) col) }
-    ensures { result ≡ is_value_within criterion.now (cell (T.rows table.now) row col) }
-{
-    table.cmp_cell(row, col, &criterion.low).is_ge()
-        && table.cmp_cell(row, col, &criterion.high).is_le()
+    Ok(None)
 }

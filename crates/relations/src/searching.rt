@@ -2,13 +2,16 @@
 ghost use Rattle.std.specs.Prelude.{◌≡◌, ◌<◌, ◌≤◌, [], count_by, length, map, take, slice_index_or, None, IfOk};
 ghost use Rattle.std.specs.List.Sorted.{IsSorted};
 ghost use Rattle.relations.specs.Criteria.{is_in_range};
+ghost use Rattle.relations.specs.Positions.{AreResolved};
 ghost use Rattle.relations.specs.Refusals.{range_due};
 ghost use Rattle.relations.specs.Searching.{asked_cmp, rows_before};
 ghost use Rattle.relations.specs.Sorting.{row_cmp};
 
+use crate::columns::Columns;
 use crate::criteria::{Criterion, Key};
 use crate::lookup::column;
-use crate::passing::{columns_of, passes};
+use crate::passing::columns_of;
+use crate::scanning::{Window, first_lead, passes_by};
 use crate::sorting::turned;
 use mk_value::{Memory, TableRead};
 use std::alloc::Global;
@@ -24,9 +27,24 @@ pub fn count_equal<T: TableRead>(
     ensures { IfOk result (λ count. count ≡ count_by (is_in_range (T.schema table.now) criteria.now) (T.rows table.now)) }
 {
     let columns = columns_of(alloc, table.schema(), criteria)?;
+    count_passing(alloc, table, &columns, criteria)
+}
+
+/// The number of rows that lie within the bounds.
+fn count_passing<T: TableRead>(
+    alloc: Global,
+    table: &T,
+    columns: &Columns,
+    criteria: &[Criterion],
+) -> Result<usize, Memory>
+    requires { AreResolved (T.schema table.now) criteria.now columns.now }
+    ensures { IfOk result (λ count. count ≡ count_by (is_in_range (T.schema table.now) criteria.now) (T.rows table.now)) }
+{
+    let lead = first_lead(criteria);
+    let mut window = Window::new(alloc, table)?;
     let mut count = 0;
     for row in 0..table.size() {
-        if passes(table, &columns, criteria, row) {
+        if passes_by(table, columns, criteria, lead, &mut window, row) {
             count += 1;
         }
     }

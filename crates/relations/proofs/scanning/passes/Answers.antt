@@ -1,6 +1,6 @@
 use Rattle.std.proofs.Common.{get_or, ap, sym, ◌∙◌}
 use Rattle.relations.proofs.Asking.{within, outside}
-use Rattle.relations.proofs.passing.passes.Goals as goal
+use Rattle.relations.proofs.scanning.passes.Goals as goal
 
 pub returns-then-not-is_within : goal.returns-then-not-is_within
 returns-then-not-is_within g c =

@@ -1,7 +1,0 @@
-use Rattle.std.proofs.Common.{◌≡◌, take}
-use Rattle.std.specs.List.{count_by}
-use Rattle.relations.specs.Criteria.{is_in_range}
-use Rattle.relations.proofs.searching.count_equal.Given as goal
-
-abbrev pub invariant-loop-row : goal.invariant-loop-row
-invariant-loop-row g l = l.count ≡ count_by (is_in_range (g.T.TableRead.schema l.table) l.criteria) (take l.row (g.T.TableRead.rows l.table))
