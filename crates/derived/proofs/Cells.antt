@@ -1,12 +1,12 @@
 -- The cells of tables that are made of others.
-use Rattle.std.proofs.Common.{◌≡◌, ℕ, zero, suc, ◌-◌, ◌<◌, ◌≤◌, pos, List, [], ◌∷◌, ◌++◌, length, get_or, map, refl, ap, sym, ◌∙◌, arith}
-use Rattle.std.proofs.lemmas.List.{length-map, length-append, get_or-map, get_or_append_left, get_or-append_right}
+use Rattle.std.proofs.Common.{◌≡◌, ℕ, zero, suc, ◌<◌, pos, List, [], ◌∷◌, length, get_or, map, refl, ap, sym, ◌∙◌, arith}
+use Rattle.std.proofs.lemmas.List.{length-map, get_or-map}
 use Rattle.mk_value.specs.Heading.{Domain, Attribute}
-use Rattle.mk_value.specs.Data.{Datum, integer, AreRowsOf, IsRowOf, IsOf, cell}
-use Rattle.mk_value.specs.Tables.{domain_at, IsPlainDomain, IsComparable}
-use Rattle.mk_value.proofs.Relations.{row_fits_length}
+use Rattle.mk_value.specs.Data.{Datum, integer, cell}
+use Rattle.mk_value.specs.Tables.{column_numbers, domain_at}
 use Rattle.derived.specs.Layers.{Layered}
 use Rattle.relations.specs.Columns.{AreColumns, values_at}
+use Rattle.derived.proofs.Fills.{same_numbers}
 
 -- of columns
 pub cell_columns : (rows : List (List Datum)) (columns : List ℕ) (i j k : ℕ) → i < length rows → j < length columns → k ≡ get_or columns j 0 → cell (map (values_at columns) rows) i j ≡ cell rows i k
@@ -67,14 +67,35 @@ module _ (base v d : Layered) (columns read : List ℕ) (properties : List Attri
       ∙ domain_columns base.schema columns properties col (get_or read col 0) h col_in_columns (ap (λ js. get_or js col 0) as_read)
       ∙ ap (λ (t : Layered). domain_at t.schema (get_or read col 0)) (sym same)
 
--- Of a table with more rows behind it, v is what is seen, and d is the table that is read.
-module _ (base v : Layered) (more : List (List Datum)) (l row col : ℕ) (seen : record { schema = base.schema; rows = base.rows ++ more; layers = l } ≡ v) where
-  pub before_cell : (d : Layered) → d ≡ base → row < length d.rows → cell v.rows row col ≡ cell d.rows row col
-  before_cell d e p =
-      let r = ap (λ (t : Layered). length t.rows) e in
-      ap (λ (t : Layered). cell t.rows row col) (sym seen) ∙ ap (λ (r : List Datum). get_or r col (integer (pos 0))) (get_or_append_left base.rows more [] row (omega arith))
-      ∙ ap (λ (t : Layered). cell t.rows row col) (sym e)
+-- the numbers of a column, read in the table that has it
+pub column_fills : (base v d : Layered) (columns read : List ℕ) (properties : List Attribute) (l col : ℕ) → record { schema = properties; rows = map (values_at columns) base.rows; layers = l } ≡ v
+    → AreColumns base.schema columns properties → col < length v.schema → d ≡ base → read ≡ columns → column_numbers v.rows col ≡ column_numbers d.rows (get_or read col 0)
+column_fills base v d columns read properties l col seen h col_in same as_read =
+    let long = ap (λ (t : Layered). length t.rows) seen in
+    let all = length-map base.rows (values_at columns) in
+    let own = ap (λ (t : Layered). length t.rows) same in
+    same_numbers v.rows d.rows col (get_or read col 0) (omega arith) (λ row p. column_cell base v d columns read properties l row col seen h p col_in same as_read)
 
-  pub behind_cell : (n : ℕ) → n ≡ length base.rows → n ≤ row → cell v.rows row col ≡ cell more (row - n) col
-  behind_cell n e p =
-      ap (λ (t : Layered). cell t.rows row col) (sym seen) ∙ ap (λ (r : List Datum). get_or r col (integer (pos 0))) (get_or-append_right base.rows more n row [] (sym e) p)
+module _ (base v d : Layered) (columns read : List ℕ) (properties : List Attribute) (l col : ℕ) (seen : record { schema = properties; rows = map (values_at columns) base.rows; layers = l } ≡ v)
+    (h : AreColumns base.schema columns properties) (col_in : col < length v.schema) (same : d ≡ base) (as_read : read ≡ columns) where
+  within : col < length columns
+  within =
+      let e = ap (λ (t : Layered). length t.schema) seen in
+      let m = columns_length base.schema columns properties h in
+      omega arith
+
+  pub column_place : (get_or read col 0 < length d.schema) × (length d.rows ≡ length v.rows)
+  column_place =
+      let s = ap (λ (t : Layered). length t.schema) same in
+      let k = h.in_range col 0 within in
+      let e = ap (λ js. get_or js col 0) as_read in
+      let r = ap (λ (t : Layered). length t.rows) same in
+      let m = length-map base.rows (values_at columns) in
+      let long = ap (λ (t : Layered). length t.rows) seen in
+      (omega arith, omega arith)
+
+  pub column_kind : domain_at v.schema col ≡ domain_at d.schema (get_or read col 0)
+  column_kind =
+      ap (λ (t : Layered). domain_at t.schema col) (sym seen)
+      ∙ domain_columns base.schema columns properties col (get_or read col 0) h within (ap (λ js. get_or js col 0) as_read)
+      ∙ ap (λ (t : Layered). domain_at t.schema (get_or read col 0)) (sym same)

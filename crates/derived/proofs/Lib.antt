@@ -1,4 +1,7 @@
+pub mod Besides
 pub mod Cells
+pub mod Chains
+pub mod Fills
 pub mod Projections
 pub mod Renaming
 pub mod Selecting

@@ -1,25 +1,17 @@
 -- Tables without some of their properties.
-use Rattle.std.proofs.Common.{◌≡◌, ℕ, ◌+◌, ◌<◌, Bool, true, false, not, cond, ◌||◌, List, [], ◌∷◌, ◌++◌, length, get_or, map, take, All, Option, Some, None, refl, ap, sym, subst, ◌∙◌, arith}
-use Rattle.std.specs.List.{filter, list_any, slice_get}
+use Rattle.std.proofs.Common.{◌≡◌, ℕ, ◌<◌, false, not, List, [], ◌∷◌, length, get_or, map, All, Option, Some, None, refl, ap, sym, subst, ◌∙◌, arith}
+use Rattle.std.specs.List.{list_any, slice_get}
 use Rattle.std.proofs.lemmas.Bool.{false≢true}
-use Rattle.std.proofs.lemmas.List.{map-append, take_more, append-nil}
-use Rattle.std.proofs.lemmas.List.Elements.{All-head, All-tail, All-map, All-weaker, filter-append}
-use Rattle.mk_value.specs.Names.{same_bytes}
-use Rattle.mk_value.specs.Heading.{Domain, Attribute, names_of, HaveDistinctNames, IsHeading}
-use Rattle.mk_value.specs.Data.{Datum}
-use Rattle.mk_value.specs.Tables.{Table, domain_at}
-use Rattle.relations.specs.Columns.{column_of, properties_at, values_at, AreColumns}
-use Rattle.relations.specs.Rows.{only}
-use Rattle.relations.specs.Rows.{has, is_among, once, others, properties_of, values_of}
+use Rattle.mk_value.specs.Heading.{Attribute, IsHeading}
+use Rattle.relations.specs.Columns.{column_of, properties_at}
+use Rattle.relations.specs.Rows.{is_among, others}
 use Rattle.relations.specs.Refusals.{absent, none_left}
 use Rattle.derived.specs.Refusals.{without_due}
 use Rattle.relations.specs.declared.error.DerivedError.{DerivedError}
-use Rattle.relations.specs.declared.error.DerivedError.TheVariants.{NoProp}
 use Rattle.std.specs.Option.{option_or}
 use Rattle.std.proofs.lemmas.Option.{none-some}
-use Rattle.relations.proofs.Headings.{column_here, heading_of_names, once_all, once_distinct, once_some, others_here, others_distinct}
-use Rattle.relations.proofs.Names.{all_present, column_in, value_at_column, property_at_column}
-use Rattle.relations.proofs.Projections.{columns_in, properties_here, none_left_is}
+use Rattle.relations.proofs.Headings.{heading_of_names, others_here, others_distinct}
+use Rattle.relations.proofs.Projections.{columns_in, properties_here}
 
 second : (a b : Option DerivedError) → option_or a (option_or b None) ≡ None → b ≡ None
 second None None h = refl

@@ -1,31 +1,16 @@
 -- Where the bounds of criteria are equal, a value within them is that value.
-use Rattle.std.proofs.Common.{◌≡◌, ℕ, ◌+◌, ◌<◌, pos, Bool, true, false, not, ◌&&◌, List, [], ◌∷◌, length, get_or, map, drop, All, Option, Some, None, refl, ap, sym, subst, ◌∙◌}
+use Rattle.std.proofs.Common.{◌≡◌, ◌&&◌, List, [], ◌∷◌, All, refl, ap, sym, ◌∙◌}
 use Rattle.std.specs.declared.cmp.Ordering.{Ordering}
 use Rattle.std.specs.declared.cmp.Ordering.TheVariants.{Less, Equal, Greater}
 use Rattle.std.specs.Ordering.{is_ge, is_le, is_eq}
-use Rattle.std.specs.Option.{option_or}
-use Rattle.std.proofs.lemmas.Bool.{false≢true}
-use Rattle.std.proofs.lemmas.Option.{none-some}
-use Rattle.std.proofs.lemmas.List.{get_or-map, length-map}
 use Rattle.std.proofs.lemmas.List.Elements.{All-head, All-tail, filter_agree}
-use Rattle.mk_value.specs.Heading.{Domain, Attribute}
-use Rattle.mk_value.specs.Data.{Datum, integer, cell}
+use Rattle.mk_value.specs.Heading.{Attribute}
+use Rattle.mk_value.specs.Data.{Datum}
 use Rattle.mk_value.specs.Order.{value_cmp}
-use Rattle.mk_value.specs.Tables.{Table, domain_at, IsPlainDomain, IsComparable}
-use Rattle.mk_value.proofs.Walks.{drop_read, same_default}
+use Rattle.mk_value.specs.Tables.{Table}
 use Rattle.relations.specs.Criteria.{Interval, is_within, is_in_range, has_values}
-use Rattle.relations.specs.declared.error.DerivedError.{DerivedError}
-use Rattle.relations.specs.declared.error.DerivedError.TheVariants.{WrongKind}
-use Rattle.relations.specs.Fitting.{is_view, fits}
-use Rattle.relations.specs.Columns.{column_of}
-use Rattle.relations.specs.Positions.{AreResolved, IsUsable}
 use Rattle.derived.specs.Operators.{range, select}
-use Rattle.relations.specs.Refusals.{absent, a_view, unfit, range_due}
-use Rattle.relations.specs.Rows.{has, domain_of, value_of}
-use Rattle.relations.proofs.Cells.{comparable}
-use Rattle.relations.proofs.Fitting.{fitting}
-use Rattle.relations.proofs.Names.{column_in, has_at, item_present, item_plain, property_at_column, value_at_column}
-use Rattle.relations.proofs.Faults.{none_refused, not_false}
+use Rattle.relations.specs.Rows.{value_of}
 
 at_or_between : (o : Ordering) → (is_ge o && is_le o) ≡ is_eq o
 at_or_between Less = refl

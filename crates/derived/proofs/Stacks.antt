@@ -1,18 +1,15 @@
 -- What is due where two tables are put under one another.
-use Rattle.std.proofs.Common.{◌≡◌, ◌↔◌, ℕ, ◌+◌, ◌<◌, ◌≤◌, Bool, true, false, not, cond, ◌&&◌, ltb, List, ◌++◌, length, Some, None, IsTrue, refl, ap, sym, ◌∙◌, arith}
-use Rattle.std.specs.Bool.{Decides}
+use Rattle.std.proofs.Common.{◌≡◌, ◌↔◌, ℕ, ◌+◌, ◌<◌, ◌≤◌, Bool, true, false, not, cond, ltb, List, ◌++◌, length, Some, None, IsTrue, refl, ap, sym, ◌∙◌, arith}
 use Rattle.std.specs.Option.{option_or}
-use Rattle.std.specs.Cmp.Lexicographic.{pointwise_decides, bytes_decides}
 use Rattle.std.proofs.lemmas.Bool.{false≢true}
 use Rattle.std.proofs.lemmas.Option.{none-some}
-use Rattle.std.proofs.lemmas.Bool.Decides.{Decides-and, Decides-like, same_from_decides, nat_tests}
+use Rattle.std.proofs.lemmas.Bool.Decides.{nat_tests}
 use Rattle.std.proofs.lemmas.List.{length-append}
 use Rattle.mk_value.specs.Limits.{max_rows}
-use Rattle.mk_value.specs.Names.{same_bytes}
-use Rattle.mk_value.specs.Heading.{Domain, Heading, no_attributes, attribute, Attribute}
+use Rattle.mk_value.specs.Heading.{Attribute}
 use Rattle.mk_value.specs.Tables.{Table}
 use Rattle.relations.specs.declared.error.DerivedError.TheVariants.{OtherSchema, TooManyRows}
-use Rattle.relations.specs.Equality.{same_domain, same_heading, same_schema}
+use Rattle.relations.specs.Equality.{same_schema}
 use Rattle.derived.specs.Refusals.{concat_due}
 use Rattle.relations.proofs.SameSchemas.{same_schema_is, same_schema_tells}
 

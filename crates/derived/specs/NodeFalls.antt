@@ -3,7 +3,7 @@ use Rattle.std.specs.Prelude.{◌≤◌}
 use Rattle.std.proofs.Common.{arith}
 use Rattle.mk_value.specs.declared.table.TableRead.{Ghosts}
 use Rattle.derived.specs.declared.derived.Node.{Node}
-use Rattle.derived.specs.declared.derived.Node.TheVariants.{Leaf, Held, Rows, Columns, Extended}
+use Rattle.derived.specs.declared.derived.Node.TheVariants.{Leaf, Held, Rows, Columns, Stacked, Beside}
 use Rattle.derived.specs.declared.derived.Derived.TheDeep.{deep-Derived, deep-Node}
 use Rattle.derived.specs.declared.derived.Derived.TheInside as derived
 use Rattle.derived.specs.Nodes.{layered}
@@ -13,7 +13,8 @@ node_bound G (Leaf t) = omega arith
 node_bound G (Held h) = omega arith
 node_bound G (Rows base positions) = omega arith
 node_bound G (Columns base columns properties) = omega arith
-node_bound G (Extended base more) = omega arith
+node_bound G (Stacked first size second) = omega arith
+node_bound G (Beside first second columns properties) = omega arith
 
 pub derived_falls : {T : Type 0} (G : Ghosts T) (a : derived.Inside T) → deep-Derived T G a ≤ (layered G.schema G.rows a.node).layers
 derived_falls G a = omega (arith, node_bound G a.node)

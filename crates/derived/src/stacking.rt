@@ -1,19 +1,18 @@
 //! The rows of one table under those of another.
-ghost use Rattle.std.specs.Prelude.{◌≡◌, ◌<◌, [], length, slice_index_or, IfOk};
+ghost use Rattle.std.specs.Prelude.{◌≡◌, IfOk};
 ghost use Rattle.std.specs.Result.{result_err};
-ghost use Rattle.mk_value.specs.Data.{AreRowsOf};
 ghost use Rattle.derived.specs.Layers.{table_of};
 ghost use Rattle.derived.specs.Operators.{concat};
 ghost use Rattle.relations.specs.Answers.{AnswersDue};
 ghost use Rattle.derived.specs.Refusals.{concat_due};
 
 use crate::Derived;
-use crate::derived::extend;
+use crate::derived::stack;
 use mk_value::{MAX_ROWS, Same, TableRead};
-use relations::{DerivedError, copy_rows};
+use relations::DerivedError;
 use std::alloc::Global;
 
-/// The first's rows, then the second's, which are copied.
+/// The first's rows, then the second's. It copies none.
 ///
 /// # Errors
 ///
@@ -27,8 +26,7 @@ pub fn concat<T: TableRead + Same + Drop>(
     ensures ok { IfOk result (λ d. table_of d ≡ concat (table_of a) (table_of b)) }
 {
     check_concat(&a, &b)?;
-    let more = copy_rows(alloc, &b)?;
-    Ok(extend(alloc, a, more)?)
+    Ok(stack(alloc, a, b)?)
 }
 
 /// Answers the first refusal that two tables under one another are due.

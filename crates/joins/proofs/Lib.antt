@@ -1,9 +1,12 @@
 pub mod Counting
 pub mod Defaults
 pub mod KeyTests
+pub mod ListedPairs
 pub mod Listing
 pub mod Matches
 pub mod Names
+pub mod Pairings
+pub mod Placings
 pub mod Rows
 pub mod Sides
 pub mod Unnests

@@ -1,4 +1,5 @@
 pub mod Counted
 pub mod Dues
+pub mod Pairs
 pub mod Partners
 pub mod Sets
