@@ -12,5 +12,5 @@ pub use hashed::{follow_hashed, follow_removal};
 pub use keyed::KeyedEdit;
 pub use laws::{events_raise, keyed_edits_are_lines, keys_are_edited};
 pub use ordered::{put_ordered, set_ordered};
-pub use putting::{put_watch, watch_positions};
+pub use putting::{check_watch, put_watch, watch_positions};
 pub use watching::follow_line;

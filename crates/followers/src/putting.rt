@@ -1,6 +1,7 @@
 //! A watch is put, and its rows are asked for.
-ghost use Rattle.std.specs.Prelude.{◌≡◌, ◌<◌, ◌≤◌, [], All, ℕ, List, length, false, IfOk, IsErr, OnErr, Err};
+ghost use Rattle.std.specs.Prelude.{◌≡◌, ◌<◌, ◌≤◌, [], All, ℕ, List, length, false, None, IfOk, IsErr, OnOk, OnErr, Err};
 ghost use Rattle.std.specs.Option.{ForSome};
+ghost use Rattle.std.specs.Result.{result_err};
 ghost use Rattle.mk_value.specs.Data.{Datum};
 ghost use Rattle.mk_value.specs.Heading.{Attribute};
 ghost use Rattle.mk_value.specs.Limits.{max_rows};
@@ -14,6 +15,27 @@ use live::{WatchError, WatchOp, Watches};
 use mk_value::{Memory, Positions, Schema, TableRead};
 use relations::{DerivedError, check_criteria, check_keys};
 use std::alloc::Global;
+
+/// Whether a watch may be put, whatever memory there is.
+///
+/// # Errors
+///
+/// The refusal that is due, as of `put_watch`.
+pub fn check_watch(
+    watches: &Watches,
+    source: Option<u32>,
+    op: &WatchOp,
+    schema: &Schema,
+    is_full: bool,
+) -> Result<(), WatchError>
+    requires { ForSome source (λ n. place_of watches.now.watches n < length watches.now.watches) }
+    ensures { result_err result ≡ watch_due schema.now op.now (depth watches.now.watches (over_of watches.now.watches source)) is_full }
+{
+    if is_full {
+        return Err(refusal(schema, op));
+    }
+    watches.check(source, op, schema)
+}
 
 /// Puts a watch over the root or over another watch, as [`Watches::put`]; where it would be one too many over all roots it is refused as one
 /// that stands too deep is, after its own refusals.
@@ -33,6 +55,7 @@ pub fn put_watch<T: TableRead>(
     requires now { AreNow (T.schema rows.now) (T.rows rows.now) watches.old.watches }
     ensures due { AnswersPut (watch_due (T.schema rows.now) op (depth watches.old.watches (over_of watches.old.watches source)) is_full) result }
     ensures put { IfOk result (IsPut (T.schema rows.now) (T.rows rows.now) watches.old.watches (over_of watches.old.watches source) op watches.new.watches) }
+    ensures noted { OnOk result (watches.new.noted ≡ None) }
     ensures now { AreNow (T.schema rows.now) (T.rows rows.now) watches.new.watches }
     ensures err { OnErr result (watches.new ≡ watches.old) }
 {

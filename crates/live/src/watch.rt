@@ -80,6 +80,13 @@ impl Watch {
         self.source
     }
 
+    /// What it shows of its source.
+    pub fn op(&self) -> &WatchOp
+        ensures { result.now ≡ self.now.op }
+    {
+        &self.keeper.op
+    }
+
     /// How many rows it shows.
     pub fn len(&self) -> usize
         ensures { result ≡ length self.now.kept }

@@ -1,6 +1,7 @@
 //! All watches of a root.
 ghost use Rattle.std.specs.Prelude.{◌≡◌, ◌≢◌, ◌+◌, ◌<◌, ◌≤◌, [], ℕ, All, IsTrue, ◌↔◌, List, length, slice_index_or, sum_by, None, Some, IfOk, OnOk, OnErr};
 ghost use Rattle.std.specs.Option.{ForSome};
+ghost use Rattle.std.specs.Result.{result_err};
 ghost use Rattle.mk_value.specs.Data.{Datum};
 ghost use Rattle.mk_value.specs.Heading.{Attribute};
 ghost use Rattle.mk_value.specs.Limits.{max_rows};
@@ -25,7 +26,7 @@ use crate::probe::Probe;
 use crate::putting::{check_op, spelled};
 use crate::turn::Turn;
 use crate::watch::Watch;
-use mk_value::{Memory, Steps, TableRead};
+use mk_value::{Memory, Schema, Steps, TableRead};
 use std::alloc::Global;
 use std::marker::Model;
 use std::sync::ledger::Ledger;
@@ -102,6 +103,28 @@ impl Watches {
         push(&mut self.list, Watch::new(number, over, op, kept))?;
         self.noted = None;
         Ok(number)
+    }
+
+    /// Whether a watch may be put, whatever memory there is.
+    ///
+    /// # Errors
+    ///
+    /// The refusal that is due, as of `put`.
+    pub fn check(
+        &self,
+        source: Option<u32>,
+        op: &WatchOp,
+        schema: &Schema,
+    ) -> Result<(), WatchError>
+        requires { ForSome source (λ n. place_of self.now.watches n < length self.now.watches) }
+        ensures { result_err result ≡ put_due schema.now op.now (depth self.now.watches (over_of self.now.watches source)) }
+    {
+        check_op(schema, op)?;
+        let over = place(&self.list, source);
+        if depth_of(&self.list, over) > 3 {
+            return Err(WatchError::TooDeep);
+        }
+        Ok(())
     }
 
     /// Takes out a watch that no watch stands over.
@@ -193,6 +216,31 @@ impl Watches {
         ensures { IsTrue result ↔ (place_of self.now.watches watch < length self.now.watches) }
     {
         is_there(&self.list, watch)
+    }
+
+    /// The number of the watch at a place, in the order in which they were put.
+    pub fn number_at(&self, place: usize) -> u32
+        requires { place < length self.now.watches }
+        ensures { (d : WatchState) → result ≡ (slice_index_or self.now.watches place d).number }
+    {
+        self.list[place].number()
+    }
+
+    /// The place of the source of the watch at a place, or none where that is the root.
+    pub fn source_at(&self, place: usize) -> Option<usize>
+        requires { place < length self.now.watches }
+        ensures source { (d : WatchState) → result ≡ (slice_index_or self.now.watches place d).source }
+        ensures before { ForSome result (λ s. s < place) }
+    {
+        self.list[place].source()
+    }
+
+    /// What the watch at a place shows of its source.
+    pub fn op_at(&self, place: usize) -> &WatchOp
+        requires { place < length self.now.watches }
+        ensures { (d : WatchState) → result.now ≡ (slice_index_or self.now.watches place d).op }
+    {
+        self.list[place].op()
     }
 
     /// How many events a watch has followed since it was put.

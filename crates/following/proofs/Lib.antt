@@ -1,0 +1,12 @@
+pub mod Finding
+pub mod Grouped
+pub mod Holding
+pub mod Listing
+pub mod Naming
+pub mod Numbering
+pub mod Placed
+pub mod Showing
+pub mod Shown
+pub mod Stepping
+pub mod Taken
+pub mod Whole

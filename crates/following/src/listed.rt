@@ -1,0 +1,99 @@
+//! A list of the watches of views: those of a view found, and what is asked of all and done to all.
+ghost use Rattle.std.specs.Prelude.{◌≡◌, ◌<◌, ◌≤◌, ◌++◌, ◌∷◌, [], true, All, length, position, IfOk, Some, OnOk, OnErr};
+ghost use Rattle.std.specs.List.{list_any};
+ghost use Rattle.mk_value.specs.Names.{same_bytes};
+ghost use Rattle.row_edits.specs.Events.{count_all};
+ghost use Rattle.following.specs.Groups.{AreEach, Follows, Stays};
+ghost use Rattle.following.specs.Keeping.{AreKeptOver, HasRoom, HaveRoom, Kept, followed, followed_of};
+ghost use Rattle.following.specs.Watches.{Shown, count, is_among, stands_over};
+
+use crate::followed::Followed;
+use mk_value::{Memory, Name};
+use row_edits::Line;
+use tables::Shared;
+
+/// How many watches there are.
+pub(crate) fn count(list: &[Followed]) -> usize
+    requires { count (followed list.now) ≤ 64 }
+    ensures { result ≡ count (followed list.now) }
+{
+    let mut count = 0;
+    for watches in list {
+        count += watches.len();
+    }
+    count
+}
+
+/// Whether a watch has the name.
+pub(crate) fn is_watch(list: &[Followed], name: &Name) -> bool
+    ensures { result ≡ list_any (λ (k : Kept). is_among (followed_of k).watches name.now) list.now }
+{
+    list.iter().any(|watches| watches.has(name))
+}
+
+/// Whether a watch stands over the view of the name.
+pub(crate) fn is_watched(list: &[Followed], view: &Name) -> bool
+    ensures { result ≡ list_any (λ (k : Kept). same_bytes k.view view.now) list.now }
+{
+    list.iter().any(|watches| watches.is_of(view))
+}
+
+/// Whether a watch stands over the watch of the name.
+pub(crate) fn has_over(list: &[Followed], name: &Name) -> bool
+    ensures { result ≡ list_any (λ (k : Kept). list_any (λ (s : Shown). stands_over (followed_of k).watches name.now s.source) (followed_of k).watches) list.now }
+{
+    list.iter().any(|watches| watches.has_over(name))
+}
+
+/// The place of the view among whose watches one has the name.
+pub(crate) fn find(list: &[Followed], name: &Name) -> Option<usize>
+    ensures { result ≡ position (λ (k : Kept). is_among (followed_of k).watches name.now) list.now }
+{
+    list.iter().position(|watches| watches.has(name))
+}
+
+/// The place of the view among whose watches one has the name, which a watch has.
+pub(crate) fn at(list: &[Followed], name: &Name) -> usize
+    requires { list_any (λ (k : Kept). is_among (followed_of k).watches name.now) list.now ≡ true }
+    ensures { position (λ (k : Kept). is_among (followed_of k).watches name.now) list.now ≡ Some result }
+{
+    find(list, name).unwrap()
+}
+
+/// The place of the view of the name among those that are watched.
+pub(crate) fn find_view(list: &[Followed], view: &Name) -> Option<usize>
+    ensures { result ≡ position (λ (k : Kept). same_bytes k.view view.now) list.now }
+{
+    list.iter().position(|watches| watches.is_of(view))
+}
+
+/// Puts the watches of a view behind those of the others.
+pub(crate) fn push(list: &mut Vec<Followed>, watches: Followed) -> Result<(), Memory>
+    ensures ok { OnOk result (list.new.items ≡ list.old.items ++ watches ∷ []) }
+    ensures err { OnErr result (list.new.items ≡ list.old.items) }
+{
+    list.push(watches)?;
+    Ok(())
+}
+
+/// Makes room for the watches of a view to follow so many events.
+pub(crate) fn reserve_all(list: &mut [Followed], view: &Name, events: usize) -> Result<(), Memory>
+    ensures stay { AreEach Stays list.old list.new }
+    ensures room { OnOk result (HaveRoom view.now events list.new) }
+{
+    for watches in list.iter_mut() {
+        watches.reserve(view, events)?;
+    }
+    Ok(())
+}
+
+/// The watches of a view follow a line on it.
+pub(crate) fn follow_all(list: &mut [Followed], view: &Name, line: &Line<'_, Shared>)
+    requires kept { AreKeptOver view.now line.now.before.now.schema line.now.before.now.rows list.old }
+    requires room { HaveRoom view.now (count_all line.now.edits.now) list.old }
+    ensures { AreEach (Follows view.now (count_all line.now.edits.now) line.now.before.now.schema line.now.after.now.rows) list.old list.new }
+{
+    for watches in list.iter_mut() {
+        watches.follow(view, line);
+    }
+}
