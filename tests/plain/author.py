@@ -128,7 +128,10 @@ class Author:
         return path
 
     def leaf(self):
-        path = self.path(ChainMap(self.session.views, self.session.snapshots))
+        if self.session.watches and self.often(0.25):
+            path = (self.chance.choice(list(self.session.watches)),)
+        else:
+            path = self.path(ChainMap(self.session.views, self.session.snapshots))
         try:
             return path, self.session.value(path)
         except Refused:
@@ -298,16 +301,23 @@ class Author:
         return [*expression_tokens(expression), str(start), *part_tokens("criteria", self.criteria(table))]
 
     def of_search(self):
-        """Mostly a sorting, and values for its first keys."""
+        """Mostly a sorting, or a watch that is one, and values for its first keys."""
+        sortings = [name for name, watched in self.session.watches.items() if watched.word == "sort"]
+        if sortings and self.often(0.3):
+            name = self.chance.choice(sortings)
+            return [name, *part_tokens("criteria", self.criteria_sorted(self.session.watches[name], self.session.value((name,))))]
         base = self.question()
         if self.often(0.1):
             return [*expression_tokens(base[0]), *part_tokens("criteria", self.criteria(base[1]))]
         sorting, table = self.applied("sort", [base])
         if table is None or self.often(0.2):
             return [*expression_tokens(sorting), *part_tokens("criteria", self.criteria(base[1]))]
+        return [*expression_tokens(sorting), *part_tokens("criteria", self.criteria_sorted(sorting, table))]
+
+    def criteria_sorted(self, sorting, table):
+        """Values for the first keys of a sorting."""
         names = [name for name, _ in sort_keys(table[0], sorting.given[0])] or ["a"]
-        criteria = self.criteria_of(table, names[:self.chance.randint(1, 3)])
-        return [*expression_tokens(sorting), *part_tokens("criteria", criteria)]
+        return self.criteria_of(table, names[:self.chance.randint(1, 3)])
 
     of_locate = of_search
 
@@ -324,7 +334,21 @@ class Author:
         return [self.one_of(self.session.snapshots)]
 
     def of_cursor(self):
-        return [self.new(), self.one_of(ChainMap(self.session.views, self.session.snapshots))]
+        return [self.new(), self.one_of(ChainMap(*self.session.stood_on().values()))]
+
+    def of_watch(self):
+        """Mostly over a view, and else over a watch."""
+        there = self.session.watches if self.often(0.4) else self.session.views
+        source = self.one_of(there)
+        try:
+            table = self.session.value((source,))
+        except Refused:
+            table = (("a", "I"),), []
+        word = self.chance.choice(("select", "range", "range", "sort", "sort")) if self.often(0.98) else self.chance.choice(WORDS)
+        return [self.new(), *expression_tokens(Expression(word, [(source,)] * OPERATORS[word].bases, self.given_for(word, [table] * OPERATORS[word].bases)))]
+
+    def of_unwatch(self):
+        return [self.one_of(self.session.watches)]
 
     def of_cursor_name(self):
         return [self.one_of(self.session.cursors)]
@@ -385,7 +409,7 @@ GIVEN = {
 WEIGHTS = {
     "getas": 3, "drop": 2, "struct": 1, "add": 8, "insert": 2, "set": 7, "remove": 4, "size": 10, "show": 50, "find": 14, "search": 12,
     "locate": 14, "dup": 10,
-    "undup": 4, "cursor": 7, "uncursor": 2, "next": 12, "prev": 6, "row": 7, "commit": 3, "log": 1, "rollback": 1, "revert": 0.5,
+    "undup": 4, "watch": 9, "unwatch": 3, "cursor": 7, "uncursor": 2, "next": 12, "prev": 6, "row": 7, "commit": 3, "log": 1, "rollback": 1, "revert": 0.5,
     "reopen": 0.6, "space": 1,
 }
 

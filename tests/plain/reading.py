@@ -182,12 +182,23 @@ class Reader:
         if around == MOST_OPERATORS:
             raise TooDeep
         self.taken += 2
-        operator = OPERATORS[word]
         bases = [self.expression(around + 1)]
-        for _ in range(operator.bases - 1):
+        for _ in range(OPERATORS[word].bases - 1):
             self.take(",")
             bases.append(self.expression(around + 1))
-        given = [[]] if word == "sort" and self.kind() != "," else self.given(operator)
+        return self.ended(word, bases)
+
+    def operation(self):
+        """An operator that may be watched, of a name alone."""
+        if self.kind() != "word" or self.tokens[self.taken].value not in WATCHED:
+            raise NoFurther
+        word = self.take("word")
+        self.take("(")
+        return self.ended(word, [(self.name(),)])
+
+    def ended(self, word, bases):
+        """The operator of these tables, once what stands behind them is read."""
+        given = [[]] if word == "sort" and self.kind() != "," else self.given(OPERATORS[word])
         self.take(")")
         return Expression(word, bases, given)
 
@@ -209,12 +220,14 @@ class Reader:
         return self.take("text") if self.kind() is not None else ""
 
 
+WATCHED = ("select", "range", "sort")
+
 # The parts that stand behind the word of each command, of which `getas` is read apart.
 COMMANDS = {
     "getas": (), "drop": ("name",), "struct": (), "add": ("path", "literals"), "insert": ("path", "number", "number", "literals"),
     "set": ("path", "number", "name", "literal"), "remove": ("path", "number", "number"), "size": ("expression",), "show": ("expression",),
     "find": ("expression", "number", "criteria"), "search": ("expression", "criteria"), "locate": ("expression", "criteria"),
-    "dup": ("name", "expression"), "undup": ("name",), "cursor": ("name", "name"), "uncursor": ("name",), "next": ("name",), "prev": ("name",),
+    "dup": ("name", "expression"), "undup": ("name",), "watch": ("name", "operation"), "unwatch": ("name",), "cursor": ("name", "name"), "uncursor": ("name",), "next": ("name",), "prev": ("name",),
     "row": ("name",), "commit": ("note",), "log": (), "rollback": (), "revert": (), "reopen": (), "space": (), "quit": (),
 }
 

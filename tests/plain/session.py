@@ -1,4 +1,4 @@
-"""What a session answers: what tests/tables knows of views and commits, with expressions, questions, snapshots and cursors."""
+"""What a session answers: what tests/tables knows of views and commits, with expressions, questions, snapshots, watches and cursors."""
 
 from collections import ChainMap, Counter
 from dataclasses import dataclass, field
@@ -9,14 +9,14 @@ from plain.reading import COMMANDS, RUN, read_line
 
 Model, Refused, spelled_row = tables.Model, tables.Refused, tables.spelled_row
 
-MOST_VIEWS, MOST_SNAPSHOTS, MOST_CURSORS = 1_024, 64, 64
+MOST_VIEWS, MOST_SNAPSHOTS, MOST_CURSORS, MOST_WATCHES, MOST_CHAIN = 1_024, 64, 64, 64, 4
 
 
 @dataclass
 class Cursor:
-    """A place over a view, or over a snapshot, of this name."""
+    """A place over the view, the snapshot or the watch of this name."""
 
-    of_view: bool
+    standing: str
     name: str
     at: int = 0
 
@@ -29,9 +29,11 @@ def command_of(line):
 
 @dataclass
 class Session(Model):
-    """What `tests/tables` knows of views and commits, with snapshots, cursors and questions."""
+    """What `tests/tables` knows of views and commits, with snapshots, watches, cursors and questions. A watch is an operator of a name, and
+    is asked anew each time."""
 
     snapshots: dict = field(default_factory=dict)
+    watches: dict = field(default_factory=dict)
     cursors: dict = field(default_factory=dict)
     only_reads: bool = False
     came: Counter = field(default_factory=Counter)
@@ -61,10 +63,23 @@ class Session(Model):
     def value(self, expression):
         """The table of an expression."""
         if isinstance(expression, tuple):
+            if self.is_watch(expression):
+                return self.shown(self.watches[expression[0]])
             named = Model(self.kept, self.file, views=ChainMap(self.views, self.snapshots))
             table = named.table(expression)
             return table.props, rows_of(table)
         return self.applied(expression.word, [self.value(base) for base in expression.bases], expression.given)
+
+    def is_watch(self, path):
+        """The path is the name of a watch."""
+        name, *steps = path
+        return not steps and name in self.watches and name not in self.views and name not in self.snapshots
+
+    def shown(self, watched):
+        """The table of what is watched: the operator of the table of its source."""
+        (source,), = watched.bases
+        base = self.shown(self.watches[source]) if source in self.watches else self.value((source,))
+        return OPERATORS[watched.word].work(base, *watched.given)
 
     def applied(self, word, bases, given):
         try:
@@ -102,6 +117,8 @@ class Session(Model):
     def in_order(self, expression, criteria):
         """How many rows come before the values, and how many have them, in the order of a sorting whose first keys these are."""
         props, rows = self.asked(expression, criteria)
+        if isinstance(expression, tuple) and self.is_watch(expression):
+            expression = self.watches[expression[0]]
         is_sorting = isinstance(expression, Expression) and expression.word == "sort"
         keys = sort_keys(props, expression.given[0])[:len(criteria)] if is_sorting else []
         if [name for name, _ in keys] != [name for name, _ in criteria]:
@@ -122,16 +139,22 @@ class Session(Model):
     def locate(self, expression, criteria):
         return "{} {}".format(*self.in_order(expression, criteria))
 
-    # Snapshots and cursors. Views come before snapshots of their name, which they may have after a rollback.
+    # Snapshots, watches and cursors. Views come before snapshots of their name, which they may have after a rollback.
+
+    def is_beside_views(self, name):
+        return name in self.snapshots or name in self.cursors or name in self.watches
 
     def check_new(self, name, there, most):
-        if name in self.views or name in self.snapshots or name in self.cursors:
+        if name in self.views or self.is_beside_views(name):
             raise Refused("4 exists")
         if len(there) >= most:
             raise Refused("8 limit")
 
-    def check_free(self, of_view, name):
-        if any(cursor.of_view == of_view and cursor.name == name for cursor in self.cursors.values()):
+    def check_free(self, standing, name):
+        """No cursor stands on the view, the snapshot or the watch, and no watch stands over the view or the watch."""
+        if any(cursor.standing == standing and cursor.name == name for cursor in self.cursors.values()):
+            raise Refused("16 inuse")
+        if standing != "snapshot" and any((name,) in watched.bases for watched in self.watches.values()):
             raise Refused("16 inuse")
 
     def dup(self, new, expression):
@@ -143,23 +166,56 @@ class Session(Model):
     def undup(self, name):
         if name not in self.snapshots:
             raise Refused("3 noname")
-        self.check_free(False, name)
+        self.check_free("snapshot", name)
         del self.snapshots[name]
         return ""
 
+    def watch(self, new, operation):
+        (source,), = operation.bases
+        if source not in self.views and source not in self.watches:
+            raise Refused("3 noname")
+        if new in self.views or self.is_beside_views(new):
+            raise Refused("4 exists")
+        try:
+            rows = self.shown(operation)[1]
+        except Unfit as unfit:
+            raise Refused(TOLD[str(unfit)])
+        if self.chain(operation) > MOST_CHAIN or len(self.watches) >= MOST_WATCHES:
+            raise Refused("8 limit")
+        self.watches[new] = operation
+        return str(len(rows))
+
+    def chain(self, operation):
+        """How many operators are watched over one another, this one among them."""
+        (source,), = operation.bases
+        return 1 + (self.chain(self.watches[source]) if source in self.watches else 0)
+
+    def unwatch(self, name):
+        if name not in self.watches:
+            raise Refused("3 noname")
+        self.check_free("watch", name)
+        del self.watches[name]
+        return ""
+
     def cursor(self, new, name):
-        if name not in self.views and name not in self.snapshots:
+        standing = next((standing for standing, there in self.stood_on().items() if name in there), None)
+        if standing is None:
             raise Refused("3 noname")
         self.check_new(new, self.cursors, MOST_CURSORS)
-        self.cursors[new] = Cursor(name in self.views, name)
+        self.cursors[new] = Cursor(standing, name)
         return "0"
 
+    def stood_on(self):
+        """What a cursor may stand on; of a name the first decides."""
+        return {"view": self.views, "snapshot": self.snapshots, "watch": self.watches}
+
     def cursor_named(self, name):
-        """The cursor, and the table that it stands over."""
+        """The cursor, and the rows that it stands over."""
         if name not in self.cursors:
             raise Refused("3 noname")
         cursor = self.cursors[name]
-        return cursor, (self.views if cursor.of_view else self.snapshots)[cursor.name]
+        found = self.stood_on()[cursor.standing][cursor.name]
+        return cursor, self.shown(found)[1] if cursor.standing == "watch" else rows_of(found)
 
     def uncursor(self, name):
         self.cursor_named(name)
@@ -167,39 +223,39 @@ class Session(Model):
         return ""
 
     def next(self, name):
-        cursor, table = self.cursor_named(name)
-        if cursor.at >= len(table.rows):
-            raise Refused(f"5 range {len(table.rows)}")
+        cursor, rows = self.cursor_named(name)
+        if cursor.at >= len(rows):
+            raise Refused(f"5 range {len(rows)}")
         cursor.at += 1
         return str(cursor.at)
 
     def prev(self, name):
-        cursor, table = self.cursor_named(name)
+        cursor, rows = self.cursor_named(name)
         if cursor.at == 0:
-            raise Refused(f"5 range {len(table.rows)}")
+            raise Refused(f"5 range {len(rows)}")
         cursor.at -= 1
         return str(cursor.at)
 
     def row(self, name):
-        cursor, table = self.cursor_named(name)
-        if cursor.at >= len(table.rows):
-            raise Refused(f"5 range {len(table.rows)}")
-        return spelled_row(table.rows[cursor.at])
+        cursor, rows = self.cursor_named(name)
+        if cursor.at >= len(rows):
+            raise Refused(f"5 range {len(rows)}")
+        return spelled_row(rows[cursor.at])
 
     # What these change of the commands on views.
 
     def getas(self, name, props):
-        if name in self.snapshots or name in self.cursors:
+        if self.is_beside_views(name):
             raise Refused("4 exists")
         if name not in self.views and len(self.views) == MOST_VIEWS:
             raise Refused("8 limit")
         if name in self.views and self.views[name].props != props:
-            self.check_free(True, name)
+            self.check_free("view", name)
         return super().getas(name, props)
 
     def drop(self, name):
         if name in self.views:
-            self.check_free(True, name)
+            self.check_free("view", name)
         return super().drop(name)
 
     def commit(self, note):
@@ -208,16 +264,16 @@ class Session(Model):
         return super().commit(note)
 
     def rollback(self):
-        self.cursors = {}
+        self.cursors, self.watches = {}, {}
         return super().rollback()
 
     def reopen(self):
-        self.cursors = {}
+        self.cursors, self.watches = {}, {}
         return super().reopen()
 
     def revert(self):
         said = super().revert()
-        self.cursors = {}
+        self.cursors, self.watches = {}, {}
         return said
 
     def quit(self):

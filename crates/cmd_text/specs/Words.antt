@@ -93,8 +93,6 @@ form_of Quit = parts_and [] no_more
 
 -- The words that the program does not know yet. In a line such a word is a token at which no command can go on.
 abbrev pub is_known : Verb → Bool
-is_known Watch = false
-is_known Unwatch = false
 is_known Hash = false
 is_known Ordered = false
 is_known Unmap = false

@@ -83,9 +83,6 @@ impl Verb {
     pub(crate) fn is_known(self) -> bool
         ensures { result ≡ known_verb self }
     {
-        !matches!(
-            self,
-            Verb::Watch | Verb::Unwatch | Verb::Hash | Verb::Ordered | Verb::Unmap
-        )
+        !matches!(self, Verb::Hash | Verb::Ordered | Verb::Unmap)
     }
 }

@@ -15,5 +15,5 @@ mod on_two;
 
 pub use error::{EvalError, NameError};
 pub use evaluation::eval;
-pub use literals::{Asked, criteria_asked};
+pub use literals::{Asked, bounds_asked, criteria_asked};
 pub use names::Names;

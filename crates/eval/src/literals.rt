@@ -57,7 +57,7 @@ pub fn criteria_asked(alloc: Global, criteria: &[Crit]) -> Result<Vec<Asked<'_>>
 }
 
 /// Bounds.
-pub(crate) fn bounds_asked(alloc: Global, bounds: &[Bound]) -> Result<Vec<Asked<'_>>, Memory>
+pub fn bounds_asked(alloc: Global, bounds: &[Bound]) -> Result<Vec<Asked<'_>>, Memory>
     ensures { IfOk result (λ items. map interval_of items.items ≡ map bounded_by bounds.now) }
 {
     let mut items = Vec::new(alloc);

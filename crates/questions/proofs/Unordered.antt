@@ -1,5 +1,5 @@
 -- A sorting has the rows of the table that it sorts, so what is counted of them may be counted of these.
-use Rattle.std.proofs.Common.{◌≡◌, ℕ, ◌+◌, Bool, true, false, cond, List, [], ◌∷◌, map, Option, None, Result, Ok, Err, refl, ap, sym, ◌∙◌, arith}
+use Rattle.std.proofs.Common.{◌≡◌, ℕ, ◌+◌, Bool, true, false, cond, List, [], ◌∷◌, length, map, Option, None, Result, Ok, Err, refl, ap, sym, ◌∙◌, arith}
 use Rattle.std.specs.Prelude.{count_by, if◌then◌else◌}
 use Rattle.std.specs.declared.cmp.Ordering.{Ordering}
 use Rattle.std.specs.Ordering.{is_gt, is_lt}
@@ -25,10 +25,10 @@ use Rattle.eval.specs.Values.{asked, at_size, key_of, of_one, value}
 use Rattle.eval.specs.declared.error.EvalError.{EvalError}
 use Rattle.questions.specs.Answers.{Answers, answer}
 use Rattle.questions.specs.Places.{AnswersUnordered, HasRowsOf, before_values, begin, known_keys, locate_due, located, unless_due, values_of, where_sorted}
+use Rattle.following.specs.Watches.{Followed}
 use Rattle.questions.specs.Told.{told}
 use Rattle.questions.specs.declared.error.QuestionError.{QuestionError}
 use Rattle.questions.specs.declared.error.QuestionError.TheVariants.{Unsorted}
-use Rattle.questions.specs.declared.places.Located.{Located}
 
 abbrev passes : {X : Type 0} → (X → Bool) → X → ℕ
 passes test x = cond (test x) 1 0
@@ -57,7 +57,7 @@ module _ {X : Type 0} (test : X → Bool) (cmp : X → X → Ordering) where
 sort_counts : (list : List Order) (t : Table) → HasRowsOf (sort (map key_of list) t) t.schema t.rows
 sort_counts list t = record { same_schema = refl; as_many = λ test. sym (sorted_counts test (row_cmp t.schema (keys_or_all t.schema (map key_of list))) t.rows) }
 
-answered_value : (r : Result Table EvalError) (t : Table) → result_map_both (λ t. t) told r ≡ Ok t → r ≡ Ok t
+pub answered_value : (r : Result Table EvalError) (t : Table) → result_map_both (λ t. t) told r ≡ Ok t → r ≡ Ok t
 answered_value (Ok x) t h = let same : ◌≡◌ {A = Result Table QuestionError} (Ok x) (Ok t) = h in cc
 answered_value (Err e) t h = absurd (let same : ◌≡◌ {A = Result Table QuestionError} (Err (told e)) (Ok t) = h in cc)
 
@@ -77,15 +77,23 @@ in_order due (Ok d) h = (table_of d, h, record { same_schema = refl; as_many = �
 in_order due (Err e) h = h
 
 -- where rows in whatever order are counted
-pub located_is : (names : List Named) (viewers : List Meaning) (q : Query) (list : List Criterion) (t : Table) (rows : List (List Datum)) (position count : ℕ) → answer names viewers q ≡ Ok t
-    → ((test : List Datum → Bool) → count_by test rows ≡ count_by test t.rows) → literals_due (map asked list) t.schema ≡ None → begin list (known_keys q t.schema) ≡ true
-    → position ≡ rows_before t.schema (known_keys q t.schema) (values_of t.schema list) rows → count ≡ count_by (is_in_range t.schema (values_of t.schema list)) rows
-    → locate_due names viewers q list ≡ Ok (record { position = position; count = count })
-located_is names viewers q list t rows position count is as_many due first place_is count_is =
-    let place : before_values q list t ≡ position =
-    sym (place_is ∙ as_many (λ row. is_lt (asked_cmp t.schema (known_keys q t.schema) (values_of t.schema list) row))) in
-    let number : (located q list t).count ≡ count = sym (count_is ∙ as_many (is_in_range t.schema (values_of t.schema list))) in
-    ap (λ (r : Result Table QuestionError). continued r (λ t. unless_due (literals_due (map asked list) t.schema) (where_sorted q list t (located q list t)))) is
-    ∙ ap (λ (d : Option DerivedError). unless_due d (where_sorted q list t (located q list t))) due
-    ∙ ap (λ (b : Bool). if b then Ok (located q list t) else Err Unsorted) first
+pub located_is : (names : List Named) (watches : List Followed) (viewers : List Meaning) (q : Query) (list : List Criterion) (t : Table) (rows : List (List Datum)) (position count : ℕ) → answer names viewers q ≡ Ok t
+    → ((test : List Datum → Bool) → count_by test rows ≡ count_by test t.rows) → literals_due (map asked list) t.schema ≡ None → begin list (known_keys watches q t.schema) ≡ true
+    → position ≡ rows_before t.schema (known_keys watches q t.schema) (values_of t.schema list) rows → count ≡ count_by (is_in_range t.schema (values_of t.schema list)) rows
+    → locate_due names watches viewers q list ≡ Ok (record { position = position; count = count })
+located_is names watches viewers q list t rows position count is as_many due first place_is count_is =
+    let place : before_values watches q list t ≡ position =
+    sym (place_is ∙ as_many (λ row. is_lt (asked_cmp t.schema (known_keys watches q t.schema) (values_of t.schema list) row))) in
+    let number : (located watches q list t).count ≡ count = sym (count_is ∙ as_many (is_in_range t.schema (values_of t.schema list))) in
+    ap (λ (r : Result Table QuestionError). continued r (λ t. unless_due (literals_due (map asked list) t.schema) (where_sorted watches q list t (located watches q list t)))) is
+    ∙ ap (λ (d : Option DerivedError). unless_due d (where_sorted watches q list t (located watches q list t))) due
+    ∙ ap (λ (b : Bool). if b then Ok (located watches q list t) else Err Unsorted) first
     ∙ (λ i. Ok (record { position = place i; count = number i }))
+
+-- in whatever order rows stand, there are as many
+pub as_many_rows : (t : Table) (rows : List (List Datum)) → ((test : List Datum → Bool) → count_by test rows ≡ count_by test t.rows) → length rows ≡ length t.rows
+as_many_rows t rows same = sym (all_counted rows) ∙ same (λ _. true) ∙ all_counted t.rows
+  where
+    all_counted : (rows : List (List Datum)) → count_by (λ _. true) rows ≡ length rows
+    all_counted [] = refl
+    all_counted (row ∷ rest) = let more = sum_by-cons (passes (λ _. true)) row rest in let r = all_counted rest in omega arith

@@ -1,61 +1,75 @@
--- Cursors: positions under names, each on a view or on a snapshot.
-use Rattle.std.specs.Prelude.{◌≡◌, ℕ, ◌+◌, ◌-◌, Bool, true, false, ◌&&◌, if◌then◌else◌, nat_lt, List, [], ◌∷◌, find, length, slice_index_or, refl, Option, Some, None, Result, Ok, Err}
-use Rattle.std.specs.Coded.{Coded, code_by, coded_ℕ, coded_bool, coded_list, coded×}
+-- Cursors: positions under names, each on a view, on a snapshot or on a watch.
+use Rattle.std.specs.Prelude.{◌≡◌, ℕ, zero, suc, ◌+◌, ◌-◌, Bool, true, false, ◌&&◌, if◌then◌else◌, nat_lt, List, [], ◌∷◌, find, length, slice_index_or, refl, Option, Some, None, Result, Ok, Err}
+use Rattle.std.specs.Coded.{Coded, code_by, coded_ℕ, coded_list, coded×}
 use Rattle.std.specs.List.{list_any}
 use Rattle.std.specs.Option.{is_some, option_map, unwrap_or}
+use Rattle.following.specs.Watches.{Followed, is_watch, watch_table}
 use Rattle.mk_value.specs.Data.{Datum}
 use Rattle.mk_value.specs.Literals.{row_text}
 use Rattle.mk_value.specs.Names.{same_bytes}
 use Rattle.view_store.specs.Views.{NamedTable, table_of}
 use Rattle.questions.specs.declared.cursor.Standing.{Standing}
-use Rattle.questions.specs.declared.cursor.Standing.TheVariants.{View, Snapshot}
+use Rattle.questions.specs.declared.cursor.Standing.TheVariants.{View, Snapshot, Watch}
 use Rattle.questions.specs.declared.error.QuestionError.{QuestionError}
 use Rattle.questions.specs.declared.error.QuestionError.TheVariants.{NoName, Range}
 use Rattle.questions.specs.Kept.{Kept, is_kept}
 
--- a cursor: its name, the name of what it stands on, which of the two that is, and its position
+-- a cursor: its name, the name of what it stands on, which of the three that is, and its position
 pub record Placed : Type 0 where
   pub name : List ℕ
   pub target : List ℕ
   pub standing : Standing
   pub position : ℕ
 
-abbrev pub is_snapshot : Standing → Bool
-is_snapshot View = false
-is_snapshot Snapshot = true
+abbrev pub standing_number : Standing → ℕ
+standing_number View = 0
+standing_number Snapshot = 1
+standing_number Watch = 2
 
-abbrev pub standing_by : Bool → Standing
-standing_by false = View
-standing_by true = Snapshot
+abbrev pub standing_by : ℕ → Standing
+standing_by zero = View
+standing_by (suc zero) = Snapshot
+standing_by (suc (suc n)) = Watch
 
-pub standing_by-is_snapshot : (s : Standing) → standing_by (is_snapshot s) ≡ s
-standing_by-is_snapshot View = refl
-standing_by-is_snapshot Snapshot = refl
+pub standing_by-number : (s : Standing) → standing_by (standing_number s) ≡ s
+standing_by-number View = refl
+standing_by-number Snapshot = refl
+standing_by-number Watch = refl
 
--- what a name stands for: a view, and where none has it a snapshot
-abbrev pub standing_of : List NamedTable → List Kept → List ℕ → Option Standing
-standing_of views snapshots name =
+-- what a name stands for: a view, where none has it a snapshot, and where none has it a watch
+abbrev pub standing_of : List NamedTable → List Kept → List Followed → List ℕ → Option Standing
+standing_of views snapshots watches name =
     if is_some (table_of views name) then Some View
-    else (if is_kept snapshots name then Some Snapshot else None)
+    else (if is_kept snapshots name then Some Snapshot else (if is_watch watches name then Some Watch else None))
 
--- the rows of a view and of the first snapshot of a name; none where there is no such thing
+-- the rows of a view, of the first snapshot and of the first watch of a name; none where there is no such thing
 abbrev pub rows_viewed : List NamedTable → List ℕ → List (List Datum)
 rows_viewed views name = unwrap_or (option_map (λ t. t.rows) (table_of views name)) []
 
 abbrev pub rows_kept : List Kept → List ℕ → List (List Datum)
 rows_kept snapshots name = unwrap_or (option_map (λ (s : Kept). s.table.rows) (find (λ (s : Kept). same_bytes s.name name) snapshots)) []
 
--- the rows of what a cursor stands on, as they are now
-abbrev pub rows_under : List NamedTable → List Kept → Placed → List (List Datum)
-rows_under views snapshots c = if is_snapshot c.standing then rows_kept snapshots c.target else rows_viewed views c.target
+abbrev pub rows_watched : List NamedTable → List Followed → List ℕ → List (List Datum)
+rows_watched views watches name = unwrap_or (option_map (λ t. t.rows) (watch_table views watches name)) []
 
--- whether a cursor has the name, and whether one stands on the view or the snapshot of a name
+-- the rows of what a name stands for in this way, as they are now
+abbrev pub rows_standing : List NamedTable → List Kept → List Followed → Standing → List ℕ → List (List Datum)
+rows_standing views snapshots watches View name = rows_viewed views name
+rows_standing views snapshots watches Snapshot name = rows_kept snapshots name
+rows_standing views snapshots watches Watch name = rows_watched views watches name
+
+-- the rows of what a cursor stands on
+abbrev pub rows_under : List NamedTable → List Kept → List Followed → Placed → List (List Datum)
+rows_under views snapshots watches c = rows_standing views snapshots watches c.standing c.target
+
+-- whether a cursor has the name, and whether one stands on the view, the snapshot or the watch of a name
 abbrev pub is_cursor : List Placed → List ℕ → Bool
 is_cursor cursors name = list_any (λ (c : Placed). same_bytes c.name name) cursors
 
 abbrev pub same_standing : Standing → Standing → Bool
 same_standing View View = true
 same_standing Snapshot Snapshot = true
+same_standing Watch Watch = true
 same_standing _ _ = false
 
 abbrev pub has_cursor_on : List Placed → Standing → List ℕ → Bool
@@ -89,14 +103,14 @@ previous_in rows position = if nat_lt 0 position then Ok (position - 1) else Err
 abbrev pub row_in : List (List Datum) → ℕ → Result (List ℕ) QuestionError
 row_in rows position = if nat_lt position (length rows) then Ok (row_text (slice_index_or rows position [])) else Err (Range (length rows))
 
-abbrev pub next_due : List NamedTable → List Kept → List Placed → List ℕ → Result ℕ QuestionError
-next_due views snapshots cursors name = cursor_due cursors name (λ c. next_in (rows_under views snapshots c) c.position)
+abbrev pub next_due : List NamedTable → List Kept → List Followed → List Placed → List ℕ → Result ℕ QuestionError
+next_due views snapshots watches cursors name = cursor_due cursors name (λ c. next_in (rows_under views snapshots watches c) c.position)
 
-abbrev pub previous_due : List NamedTable → List Kept → List Placed → List ℕ → Result ℕ QuestionError
-previous_due views snapshots cursors name = cursor_due cursors name (λ c. previous_in (rows_under views snapshots c) c.position)
+abbrev pub previous_due : List NamedTable → List Kept → List Followed → List Placed → List ℕ → Result ℕ QuestionError
+previous_due views snapshots watches cursors name = cursor_due cursors name (λ c. previous_in (rows_under views snapshots watches c) c.position)
 
-abbrev pub row_due : List NamedTable → List Kept → List Placed → List ℕ → Result (List ℕ) QuestionError
-row_due views snapshots cursors name = cursor_due cursors name (λ c. row_in (rows_under views snapshots c) c.position)
+abbrev pub row_due : List NamedTable → List Kept → List Followed → List Placed → List ℕ → Result (List ℕ) QuestionError
+row_due views snapshots watches cursors name = cursor_due cursors name (λ c. row_in (rows_under views snapshots watches c) c.position)
 
 -- the cursors after one of a name was asked to move
 abbrev pub moved_to : List Placed → List ℕ → Result ℕ QuestionError → List Placed
@@ -105,7 +119,7 @@ moved_to cursors name (Err e) = cursors
 
 -- cursors are coded by their parts, so that a proof can tell two of them apart
 abbrev pub standing_code : Coded Standing
-standing_code = code_by Bool coded_bool is_snapshot standing_by standing_by-is_snapshot
+standing_code = code_by ℕ coded_ℕ standing_number standing_by standing_by-number
 
 abbrev pub placed_code : Coded Placed
 placed_code =

@@ -1,10 +1,12 @@
--- Names that stand for tables: those of the views, and behind them those of snapshots.
-use Rattle.std.specs.Prelude.{ℕ, Bool, true, if◌then◌else◌, List, [], ◌∷◌, ◌++◌, map, refl}
+-- Names that stand for tables: those of the views, behind them those of snapshots, and behind these those of watches.
+use Rattle.std.specs.Prelude.{ℕ, Bool, true, false, if◌then◌else◌, List, [], ◌∷◌, ◌++◌, map, refl}
 use Rattle.std.specs.Coded.{Coded, code_by, coded_ℕ, coded_list, coded×}
-use Rattle.std.specs.List.{list_any}
+use Rattle.std.specs.List.{flat_map, list_any}
+use Rattle.std.specs.Option.{unwrap_or}
 use Rattle.mk_value.specs.Names.{same_bytes}
 use Rattle.mk_value.specs.Tables.{Table, table_code}
 use Rattle.eval.specs.Names.{Named}
+use Rattle.following.specs.Watches.{Followed, Shown, watch_table}
 use Rattle.tables.specs.Tables.{StoredTable}
 use Rattle.view_store.specs.Views.{NamedTable}
 
@@ -28,9 +30,34 @@ named_view v = record { name = v.name; table = table_of v.table; has_steps = tru
 abbrev pub named_snapshot : Kept → Named
 named_snapshot s = record { name = s.name; table = s.table; has_steps = true }
 
+-- the names of all watches, each with the table that it shows; no steps may follow one
+abbrev pub watch_names : List Followed → List (List ℕ)
+watch_names watches = flat_map (λ (f : Followed). map (λ (s : Shown). s.name) f.watches) watches
+
+abbrev pub named_watch : List NamedTable → List Followed → List ℕ → Named
+named_watch views watches name = record {
+  name = name;
+  table = unwrap_or (watch_table views watches name) (record { schema = []; rows = [] });
+  has_steps = false;
+}
+
 -- a view decides before a snapshot of its name
-abbrev pub known : List NamedTable → List Kept → List Named
-known views snapshots = map named_view views ++ map named_snapshot snapshots
+abbrev pub stored : List NamedTable → List Kept → List Named
+stored views snapshots = map named_view views ++ map named_snapshot snapshots
+
+-- the names of the watches
+abbrev pub watched : List NamedTable → List Followed → List Named
+watched views watches = map (named_watch views watches) (watch_names watches)
+
+-- what names stand for
+pub record Names : Type 0 where
+  pub views : List NamedTable
+  pub snapshots : List Kept
+  pub watches : List Followed
+
+-- views and snapshots decide before watches
+abbrev pub known : List NamedTable → List Kept → List Followed → List Named
+known views snapshots watches = stored views snapshots ++ watched views watches
 
 -- whether a snapshot has the name, and the snapshots without the first of it
 abbrev pub is_kept : List Kept → List ℕ → Bool

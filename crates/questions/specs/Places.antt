@@ -13,11 +13,14 @@ use Rattle.relations.specs.Refusals.{literals_due}
 use Rattle.relations.specs.Searching.{rows_before}
 use Rattle.relations.specs.Sorting.{keys_or_all}
 use Rattle.expr_text.specs.Arguments.{Criterion, orders}
-use Rattle.expr_text.specs.Queries.{Query, one}
+use Rattle.expr_text.specs.Queries.{Query, one, path}
 use Rattle.viewers.specs.Meanings.{Meaning}
 use Rattle.expr_text.specs.declared.operator.Operator.TheVariants as operators
 use Rattle.eval.specs.Names.{Named, continued}
 use Rattle.eval.specs.Values.{asked, key_of}
+use Rattle.following.specs.Watches.{Followed, op_of}
+use Rattle.live.specs.declared.op.WatchOp.{WatchOp}
+use Rattle.live.specs.declared.op.WatchOp.TheVariants as shows
 use Rattle.questions.specs.declared.error.QuestionError.{QuestionError}
 use Rattle.questions.specs.declared.error.QuestionError.TheVariants.{Memory, Range, Unsorted}
 use Rattle.questions.specs.declared.places.Located.{Located}
@@ -72,10 +75,17 @@ abbrev pub first_keys : List Key → List Key
 first_keys [] = []
 first_keys (k ∷ keys) = k ∷ filter (λ other. not (same_bytes k.prop other.prop)) (first_keys keys)
 
--- the keys by which the value of an expression is known to be sorted: those of a sorting. Any other is known to be sorted by none
-abbrev pub known_keys : Query → List Attribute → List Key
-known_keys (one operators.Sort q (orders list)) schema = first_keys (keys_or_all schema (map key_of list))
-known_keys _ schema = []
+-- the keys of a watch that is a sorting
+abbrev pub keys_shown : Option WatchOp → List Key
+keys_shown (Some (shows.Sort keys)) = first_keys keys
+keys_shown _ = []
+
+-- the keys by which the value of an expression is known to be sorted: those of a sorting, or of a watch that is one. Any other is known
+-- to be sorted by none
+abbrev pub known_keys : List Followed → Query → List Attribute → List Key
+known_keys watches (one operators.Sort q (orders list)) schema = first_keys (keys_or_all schema (map key_of list))
+known_keys watches (path route) schema = keys_shown (op_of watches route.name)
+known_keys watches _ schema = []
 
 -- the criteria name the first keys, in order
 abbrev pub begin : List Criterion → List Key → Bool
@@ -84,22 +94,22 @@ begin (c ∷ criteria) [] = false
 begin (c ∷ criteria) (k ∷ keys) = same_bytes c.prop k.prop && begin criteria keys
 
 -- where they do, this
-abbrev pub where_sorted : {Y : Type 0} → Query → List Criterion → Table → Y → Result Y QuestionError
-where_sorted q criteria t done = if begin criteria (known_keys q t.schema) then Ok done else Err Unsorted
+abbrev pub where_sorted : {Y : Type 0} → List Followed → Query → List Criterion → Table → Y → Result Y QuestionError
+where_sorted watches q criteria t done = if begin criteria (known_keys watches q t.schema) then Ok done else Err Unsorted
 
 -- `search`: how many rows come before the values in the order of the keys
-abbrev pub before_values : Query → List Criterion → Table → ℕ
-before_values q criteria t = rows_before t.schema (known_keys q t.schema) (values_of t.schema criteria) t.rows
+abbrev pub before_values : List Followed → Query → List Criterion → Table → ℕ
+before_values watches q criteria t = rows_before t.schema (known_keys watches q t.schema) (values_of t.schema criteria) t.rows
 
-abbrev pub search_due : List Named → List Meaning → Query → List Criterion → Result ℕ QuestionError
-search_due names viewers q criteria = asked_with names viewers q criteria (λ t. where_sorted q criteria t (before_values q criteria t))
+abbrev pub search_due : List Named → List Followed → List Meaning → Query → List Criterion → Result ℕ QuestionError
+search_due names watches viewers q criteria = asked_with names viewers q criteria (λ t. where_sorted watches q criteria t (before_values watches q criteria t))
 
 -- `locate`: and how many have the values
-abbrev pub located : Query → List Criterion → Table → Located
-located q criteria t = record {
-  position = before_values q criteria t;
+abbrev pub located : List Followed → Query → List Criterion → Table → Located
+located watches q criteria t = record {
+  position = before_values watches q criteria t;
   count = count_by (is_in_range t.schema (values_of t.schema criteria)) t.rows;
 }
 
-abbrev pub locate_due : List Named → List Meaning → Query → List Criterion → Result Located QuestionError
-locate_due names viewers q criteria = asked_with names viewers q criteria (λ t. where_sorted q criteria t (located q criteria t))
+abbrev pub locate_due : List Named → List Followed → List Meaning → Query → List Criterion → Result Located QuestionError
+locate_due names watches viewers q criteria = asked_with names viewers q criteria (λ t. where_sorted watches q criteria t (located watches q criteria t))

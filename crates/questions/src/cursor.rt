@@ -1,12 +1,14 @@
-//! Cursors: positions over views and snapshots.
-ghost use Rattle.std.specs.Prelude.{◌≡◌, ◌↔◌, ◌++◌, ◌∷◌, [], find, length, position as place, IsTrue, MatchOption, MatchResult, None, Some, OnOk, OnErr};
+//! Cursors: positions over views, snapshots and watches.
+ghost use Rattle.std.specs.Prelude.{◌≡◌, ◌<◌, ◌↔◌, ◌++◌, ◌∷◌, [], find, length, position as place, slice_index_or, IfOk, IsTrue, MatchResult, None, Some, OnOk, OnErr};
+ghost use Rattle.std.specs.Option.{option_map, unwrap_or};
+ghost use Rattle.mk_value.specs.Literals.{row_text};
 ghost use Rattle.mk_value.specs.Names.{same_bytes};
 ghost use Rattle.questions.specs.Answers.{Answers};
-ghost use Rattle.questions.specs.Cursors.{Placed, has_cursor_on as stands_on, is_cursor as has_name, moved, moved_to, next_due, next_in, previous_due, previous_in, row_due, row_in, rows_under, standing_of, without_cursor};
+ghost use Rattle.questions.specs.Cursors.{Placed, has_cursor_on as stands_on, is_cursor as has_name, moved, moved_to, next_due, next_in, previous_due, previous_in, row_due, row_in, rows_under, rows_watched, standing_of, without_cursor};
 ghost use Rattle.questions.specs.declared.error.QuestionError.TheVariants as question_error;
 
 use crate::error::QuestionError;
-use crate::known::{Known, snapshot_of};
+use crate::known::Known;
 use crate::rows::text_of_row;
 use crate::snapshot::is_snapshot;
 use mk_value::{Memory, Name, TableRead, Text};
@@ -20,9 +22,10 @@ use tables::Shared;
 pub enum Standing {
     View,
     Snapshot,
+    Watch,
 }
 
-/// A position over the rows of a view or a snapshot. What it stands on is what the name meant when the cursor was set, and edits of the
+/// A position over the rows of a view, a snapshot or a watch. What it stands on is what the name meant when the cursor was set, and edits of the
 /// rows do not move it, so it may stand behind the last of them.
 #[derive(Drop)]
 pub struct Cursor {
@@ -126,7 +129,7 @@ pub fn is_cursor(cursors: &[Cursor], name: &Name) -> bool
     cursors.iter().any(|cursor| cursor.name == *name)
 }
 
-/// Whether a cursor stands on the view, or the snapshot, of a name.
+/// Whether a cursor stands on the view, the snapshot or the watch of a name.
 pub fn has_cursor_on(cursors: &[Cursor], standing: Standing, name: &Name) -> bool
     ensures { result ≡ stands_on cursors.now standing name.now }
 {
@@ -148,15 +151,18 @@ pub fn take_out_cursor(cursors: &mut Cursors, name: &Name) -> bool
 }
 
 impl<'a> Known<'a> {
-    /// What a name stands for: a view, and where none has it a snapshot.
+    /// What a name stands for: a view, where none has it a snapshot, and where none has it a watch.
     pub fn standing(&self, name: &Name) -> Option<Standing>
-        ensures { result ≡ standing_of self.now.views.now self.now.snapshots.now name.now }
+        ensures { result ≡ standing_of self.now.views self.now.snapshots self.now.watches name.now }
     {
         if self.view_of(name).is_some() {
             return Some(Standing::View);
         }
         if is_snapshot(self.snapshots, name) {
             return Some(Standing::Snapshot);
+        }
+        if self.watches.is_watch(name) {
+            return Some(Standing::Watch);
         }
         None
     }
@@ -167,7 +173,7 @@ impl<'a> Known<'a> {
     ///
     /// `NoName` where there is no such cursor; `Range` where no row stands at its position.
     pub fn next(&self, cursors: &mut Cursors, name: &Name) -> Result<u64, QuestionError>
-        ensures due { result ≡ next_due self.now.views.now self.now.snapshots.now cursors.old name.now }
+        ensures due { result ≡ next_due self.now.views self.now.snapshots self.now.watches cursors.old name.now }
         ensures moved { cursors.new ≡ moved_to cursors.old name.now result }
     {
         let position = self.one_further(cursor_of(cursors.as_slice(), name)?)?;
@@ -181,7 +187,7 @@ impl<'a> Known<'a> {
     ///
     /// `NoName` where there is no such cursor; `Range` where its position is 0.
     pub fn previous(&self, cursors: &mut Cursors, name: &Name) -> Result<u64, QuestionError>
-        ensures due { result ≡ previous_due self.now.views.now self.now.snapshots.now cursors.old name.now }
+        ensures due { result ≡ previous_due self.now.views self.now.snapshots self.now.watches cursors.old name.now }
         ensures moved { cursors.new ≡ moved_to cursors.old name.now result }
     {
         let position = self.one_back(cursor_of(cursors.as_slice(), name)?)?;
@@ -195,14 +201,14 @@ impl<'a> Known<'a> {
     ///
     /// `NoName` where there is no such cursor; `Range` where no row stands at its position. Else `Memory`.
     pub fn row(&self, alloc: Global, cursors: &[Cursor], name: &Name) -> Result<Text, QuestionError>
-        ensures { Answers (λ text. text.bytes) (row_due self.now.views.now self.now.snapshots.now cursors.now name.now) result }
+        ensures { Answers (λ text. text.bytes) (row_due self.now.views self.now.snapshots self.now.watches cursors.now name.now) result }
     {
         self.row_at(alloc, cursor_of(cursors, name)?)
     }
 
     /// The position one row further than a cursor's.
     fn one_further(&self, cursor: &Cursor) -> Result<u64, QuestionError>
-        ensures { result ≡ next_in (rows_under self.now.views.now self.now.snapshots.now cursor.now) cursor.now.position }
+        ensures { result ≡ next_in (rows_under self.now.views self.now.snapshots self.now.watches cursor.now) cursor.now.position }
     {
         let size = self.size_under(cursor);
         if cursor.position < size {
@@ -214,7 +220,7 @@ impl<'a> Known<'a> {
 
     /// The position one row before a cursor's.
     fn one_back(&self, cursor: &Cursor) -> Result<u64, QuestionError>
-        ensures { result ≡ previous_in (rows_under self.now.views.now self.now.snapshots.now cursor.now) cursor.now.position }
+        ensures { result ≡ previous_in (rows_under self.now.views self.now.snapshots self.now.watches cursor.now) cursor.now.position }
     {
         if 0 < cursor.position {
             Ok(cursor.position - 1)
@@ -225,38 +231,86 @@ impl<'a> Known<'a> {
 
     /// The text of the row at a cursor's position.
     fn row_at(&self, alloc: Global, cursor: &Cursor) -> Result<Text, QuestionError>
-        ensures { Answers (λ text. text.bytes) (row_in (rows_under self.now.views.now self.now.snapshots.now cursor.now) cursor.now.position) result }
+        ensures { Answers (λ text. text.bytes) (row_in (rows_under self.now.views self.now.snapshots self.now.watches cursor.now) cursor.now.position) result }
     {
-        let Some(table) = self.table_under(cursor) else {
-            return Err(QuestionError::Range(0));
-        };
-        let size = table.size() as u64;
-        if cursor.position >= size {
-            return Err(QuestionError::Range(size));
+        let name = &cursor.target;
+        let position = cursor.position;
+        match cursor.standing {
+            Standing::View => row_of(alloc, self.view_of(name), position),
+            Standing::Snapshot => row_of(alloc, self.snapshot_of(name), position),
+            Standing::Watch => self.row_watched(alloc, name, position),
         }
-        let row = copy_row(alloc, table, cursor.position as usize)?;
-        Ok(text_of_row(alloc, &row)?)
     }
 
     /// The number of rows of what a cursor stands on.
     fn size_under(&self, cursor: &Cursor) -> u64
-        ensures { result ≡ length (rows_under self.now.views.now self.now.snapshots.now cursor.now) }
+        ensures { result ≡ length (rows_under self.now.views self.now.snapshots self.now.watches cursor.now) }
     {
-        match self.table_under(cursor) {
-            Some(table) => table.size() as u64,
-            None => 0,
+        let name = &cursor.target;
+        match cursor.standing {
+            Standing::View => size_of(self.view_of(name)),
+            Standing::Snapshot => size_of(self.snapshot_of(name)),
+            Standing::Watch => self.size_watched(name),
         }
     }
 
-    /// The table that a cursor stands on, where it is still there.
-    fn table_under(&self, cursor: &Cursor) -> Option<&'a Shared>
-        ensures { MatchOption result (rows_under self.now.views.now self.now.snapshots.now cursor.now ≡ []) (λ table. rows_under self.now.views.now self.now.snapshots.now cursor.now ≡ table.now.rows) }
+    /// The number of rows of the watch of a name, where there is one.
+    fn size_watched(&self, name: &Name) -> u64
+        ensures { result ≡ length (rows_watched self.now.views self.now.watches name.now) }
     {
-        match cursor.standing {
-            Standing::View => self.view_of(&cursor.target),
-            Standing::Snapshot => snapshot_of(self.snapshots, &cursor.target),
+        if !self.watches.is_watch(name) {
+            return 0;
+        }
+        self.watches.size(name) as u64
+    }
+
+    /// The text of a row of the watch of a name, where there is one.
+    fn row_watched(&self, alloc: Global, name: &Name, position: u64) -> Result<Text, QuestionError>
+        ensures { Answers (λ text. text.bytes) (row_in (rows_watched self.now.views self.now.watches name.now) position) result }
+    {
+        let size = self.size_watched(name);
+        if position >= size {
+            return Err(QuestionError::Range(size));
+        }
+        Ok(self.text_watched(alloc, name, position as usize)?)
+    }
+
+    /// The text of a row that the watch of a name has.
+    fn text_watched(&self, alloc: Global, name: &Name, row: usize) -> Result<Text, Memory>
+        requires { row < length (rows_watched self.now.views self.now.watches name.now) }
+        ensures { IfOk result (λ text. text.bytes ≡ row_text (slice_index_or (rows_watched self.now.views self.now.watches name.now) row [])) }
+    {
+        let place = self.watches.place(name, row, self.views);
+        match self.view_of(self.watches.view_under(name)) {
+            Some(view) => text_of_row(alloc, &copy_row(alloc, view, place)?),
+            None => unreachable!(),
         }
     }
+}
+
+/// The number of rows of a table, where there is one.
+fn size_of(table: Option<&Shared>) -> u64
+    ensures { result ≡ length (unwrap_or (option_map (λ t. t.now.rows) table.entry) []) }
+{
+    match table {
+        Some(table) => table.size() as u64,
+        None => 0,
+    }
+}
+
+/// The text of a row of a table, where there is one.
+fn row_of(alloc: Global, table: Option<&Shared>, position: u64) -> Result<Text, QuestionError>
+    ensures { Answers (λ text. text.bytes) (row_in (unwrap_or (option_map (λ t. t.now.rows) table.entry) []) position) result }
+{
+    let Some(table) = table else {
+        return Err(QuestionError::Range(0));
+    };
+    let size = table.size() as u64;
+    if position >= size {
+        return Err(QuestionError::Range(size));
+    }
+    let row = copy_row(alloc, table, position as usize)?;
+    Ok(text_of_row(alloc, &row)?)
 }
 
 /// The place of the first cursor of a name.

@@ -1,45 +1,92 @@
-//! The names that a question may use.
-ghost use Rattle.std.specs.Prelude.{◌≡◌, ◌⊎◌, find, position, IfErr, IfOk, MatchOption, None, Some, Ok, Err, true};
-ghost use Rattle.eval.specs.Names.{Named, view_at};
+//! Names that stand for tables: those of views, of snapshots and of watches.
+ghost use Rattle.std.specs.Prelude.{◌≡◌, ◌⊎◌, find, IfErr, IfOk, MatchOption, Some, None, Ok, Err, true};
+ghost use Rattle.std.specs.Option.{is_some};
+ghost use Rattle.eval.specs.Names.{IsSeen, Named, view_at};
 ghost use Rattle.eval.specs.declared.error.NameError.TheVariants as name_error;
+ghost use Rattle.following.specs.Keeping.{AreKept, followed};
 ghost use Rattle.mk_value.specs.Names.{same_bytes};
 ghost use Rattle.view_store.specs.Views.{table_of as view_named};
-ghost use Rattle.questions.specs.Kept.{Kept, known, table_of};
+ghost use Rattle.questions.specs.Kept.{Kept, stored, table_of, watched};
 
 use crate::snapshot::Snapshot;
 use crate::walk::inner_table;
 use derived::{Derived, leaf};
 use eval::{NameError, Names};
+use following::{Following, view_of};
 use mk_value::{Name, Path, Same};
+use std::marker::Model;
 use tables::Shared;
 use view_store::Root;
 
-/// Views and snapshots by name, of which a view decides before a snapshot, and the first of several.
-#[derive(Clone, Copy)]
+/// Views, snapshots and watches by name, of which a view decides before a snapshot and a snapshot before a watch, and the first of
+/// several. The watches keep the positions of their rows in those of the views.
+#[derive(Drop)]
 pub struct Known<'a> {
-    pub views: &'a Root,
-    pub snapshots: &'a [Snapshot],
+    pub(crate) views: &'a Root,
+    pub(crate) snapshots: &'a [Snapshot],
+    pub(crate) watches: &'a Following,
+}
+
+impl<'a> Model for Known<'a> {
+    ghost use Rattle.std.specs.Coded.{codes};
+    ghost use Rattle.following.specs.Keeping.{AreKept, followed};
+    ghost use Rattle.questions.specs.Kept.{Names, kept_code};
+    ghost use Rattle.relations.specs.Criteria.{interval_code};
+    ghost use Rattle.view_store.specs.Views.{views_code};
+
+    ghost Value = { Names };
+
+    ghost coded = { Prim.hlevel (codes, views_code, kept_code, interval_code) };
+
+    ghost view = { λ k. record { views = k.views.now; snapshots = k.snapshots.now; watches = followed k.watches.now } };
+
+    ghost invariant = { λ k. AreKept k.views.now k.watches.now };
 }
 
 impl Names<Shared> for Known<'_> {
     ghost use Rattle.questions.specs.Kept.{known};
 
-    ghost named = { λ k. known k.views.now k.snapshots.now };
+    ghost named = { λ k. known k.views k.snapshots k.watches };
 
     fn view(&self, path: &Path) -> Result<Derived<Shared>, NameError> {
-        Ok(leaf(self.shared(path)?)?)
+        if self.is_stored(path.name()) {
+            self.viewed(path)
+        } else {
+            self.watch(path)
+        }
     }
 }
 
 impl<'a> Known<'a> {
-    /// The table to which a path leads, shared.
+    /// What names stand for, by these views and snapshots and the watches of those views.
+    pub fn of(views: &'a Root, snapshots: &'a [Snapshot], watches: &'a Following) -> Known<'a>
+        requires kept { AreKept views.now watches.now }
+        ensures views { result.views ≡ views.now }
+        ensures snapshots { result.snapshots ≡ snapshots.now }
+        ensures watches { result.watches ≡ followed watches.now }
+    {
+        Known {
+            views,
+            snapshots,
+            watches,
+        }
+    }
+
+    /// Whether a view or a snapshot has the name.
+    pub(crate) fn is_stored(&self, name: &Name) -> bool
+        ensures { result ≡ is_some (find (λ (n : Named). same_bytes n.name name.now) (stored self.now.views self.now.snapshots)) }
+    {
+        self.table_of(name).is_some()
+    }
+
+    /// The table to which a path leads from a view or a snapshot, shared.
     ///
     /// # Errors
     ///
     /// The refusal of the path. Else `Memory`.
     pub(crate) fn shared(&self, path: &Path) -> Result<Shared, NameError>
-        ensures ok { IfOk result (λ table. view_at (known self.now.views.now self.now.snapshots.now) path.now ≡ Ok (table_of table)) }
-        ensures err { IfErr result (λ e. (e ≡ name_error.Memory) ⊎ (view_at (known self.now.views.now self.now.snapshots.now) path.now ≡ Err e)) }
+        ensures ok { IfOk result (λ table. view_at (stored self.now.views self.now.snapshots) path.now ≡ Ok (table_of table)) }
+        ensures err { IfErr result (λ e. (e ≡ name_error.Memory) ⊎ (view_at (stored self.now.views self.now.snapshots) path.now ≡ Err e)) }
     {
         match self.table_of(path.name()) {
             Some(table) => Ok(inner_table(table, path.steps())?.same()?),
@@ -47,39 +94,61 @@ impl<'a> Known<'a> {
         }
     }
 
-    /// The table of a name.
+    /// The table to which a path leads from a view or a snapshot.
+    ///
+    /// # Errors
+    ///
+    /// The refusal of the path. Else `Memory`.
+    fn viewed(&self, path: &Path) -> Result<Derived<Shared>, NameError>
+        ensures { IsSeen (view_at (stored self.now.views self.now.snapshots) path.now) result }
+    {
+        Ok(leaf(self.shared(path)?)?)
+    }
+
+    /// The table of the watch that a path names.
+    ///
+    /// # Errors
+    ///
+    /// `NoName` where no watch has the name, or steps follow it. Else `Memory`.
+    fn watch(&self, path: &Path) -> Result<Derived<Shared>, NameError>
+        ensures { IsSeen (view_at (watched self.now.views self.now.watches) path.now) result }
+    {
+        if !path.steps().is_empty() {
+            return Err(NameError::NoName);
+        }
+        if !self.watches.is_watch(path.name()) {
+            return Err(NameError::NoName);
+        }
+        Ok(self.watches.table(path.name(), self.views)?)
+    }
+
+    /// The table of the view or the snapshot of a name.
     fn table_of(&self, name: &Name) -> Option<&'a Shared>
-        ensures { MatchOption result (find (λ (n : Named). same_bytes n.name name.now) (known self.now.views.now self.now.snapshots.now) ≡ None) (λ table. find (λ (n : Named). same_bytes n.name name.now) (known self.now.views.now self.now.snapshots.now) ≡ Some (record { name = name.now; table = table_of table.now; has_steps = true })) }
+        ensures { MatchOption result (find (λ (n : Named). same_bytes n.name name.now) (stored self.now.views self.now.snapshots) ≡ None) (λ table. find (λ (n : Named). same_bytes n.name name.now) (stored self.now.views self.now.snapshots) ≡ Some (record { name = name.now; table = table_of table.now; has_steps = true })) }
     {
         match self.view_of(name) {
             Some(table) => Some(table),
-            None => snapshot_of(self.snapshots, name),
+            None => self.snapshot_of(name),
         }
+    }
+
+    /// The table of the first snapshot of a name.
+    pub(crate) fn snapshot_of(&self, name: &Name) -> Option<&'a Shared>
+        ensures { MatchOption result (find (λ (s : Kept). same_bytes s.name name.now) self.now.snapshots ≡ None) (λ table. find (λ (s : Kept). same_bytes s.name name.now) self.now.snapshots ≡ Some (record { name = name.now; table = table_of table.now })) }
+    {
+        snapshot_of(self.snapshots, name)
     }
 
     /// The table of the view of a name.
     pub(crate) fn view_of(&self, name: &Name) -> Option<&'a Shared>
-        ensures { MatchOption result (view_named self.now.views.now name.now ≡ None) (λ table. view_named self.now.views.now name.now ≡ Some table.now) }
+        ensures { MatchOption result (view_named self.now.views name.now ≡ None) (λ table. view_named self.now.views name.now ≡ Some table.now) }
     {
-        match place_in(self.views.names(), name) {
-            Some(at) => Some(&self.views.tables()[at]),
-            None => None,
-        }
+        view_of(self.views, name)
     }
 }
 
-/// The place of a name among those of views.
-fn place_in(names: &view_store::Names, name: &Name) -> Option<usize>
-    ensures { result ≡ position (λ known. same_bytes known name.now) names.now }
-{
-    names
-        .as_slice()
-        .iter()
-        .position(|known| known.as_bytes() == name.as_bytes())
-}
-
 /// The table of the first snapshot of a name.
-pub(crate) fn snapshot_of<'a>(snapshots: &'a [Snapshot], name: &Name) -> Option<&'a Shared>
+fn snapshot_of<'a>(snapshots: &'a [Snapshot], name: &Name) -> Option<&'a Shared>
     ensures { MatchOption result (find (λ (s : Kept). same_bytes s.name name.now) snapshots.now ≡ None) (λ table. find (λ (s : Kept). same_bytes s.name name.now) snapshots.now ≡ Some (record { name = name.now; table = table_of table.now })) }
 {
     for snapshot in snapshots {

@@ -1,8 +1,8 @@
-//! Questions: what is asked of views and snapshots by expressions and by cursors, and changes neither view nor snapshot.
+//! Questions: what is asked of views, snapshots and watches by expressions and by cursors, and changes none of them.
 //!
-//! The names of an expression are those of the views, and then those of snapshots: tables that were kept under a name. Beside them it has viewers that answer rows. A question is a size,
+//! The names of an expression are those of the views, then those of snapshots, which are tables that were kept under a name, and then those of watches. Beside them it has viewers that answer rows. A question is a size,
 //! the rows, a table of its own, or where a table has values that are asked for. It stands on `eval` for the value of an expression and
-//! on the views of `view_store`; it knows nothing of lines or of replies.
+//! on the views of `view_store`, and on `following` for watches; it knows nothing of lines or of replies.
 #![tactic(auto)]
 
 mod cursor;
@@ -14,6 +14,7 @@ mod scope;
 mod snapshot;
 mod sorted;
 mod walk;
+mod watching;
 
 pub use cursor::{
     Cursor, Cursors, MAX_CURSORS, Standing, has_cursor_on, is_cursor, take_out_cursor,
@@ -23,3 +24,4 @@ pub use known::Known;
 pub use places::Located;
 pub use scope::Scope;
 pub use snapshot::{MAX_SNAPSHOTS, Snapshot, Snapshots, is_snapshot, take_out_snapshot};
+pub use watching::{operand, operation};

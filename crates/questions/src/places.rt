@@ -11,7 +11,7 @@ ghost use Rattle.questions.specs.Places.{Tests, find_due, locate_due, search_due
 
 use crate::error::{QuestionError, of_operator};
 use crate::scope::Scope;
-use crate::sorted::{begin, known_keys};
+use crate::sorted::begin;
 use eval::criteria_asked;
 use expr_text::{Crit, Expr};
 use mk_value::{Schema, Sequence, TableRead};
@@ -40,7 +40,7 @@ impl<V: Viewer> Scope<'_, V> {
         criteria: &[Crit],
     ) -> Result<Option<u64>, QuestionError>
         requires { IsWhole (query_of expr.now) }
-        ensures { Answers (λ found. found) (find_due (known self.now.names.views.now self.now.names.snapshots.now) (map V.meaning self.now.viewers.now) (query_of expr.now) start criteria.now) result }
+        ensures { Answers (λ found. found) (find_due (known self.now.names.views self.now.names.snapshots self.now.names.watches) (map V.meaning self.now.viewers.now) (query_of expr.now) start criteria.now) result }
     {
         let table = self.value(alloc, expr)?;
         let size = table.size() as u64;
@@ -56,7 +56,7 @@ impl<V: Viewer> Scope<'_, V> {
     ///
     /// # Errors
     ///
-    /// The first refusal of the expression; `NoProp`, `Kind` by the criteria; `Unsorted` where the expression is no sorting of which
+    /// The first refusal of the expression; `NoProp`, `Kind` by the criteria; `Unsorted` where it is no sorting, and no watch that is one, of which
     /// the criteria name the first keys, in order, each once. Else `Memory`.
     pub fn search(
         &self,
@@ -65,11 +65,11 @@ impl<V: Viewer> Scope<'_, V> {
         criteria: &[Crit],
     ) -> Result<u64, QuestionError>
         requires { IsWhole (query_of expr.now) }
-        ensures { Answers (λ position. position) (search_due (known self.now.names.views.now self.now.names.snapshots.now) (map V.meaning self.now.viewers.now) (query_of expr.now) criteria.now) result }
+        ensures { Answers (λ position. position) (search_due (known self.now.names.views self.now.names.snapshots self.now.names.watches) self.now.names.watches (map V.meaning self.now.viewers.now) (query_of expr.now) criteria.now) result }
     {
         let table = self.unordered(alloc, expr)?;
         let values = tested(alloc, table.schema(), criteria)?;
-        let keys = known_keys(alloc, expr, table.schema())?;
+        let keys = self.names.known_keys(alloc, expr, table.schema())?;
         if !begin(criteria, keys.as_slice()) {
             return Err(QuestionError::Unsorted);
         }
@@ -88,11 +88,11 @@ impl<V: Viewer> Scope<'_, V> {
         criteria: &[Crit],
     ) -> Result<Located, QuestionError>
         requires { IsWhole (query_of expr.now) }
-        ensures { Answers (λ located. located) (locate_due (known self.now.names.views.now self.now.names.snapshots.now) (map V.meaning self.now.viewers.now) (query_of expr.now) criteria.now) result }
+        ensures { Answers (λ located. located) (locate_due (known self.now.names.views self.now.names.snapshots self.now.names.watches) self.now.names.watches (map V.meaning self.now.viewers.now) (query_of expr.now) criteria.now) result }
     {
         let table = self.unordered(alloc, expr)?;
         let values = tested(alloc, table.schema(), criteria)?;
-        let keys = known_keys(alloc, expr, table.schema())?;
+        let keys = self.names.known_keys(alloc, expr, table.schema())?;
         if !begin(criteria, keys.as_slice()) {
             return Err(QuestionError::Unsorted);
         }

@@ -1,32 +1,85 @@
 //! The value of an expression: its size, its rows as texts, and as a table of its own.
-ghost use Rattle.std.specs.Prelude.{◌≡◌, map, IfOk};
+ghost use Rattle.std.specs.Prelude.{◌≡◌, find, map, true, IfOk};
+ghost use Rattle.std.specs.Option.{is_some};
+ghost use Rattle.std.specs.Result.{result_map_both};
+ghost use Rattle.eval.specs.Names.{Named};
+ghost use Rattle.expr_text.specs.Arguments.{named};
 ghost use Rattle.expr_text.specs.Meanings.{query_of};
+ghost use Rattle.expr_text.specs.Queries.{one, path as to_path};
+ghost use Rattle.expr_text.specs.declared.operator.Operator.TheVariants as operators;
 ghost use Rattle.eval.specs.Parts.{IsWhole};
 ghost use Rattle.mk_value.specs.Literals.{row_text};
+ghost use Rattle.mk_value.specs.Names.{same_bytes};
 ghost use Rattle.questions.specs.Answers.{Answers, answer, contents, rows_due, size_due};
-ghost use Rattle.questions.specs.Kept.{known, table_of};
+ghost use Rattle.questions.specs.Kept.{known, stored, table_of};
+ghost use Rattle.questions.specs.Told.{told_of_operator};
 
-use crate::error::{QuestionError, of_name};
+use crate::error::{QuestionError, of_name, of_operator};
 use crate::scope::Scope;
 use derived::Derived;
 use expr_text::Expr;
-use mk_value::{Memory, Row, TableRead, Text, Texts, print_row};
-use relations::{copy_row, copy_rows};
+use grouping::{counts_size, group_by_size};
+use mk_value::{Memory, Name, Path, Row, TableRead, Text, Texts, print_row};
+use relations::{DerivedError, copy_row, copy_rows};
 use std::alloc::Global;
 use tables::{Shared, from_rows, share};
 use viewers::Viewer;
 
 impl<V: Viewer> Scope<'_, V> {
-    /// The number of rows.
+    /// The number of rows. Where the expression is a sorting, groups or counts, none of its rows is made.
     ///
     /// # Errors
     ///
     /// The first refusal of the expression. Else `Memory`.
     pub fn size(&self, alloc: Global, expr: &Expr) -> Result<u64, QuestionError>
         requires { IsWhole (query_of expr.now) }
-        ensures { Answers (λ size. size) (size_due (known self.now.names.views.now self.now.names.snapshots.now) (map V.meaning self.now.viewers.now) (query_of expr.now)) result }
+        ensures { Answers (λ size. size) (size_due (known self.now.names.views self.now.names.snapshots self.now.names.watches) (map V.meaning self.now.viewers.now) (query_of expr.now)) result }
     {
-        Ok(self.value(alloc, expr)?.size() as u64)
+        match expr {
+            Expr::GroupBy(base, keys, sub) => self.groups(alloc, base, keys.as_slice(), sub),
+            Expr::Counts(base, keys, count) => self.counts(alloc, base, keys.as_slice(), count),
+            _ => self.size_unordered(alloc, expr),
+        }
+    }
+
+    /// The number of rows, in whatever order they are.
+    fn size_unordered(&self, alloc: Global, expr: &Expr) -> Result<u64, QuestionError>
+        requires { IsWhole (query_of expr.now) }
+        ensures { Answers (λ size. size) (size_due (known self.now.names.views self.now.names.snapshots self.now.names.watches) (map V.meaning self.now.viewers.now) (query_of expr.now)) result }
+    {
+        Ok(self.unordered(alloc, expr)?.size() as u64)
+    }
+
+    /// The number of groups.
+    fn groups(
+        &self,
+        alloc: Global,
+        base: &Expr,
+        keys: &[Name],
+        sub: &Name,
+    ) -> Result<u64, QuestionError>
+        requires { IsWhole (query_of base.now) }
+        ensures { Answers (λ size. size) (size_due (known self.now.names.views self.now.names.snapshots self.now.names.watches) (map V.meaning self.now.viewers.now) (one operators.GroupBy (query_of base.now) (named keys.now sub.now))) result }
+    {
+        let table = self.value(alloc, base)?;
+        let rows = table.size() as u64;
+        told_size(group_by_size(alloc, table, keys, sub), rows)
+    }
+
+    /// The number of counts.
+    fn counts(
+        &self,
+        alloc: Global,
+        base: &Expr,
+        keys: &[Name],
+        count: &Name,
+    ) -> Result<u64, QuestionError>
+        requires { IsWhole (query_of base.now) }
+        ensures { Answers (λ size. size) (size_due (known self.now.names.views self.now.names.snapshots self.now.names.watches) (map V.meaning self.now.viewers.now) (one operators.Counts (query_of base.now) (named keys.now count.now))) result }
+    {
+        let table = self.value(alloc, base)?;
+        let rows = table.size() as u64;
+        told_size(counts_size(alloc, table, keys, count), rows)
     }
 
     /// The texts of the rows, in order. Beside the texts and what the expression takes, one row at a time takes memory.
@@ -36,27 +89,50 @@ impl<V: Viewer> Scope<'_, V> {
     /// The first refusal of the expression. Else `Memory`.
     pub fn rows(&self, alloc: Global, expr: &Expr) -> Result<Texts, QuestionError>
         requires { IsWhole (query_of expr.now) }
-        ensures { Answers contents (rows_due (known self.now.names.views.now self.now.names.snapshots.now) (map V.meaning self.now.viewers.now) (query_of expr.now)) result }
+        ensures { Answers contents (rows_due (known self.now.names.views self.now.names.snapshots self.now.names.watches) (map V.meaning self.now.viewers.now) (query_of expr.now)) result }
     {
         Ok(row_texts(alloc, &self.value(alloc, expr)?)?)
     }
 
-    /// The table, which keeps its rows whatever becomes of the views. That of a path is shared; that of an operator is made of its rows.
+    /// The table, which keeps its rows whatever becomes of the views. That of a view or a snapshot is shared; that of a watch or an operator
+    /// is made of its rows.
     ///
     /// # Errors
     ///
     /// The first refusal of the expression. Else `Memory`.
     pub fn table(&self, alloc: Global, expr: &Expr) -> Result<Shared, QuestionError>
         requires { IsWhole (query_of expr.now) }
-        ensures { Answers table_of (answer (known self.now.names.views.now self.now.names.snapshots.now) (map V.meaning self.now.viewers.now) (query_of expr.now)) result }
+        ensures { Answers table_of (answer (known self.now.names.views self.now.names.snapshots self.now.names.watches) (map V.meaning self.now.viewers.now) (query_of expr.now)) result }
     {
-        if let Expr::Path(path) = expr {
-            return match self.names.shared(path) {
-                Ok(table) => Ok(table),
-                Err(error) => Err(of_name(error)),
-            };
+        match expr {
+            Expr::Path(path) if self.names.is_stored(path.name()) => self.shared(path),
+            _ => Ok(gathered(alloc, &self.value(alloc, expr)?)?),
         }
-        Ok(gathered(alloc, &self.value(alloc, expr)?)?)
+    }
+
+    /// The table to which a path leads from a view or a snapshot, shared.
+    ///
+    /// # Errors
+    ///
+    /// The refusal of the path. Else `Memory`.
+    fn shared(&self, path: &Path) -> Result<Shared, QuestionError>
+        requires { is_some (find (λ (n : Named). same_bytes n.name path.now.name) (stored self.now.names.views self.now.names.snapshots)) ≡ true }
+        ensures { Answers table_of (answer (known self.now.names.views self.now.names.snapshots self.now.names.watches) (map V.meaning self.now.viewers.now) (to_path path.now)) result }
+    {
+        match self.names.shared(path) {
+            Ok(table) => Ok(table),
+            Err(error) => Err(of_name(error)),
+        }
+    }
+}
+
+/// The number of rows that an operator gives, or how it is told that it is refused whose first table has so many rows.
+fn told_size(answer: Result<usize, DerivedError>, rows: u64) -> Result<u64, QuestionError>
+    ensures { result ≡ result_map_both (λ size. size) (λ error. told_of_operator error rows) answer }
+{
+    match answer {
+        Ok(size) => Ok(size as u64),
+        Err(error) => Err(of_operator(error, rows)),
     }
 }
 

@@ -37,7 +37,7 @@ impl<V: Viewer> Scope<'_, V> {
     /// The first refusal of the expression. Else `Memory`.
     pub(crate) fn value(&self, alloc: Global, expr: &Expr) -> Result<Derived<Shared>, QuestionError>
         requires { IsWhole (query_of expr.now) }
-        ensures { Answers table_of (answer (known self.now.names.views.now self.now.names.snapshots.now) (map V.meaning self.now.viewers.now) (query_of expr.now)) result }
+        ensures { Answers table_of (answer (known self.now.names.views self.now.names.snapshots self.now.names.watches) (map V.meaning self.now.viewers.now) (query_of expr.now)) result }
     {
         Ok(eval(alloc, expr, &self.names, self.viewers)?)
     }
@@ -53,7 +53,7 @@ impl<V: Viewer> Scope<'_, V> {
         expr: &Expr,
     ) -> Result<Derived<Shared>, QuestionError>
         requires { IsWhole (query_of expr.now) }
-        ensures { AnswersUnordered (answer (known self.now.names.views.now self.now.names.snapshots.now) (map V.meaning self.now.viewers.now) (query_of expr.now)) result }
+        ensures { AnswersUnordered (answer (known self.now.names.views self.now.names.snapshots self.now.names.watches) (map V.meaning self.now.viewers.now) (query_of expr.now)) result }
     {
         match expr {
             Expr::Sort(base, keys) => self.unsorted(alloc, base, keys.as_slice()),
@@ -69,7 +69,7 @@ impl<V: Viewer> Scope<'_, V> {
         keys: &[Order],
     ) -> Result<Derived<Shared>, QuestionError>
         requires { IsWhole (query_of base.now) }
-        ensures { AnswersUnordered (answer (known self.now.names.views.now self.now.names.snapshots.now) (map V.meaning self.now.viewers.now) (one operators.Sort (query_of base.now) (orders keys.now))) result }
+        ensures { AnswersUnordered (answer (known self.now.names.views self.now.names.snapshots self.now.names.watches) (map V.meaning self.now.viewers.now) (one operators.Sort (query_of base.now) (orders keys.now))) result }
     {
         let table = self.value(alloc, base)?;
         let keys = keys_given(alloc, keys)?;

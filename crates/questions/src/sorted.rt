@@ -5,27 +5,45 @@ ghost use Rattle.expr_text.specs.Meanings.{query_of};
 ghost use Rattle.eval.specs.Values.{key_of};
 ghost use Rattle.mk_value.specs.Names.{same_bytes};
 ghost use Rattle.relations.specs.Sorting.{all_keys, keys_or_all};
-ghost use Rattle.questions.specs.Places.{begin as begin_keys, first_keys as keys_once, known_keys as keys_known};
+ghost use Rattle.following.specs.Watches.{op_of};
+ghost use Rattle.questions.specs.Places.{begin as begin_keys, first_keys as keys_once, keys_shown, known_keys as keys_known};
 
+use crate::known::Known;
 use expr_text::{Crit, Expr, Order};
+use live::WatchOp;
 use mk_value::{Kind, Memory, Name, Schema, Sequence};
 use relations::Key;
 use std::alloc::Global;
 
-/// The keys by which the value of an expression is known to be sorted, each property once; none where it is no sorting.
-pub(crate) fn known_keys(
-    alloc: Global,
-    expr: &Expr,
-    schema: &Schema,
-) -> Result<Sequence<Key>, Memory>
-    ensures { IfOk result (λ keys. keys ≡ keys_known (query_of expr.now) schema.now) }
-{
-    match expr {
-        Expr::Sort(_, orders) => {
-            let keys = given_or_all(alloc, orders.as_slice(), schema)?;
-            first_keys(alloc, keys.as_slice())
+impl Known<'_> {
+    /// The keys by which the value of an expression is known to be sorted, each property once; none where it is neither a sorting nor a
+    /// watch that is one.
+    pub(crate) fn known_keys(
+        &self,
+        alloc: Global,
+        expr: &Expr,
+        schema: &Schema,
+    ) -> Result<Sequence<Key>, Memory>
+        ensures { IfOk result (λ keys. keys ≡ keys_known self.now.watches (query_of expr.now) schema.now) }
+    {
+        match expr {
+            Expr::Sort(_, orders) => {
+                let keys = given_or_all(alloc, orders.as_slice(), schema)?;
+                first_keys(alloc, keys.as_slice())
+            }
+            Expr::Path(path) => self.watched_keys(alloc, path.name()),
+            _ => Ok(Sequence::new(alloc)),
         }
-        _ => Ok(Sequence::new(alloc)),
+    }
+
+    /// The keys of the watch of a name, each property once; none where it is no sorting, or there is none.
+    fn watched_keys(&self, alloc: Global, name: &Name) -> Result<Sequence<Key>, Memory>
+        ensures { IfOk result (λ keys. keys ≡ keys_shown (op_of self.now.watches name.now)) }
+    {
+        match self.watches.op(name) {
+            Some(WatchOp::Sort(keys)) => first_keys(alloc, keys.as_slice()),
+            _ => Ok(Sequence::new(alloc)),
+        }
     }
 }
 

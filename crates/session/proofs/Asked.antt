@@ -1,19 +1,15 @@
 -- What a question is answered.
-use Rattle.std.proofs.Common.{◌≡◌, ℕ, ◌+◌, ◌≤◌, true, List, length, Result, Ok, Err, refl, ap, sym, subst, ◌∙◌, inl, inr, arith}
+use Rattle.std.proofs.Common.{◌≡◌, ℕ, ◌≤◌, true, List, length, Result, Ok, Err, refl, ap, sym, subst, ◌∙◌, inl, inr, arith}
 use Rattle.std.specs.Prelude.{◌⊎◌}
 use Rattle.cmd_text.specs.Replies.{reply_bytes}
 use Rattle.cmd_text.specs.declared.command.Command.{Command}
-use Rattle.cmd_text.specs.declared.refusal.Refusal.{Refusal}
 use Rattle.cmd_text.specs.declared.refusal.Refusal.TheVariants.{Memory}
 use Rattle.cmd_text.specs.declared.reply.Reply.{Reply}
 use Rattle.cmd_text.specs.declared.reply.Reply.TheVariants.{Lines, Refused, Row}
-use Rattle.eval.specs.Names.{Named}
 use Rattle.lines.specs.Lines.{max_line}
 use Rattle.mk_value.specs.Buffer.{Buffer}
-use Rattle.questions.specs.Kept.{Kept, known}
 use Rattle.questions.specs.declared.error.QuestionError.{QuestionError}
 use Rattle.questions.specs.declared.error.QuestionError.TheVariants as questions
-use Rattle.view_store.specs.Views.{NamedTable}
 use Rattle.viewers.specs.Meanings.{Meaning}
 use Rattle.session.specs.Answered.{Answered, IsGiven}
 use Rattle.session.specs.Commands.{Outcome, outcome_in, takes_memory, told}
@@ -57,7 +53,3 @@ of_lines viewers command w texts takes answer = record { answers = inl answer; f
 
 pub of_row : (viewers : List Meaning) (command : Command) (w : World) (text : Buffer) → takes_memory command ≡ true → IsGiven (outcome_in viewers w command) (reply_bytes (Row text)) w → Answered viewers command w (Row text) w
 of_row viewers command w text takes answer = record { answers = inl answer; fits = inl tt; kept = λ _. (takes, refl); silent = λ is. cc }
-
--- what is asked of names is asked of those of a world
-pub among : {Y : Type 0} (views views' : List NamedTable) (snapshots snapshots' : List Kept) (asked : List Named → Y) → views ≡ views' → snapshots ≡ snapshots' → asked (known views snapshots) ≡ asked (known views' snapshots')
-among views views' snapshots snapshots' asked e f = ap (λ v. asked (known v snapshots)) e ∙ ap (λ s. asked (known views' s)) f

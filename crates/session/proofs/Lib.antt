@@ -2,9 +2,11 @@ pub mod Asked
 pub mod Dues
 pub mod Fitted
 pub mod Known
+mod LinesOn
 pub mod Machines
 pub mod OnDisk
 pub mod Outcomes
+mod Putting
 pub mod Readings
 pub mod Ready
 pub mod Started
@@ -13,3 +15,4 @@ pub mod Structured
 pub mod Undamaged
 pub mod Unfaulted
 pub mod Walked
+mod Watched

@@ -25,7 +25,7 @@ use Rattle.recovery.specs.Standing.{StandsFor}
 use Rattle.recovery.specs.declared.error.OpenError.{OpenError}
 use Rattle.recovery.specs.declared.error.OpenError.TheVariants as opening
 use Rattle.storage.specs.Committing.{Commits}
-use Rattle.storage.specs.Reverting.{NamesRefusal, Reverts, views_without_homes}
+use Rattle.storage.specs.Reverting.{NamesRefusal, Reverts}
 use Rattle.storage.specs.Stored.{Rests, Stored, committed, failed, is_shut, reopened, with_views}
 use Rattle.storage.specs.Syncing.{SyncsAtMost}
 use Rattle.storage.specs.declared.error.RevertError.{RevertError}
@@ -39,7 +39,7 @@ use Rattle.session.specs.Going.{GoesOn}
 use Rattle.session.specs.Moments.{IsWithinCommand}
 use Rattle.session.specs.Planning.{IsPlannedNext, IsUnplanned}
 use Rattle.session.specs.Refusals.{first_of, refusal_of_opening, refusal_of_revert, unless}
-use Rattle.session.specs.World.{World, with_store, with_tables, without_cursors}
+use Rattle.session.specs.World.{World, with_store, without_followers}
 use Rattle.session.proofs.Outcomes.{goes_always, open_goes, outcome_open, refused_comes, still}
 use Rattle.session.proofs.Ready.{SameFile, ready_at_rest, ready_same, ready_when_shut}
 use Rattle.session.proofs.Undamaged.{no_cause}
@@ -215,7 +215,7 @@ module _ (known : Type 0) (viewers : List Meaning) (w : World) (from to : Outsid
   settles_of : (known → SyncsAtMost (is_shut w.store) from to) → (new : World) → SettlesAtMost known (state_of w from) (state_of new to)
   settles_of syncs new = record { bytes = λ k. settled_by w new from to (is_shut w.store) refl (syncs k); later = later }
 
-  pub reopen_made : (new : World) (number : ℕ) → new ≡ without_cursors (with_store w (reopened w.store new.store.kept new.store.slot new.store.other)) → number ≡ new.store.kept.number → reply ≡ reply_bytes (Reopen number)
+  pub reopen_made : (new : World) (number : ℕ) → new ≡ without_followers (with_store w (reopened w.store new.store.kept new.store.slot new.store.other)) → number ≡ new.store.kept.number → reply ≡ reply_bytes (Reopen number)
       → (known → StandsFor from.now.disk.seen new.store.kept) → (known → Rests new.store to.now.disk) → (known → SyncsAtMost (is_shut w.store) from to)
       → Carried known viewers commands.Reopen (state_of w from) reply (state_of new to)
   reopen_made new number made is answer stands rests syncs =
@@ -272,13 +272,13 @@ module _ (known : Type 0) (viewers : List Meaning) (w : World) (from to : Outsid
       disk_same : known → to.now.disk ≡ from.now.disk
       disk_same k = ap (λ (m : Moment). m.disk) (looks k).still.now
 
-      pub revert_made : (new : World) (store : Stored) (number : ℕ) → new ≡ without_cursors (with_store w store) → Reverts known from.now.disk.seen w.store store number → reply ≡ reply_bytes (Revert number) → Carried known viewers commands.Revert (state_of w from) reply (state_of new to)
+      pub revert_made : (new : World) (store : Stored) (number : ℕ) → new ≡ without_followers (with_store w store) → Reverts known from.now.disk.seen w.store store number → reply ≡ reply_bytes (Revert number) → Carried known viewers commands.Revert (state_of w from) reply (state_of new to)
       revert_made new store number is made answer =
           inl (subst (λ (o : Outcome). Comes known o (state_of w from) reply (state_of new to)) (sym (open_revert true some)) (inl (record {
             older = made.older;
             before = made.before;
             answer = answer ∙ ap (λ n. reply_bytes (Revert n)) made.number_is;
-            world = is ∙ ap (λ (s : Stored). without_cursors (with_store w s)) made.views;
+            world = is ∙ ap (λ (s : Stored). without_followers (with_store w s)) made.views;
             disk = record { bytes = disk_same; later = later };
           })))
 

@@ -145,17 +145,17 @@ given_same viewers (commands.Show e) w reply new given = given_told (rows_due (n
 given_same viewers (commands.Find e start criteria) w reply new given =
     given_told (find_due (names_in w) viewers (query_of e) start criteria) (λ place. reply_bytes (place_reply place)) w new reply given
 given_same viewers (commands.Search e criteria) w reply new given =
-    given_told (search_due (names_in w) viewers (query_of e) criteria) (λ place. reply_bytes (Count place)) w new reply given
+    given_told (search_due (names_in w) w.watches viewers (query_of e) criteria) (λ place. reply_bytes (Count place)) w new reply given
 given_same viewers (commands.Locate e criteria) w reply new given =
-    given_told (locate_due (names_in w) viewers (query_of e) criteria) (λ at. reply_bytes (located_reply at)) w new reply given
+    given_told (locate_due (names_in w) w.watches viewers (query_of e) criteria) (λ at. reply_bytes (located_reply at)) w new reply given
 given_same viewers (commands.Dup name e) w reply new given = given_dup (answer (names_in w) viewers (query_of e)) w new reply name given
 given_same viewers (commands.Undup name) w reply new given = given_unless _ w _ new _ reply given (nothing_changed w)
-given_same viewers (commands.Cursor name target) w reply new given = given_set (standing_of w.store.views w.snapshots target) w new reply name target given
+given_same viewers (commands.Cursor name target) w reply new given = given_set (standing_of w.store.views w.snapshots w.watches target) w new reply name target given
 given_same viewers (commands.Uncursor name) w reply new given = given_unless _ w _ new _ reply given (nothing_changed w)
-given_same viewers (commands.Next name) w reply new given = given_moved (next_due w.store.views w.snapshots w.cursors name) w new reply name given
-given_same viewers (commands.Prev name) w reply new given = given_moved (previous_due w.store.views w.snapshots w.cursors name) w new reply name given
+given_same viewers (commands.Next name) w reply new given = given_moved (next_due w.store.views w.snapshots w.watches w.cursors name) w new reply name given
+given_same viewers (commands.Prev name) w reply new given = given_moved (previous_due w.store.views w.snapshots w.watches w.cursors name) w new reply name given
 given_same viewers (commands.Row name) w reply new given =
-    given_told (row_due w.store.views w.snapshots w.cursors name) (λ text. reply_line (codes "ok " ++ text)) w new reply given
+    given_told (row_due w.store.views w.snapshots w.watches w.cursors name) (λ text. reply_line (codes "ok " ++ text)) w new reply given
 given_same viewers (commands.Commit note) w reply new given = given_or_refused _ w new (commits note) reply (λ never. never) given
 given_same viewers commands.Log w reply new given = given_left w _ new _ reply given (nothing_changed w)
 given_same viewers commands.Rollback w reply new given = given_left w _ new _ reply given (changed_views w _)
@@ -163,8 +163,8 @@ given_same viewers commands.Reopen w reply new given = absurd given
 given_same viewers commands.Revert w reply new given = given_or_refused _ w new reverts reply (λ never. never) given
 given_same viewers commands.Space w reply new given = given_left w _ new _ reply given (nothing_changed w)
 given_same viewers commands.Quit w reply new given = given_left w _ new _ reply given (nothing_changed w)
-given_same viewers (commands.Watch name e) w reply new given = given_left w _ new _ reply given (nothing_changed w)
-given_same viewers (commands.Unwatch name) w reply new given = given_left w _ new _ reply given (nothing_changed w)
+given_same viewers (commands.Watch name e) w reply new given = given_unless _ w _ new _ reply given (nothing_changed w)
+given_same viewers (commands.Unwatch name) w reply new given = given_unless _ w _ new _ reply given (nothing_changed w)
 given_same viewers (commands.Hash name keys) w reply new given = given_left w _ new _ reply given (nothing_changed w)
 given_same viewers (commands.Ordered name keys) w reply new given = given_left w _ new _ reply given (nothing_changed w)
 given_same viewers (commands.Unmap name) w reply new given = given_left w _ new _ reply given (nothing_changed w)

@@ -4,8 +4,6 @@ use Rattle.std.specs.Prelude.{nat_lt}
 use Rattle.std.specs.Option.{is_some}
 use Rattle.cmd_text.specs.declared.refusal.Refusal.TheVariants.{InUse, Limit}
 use Rattle.mk_value.specs.Limits.{max_views}
-use Rattle.questions.specs.Cursors.{has_cursor_on}
-use Rattle.questions.specs.declared.cursor.Standing.TheVariants.{View}
 use Rattle.mk_value.specs.Heading.{Attribute, IsHeading}
 use Rattle.mk_value.specs.Names.{IsName, same_bytes}
 use Rattle.restructure.specs.Restructuring.{restructured}
@@ -14,7 +12,7 @@ use Rattle.struct_text.proofs.Unique.{one_structure}
 use Rattle.tables.specs.Tables.{StoredTable}
 use Rattle.view_store.specs.Views.{NamedTable, table_of, with_view}
 use Rattle.view_store.proofs.Roots.{same_name}
-use Rattle.session.specs.Naming.{declare_due, would_change}
+use Rattle.session.specs.Naming.{declare_due, is_view_used, would_change}
 use Rattle.session.specs.Refusals.{first_of, unless}
 use Rattle.session.specs.Structures.{structured, with_structure}
 use Rattle.session.specs.World.{World}
@@ -38,8 +36,8 @@ structured-other root name schema t found named first second differ =
 
 -- where a cursor stands on the view, that structure is in use
 pub declare-in_use : (w : World) (name : List ℕ) (schema : List Attribute) (t : StoredTable) → table_of w.store.views name ≡ Some t → IsName name → IsHeading t.schema → IsHeading schema → (t.schema ≡ schema → ⊥)
-    → has_cursor_on w.cursors View name ≡ true → declare_due w name schema ≡ Some InUse
+    → is_view_used w name ≡ true → declare_due w name schema ≡ Some InUse
 declare-in_use w name schema t found named first second differ stands =
-    ap (λ o. first_of (unless (is_some o || nat_lt (length w.store.views) max_views) Limit ∷ unless (not (would_change o name schema && has_cursor_on w.cursors View name)) InUse ∷ [])) found
-    ∙ ap (λ b. first_of (None ∷ unless (not (not b && has_cursor_on w.cursors View name)) InUse ∷ [])) (other_text name t.schema schema named first second differ)
+    ap (λ o. first_of (unless (is_some o || nat_lt (length w.store.views) max_views) Limit ∷ unless (not (would_change o name schema && is_view_used w name)) InUse ∷ [])) found
+    ∙ ap (λ b. first_of (None ∷ unless (not (not b && is_view_used w name)) InUse ∷ [])) (other_text name t.schema schema named first second differ)
     ∙ ap (λ b. first_of (None ∷ unless (not b) InUse ∷ [])) stands

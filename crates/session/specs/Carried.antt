@@ -16,7 +16,7 @@ use Rattle.storage.specs.Stored.{Rests, committed, failed, floor_of, reopened}
 use Rattle.viewers.specs.Meanings.{Meaning}
 use Rattle.session.specs.Commands.{Outcome, Reach, gives, commits, opens_disk, outcome_of, reach_of, reads_disk, reopens, reverts, takes_memory}
 use Rattle.session.specs.Disk.{IsNext, LeavesDisk, ReadsDisk, SettlesAtMost, WritesCommit}
-use Rattle.session.specs.World.{World, with_store, with_tables, without_cursors}
+use Rattle.session.specs.World.{World, with_store, with_tables, without_followers}
 
 -- This is said, and this world is left.
 pub record Gives (known : Type 0) (said : List ℕ) (left : World) (old : State World) (reply : List ℕ) (new : State World) : Type 0 where
@@ -59,7 +59,7 @@ pub record Reopens (known : Type 0) (old : State World) (reply : List ℕ) (new 
   pub stands : known → StandsFor old.disk.seen kept
   pub rests : known → Rests new.world.store new.disk
   pub answer : reply ≡ reply_bytes (reopened_as kept.number)
-  pub world : new.world ≡ without_cursors (with_store old.world (reopened old.world.store kept slot other))
+  pub world : new.world ≡ without_followers (with_store old.world (reopened old.world.store kept slot other))
   pub disk : SettlesAtMost known old new
 
 -- the disk failed while the file was being opened anew, and the session is as it was
@@ -82,7 +82,7 @@ pub record BringsBack (known : Type 0) (old : State World) (reply : List ℕ) (n
   pub older : Commit
   pub before : known → IsBefore old.disk.seen (whole older)
   pub answer : reply ≡ reply_bytes (reverted_to older.number)
-  pub world : new.world ≡ without_cursors (with_tables old.world (views_without_homes older.views))
+  pub world : new.world ≡ without_followers (with_tables old.world (views_without_homes older.views))
   pub disk : ReadsDisk known old new
 
 -- no commit stands any more where the one before did, and this place is why

@@ -6,7 +6,7 @@ use Rattle.dir_codec.specs.Dir.{NoteEntry}
 use Rattle.mk_value.specs.Conversions.{becomes}
 use Rattle.mk_value.specs.Data.{Datum, text}
 use Rattle.mk_value.specs.LiteralValues.{literal_of}
-use Rattle.mk_value.specs.Literals.{row_text, value_text}
+use Rattle.mk_value.specs.Literals.{value_text}
 use Rattle.mk_value.specs.Paths.{Route}
 use Rattle.cmd_text.specs.Replies.{lines_text, reply_bytes, reply_line}
 use Rattle.cmd_text.specs.declared.command.Command.{Command}
@@ -15,11 +15,17 @@ use Rattle.cmd_text.specs.declared.refusal.Refusal.{Refusal}
 use Rattle.cmd_text.specs.declared.refusal.Refusal.TheVariants.{LastNumber, NoName, ReadOnly, Shut}
 use Rattle.cmd_text.specs.declared.reply.Reply.TheVariants.{Plain, Count, Quit, Refused, Rollback, Space}
 use Rattle.expr_text.specs.Meanings.{query_of}
+use Rattle.expr_text.specs.Queries.{Query}
+use Rattle.following.specs.Watches.{rows_under, source_of, watches_of, with_watch, without_watch}
+use Rattle.live.specs.Laws.{shown}
+use Rattle.live.specs.Putting.{spelled}
+use Rattle.mk_value.specs.declared.path.Step.{Step}
 use Rattle.mk_value.specs.Tables.{Table}
 use Rattle.questions.specs.Answers.{answer, rows_due, size_due}
-use Rattle.questions.specs.Cursors.{Placed, moved, next_due, previous_due, row_due, standing_of, without_cursor}
-use Rattle.questions.specs.Kept.{Kept, without_kept}
+use Rattle.questions.specs.Cursors.{moved, next_due, previous_due, row_due, standing_of, without_cursor}
+use Rattle.questions.specs.Kept.{without_kept}
 use Rattle.questions.specs.Places.{find_due, locate_due, search_due}
+use Rattle.questions.specs.Operations.{operand}
 use Rattle.questions.specs.declared.cursor.Standing.{Standing}
 use Rattle.questions.specs.declared.error.QuestionError.{QuestionError}
 use Rattle.cmd_text.specs.declared.reply.Space.{Space as Taken}
@@ -31,12 +37,12 @@ use Rattle.struct_text.specs.Spelling.{spelling}
 use Rattle.view_store.specs.Edits.{Edit}
 use Rattle.view_store.specs.Views.{NamedTable, edited_views, without_view}
 use Rattle.viewers.specs.Meanings.{Meaning}
-use Rattle.session.specs.Naming.{drop_due, getas_due, max_cursors, max_snapshots, new_name_due, uncursor_due, undup_due}
+use Rattle.session.specs.Naming.{drop_due, getas_due, max_cursors, max_snapshots, new_name_due, uncursor_due, undup_due, unwatch_due, view_under, watch_due, watched_op}
 use Rattle.session.specs.Questions.{located_reply, names_in, place_reply, refusal_of_question}
 use Rattle.session.specs.Refusals.{add_due, first_of, insert_due, remove_due, set_due, unless}
 use Rattle.session.specs.Structures.{structured, structures}
 use Rattle.session.specs.Values.{domain_named, schema_named, size_named, values_for}
-use Rattle.session.specs.World.{World, with_store, with_tables, without_cursors}
+use Rattle.session.specs.World.{World, with_line, with_store, with_tables, without_followers}
 
 -- What a command asks for: a reply and a world, or something of the disk.
 pub data Outcome : Type 0 where
@@ -91,6 +97,28 @@ changed root route row prop literal = edited_views root route (Edit.set row prop
 abbrev pub removed : List NamedTable → Route → ℕ → ℕ → List NamedTable
 removed root route place rows = edited_views root route (Edit.remove place rows)
 
+-- how many events so many rows are that an edit puts in or takes out where the steps lead: inside a row they are one change of that row
+abbrev pub events_at : List Step → ℕ → ℕ
+events_at [] rows = rows
+events_at (step ∷ steps) rows = 1
+
+-- a watch more
+abbrev pub put_over : World → List ℕ → Query → World
+put_over w name q = record w {
+  watches = with_watch w.watches (source_of w.watches (operand q)).view (record {
+    name = name;
+    source = (source_of w.watches (operand q)).over;
+    op = spelled (view_under w (operand q)).schema (watched_op w q);
+    followed = 0;
+  });
+}
+
+-- the number of its rows
+abbrev pub watch_size : World → Query → ℕ
+watch_size w q =
+    let source = source_of w.watches (operand q) in
+    let t = view_under w (operand q) in length (shown t.schema (spelled t.schema (watched_op w q)) (rows_under t (watches_of w.watches source.view) source.over))
+
 -- whether commits are made at all
 abbrev pub may_write : Mode → Bool
 may_write Write = true
@@ -128,42 +156,47 @@ outcome_in viewers w commands.Struct = gives (lines_text (structures w.store.vie
 -- the reply to `add` is the place of the row; the replies to `insert` and `remove` are the sizes after them
 outcome_in viewers w (commands.Add route literals) =
     unless_due (add_due w.store.views route literals) w
-    (gives (reply_bytes (Count (size_named w.store.views route))) (with_tables w (inserted w.store.views route (size_named w.store.views route) 1 literals)))
+    (gives (reply_bytes (Count (size_named w.store.views route))) (with_line w (inserted w.store.views route (size_named w.store.views route) 1 literals) route.name 1))
 outcome_in viewers w (commands.Insert route place copies literals) =
     unless_due (insert_due w.store.views route place copies literals) w
-    (gives (reply_bytes (Count (size_named w.store.views route + copies))) (with_tables w (inserted w.store.views route place copies literals)))
+    (gives (reply_bytes (Count (size_named w.store.views route + copies))) (with_line w (inserted w.store.views route place copies literals) route.name (events_at route.steps copies)))
 outcome_in viewers w (commands.Set route row prop literal) =
     unless_due (set_due w.store.views route row prop (literal_of literal)) w
-    (gives (reply_bytes Plain) (with_tables w (changed w.store.views route row prop (literal_of literal))))
+    (gives (reply_bytes Plain) (with_line w (changed w.store.views route row prop (literal_of literal)) route.name 1))
 outcome_in viewers w (commands.Remove route place rows) =
     unless_due (remove_due w.store.views route place rows) w
-    (gives (reply_bytes (Count (size_named w.store.views route - rows))) (with_tables w (removed w.store.views route place rows)))
+    (gives (reply_bytes (Count (size_named w.store.views route - rows))) (with_line w (removed w.store.views route place rows) route.name (events_at route.steps rows)))
 outcome_in viewers w (commands.Size e) = told (size_due (names_in w) viewers (query_of e)) w (λ size. gives (reply_bytes (Count size)) w)
 outcome_in viewers w (commands.Show e) = told (rows_due (names_in w) viewers (query_of e)) w (λ rows. gives (lines_text rows) w)
 outcome_in viewers w (commands.Find e start criteria) =
     told (find_due (names_in w) viewers (query_of e) start criteria) w (λ place. gives (reply_bytes (place_reply place)) w)
 outcome_in viewers w (commands.Search e criteria) =
-    told (search_due (names_in w) viewers (query_of e) criteria) w (λ place. gives (reply_bytes (Count place)) w)
+    told (search_due (names_in w) w.watches viewers (query_of e) criteria) w (λ place. gives (reply_bytes (Count place)) w)
 outcome_in viewers w (commands.Locate e criteria) =
-    told (locate_due (names_in w) viewers (query_of e) criteria) w (λ at. gives (reply_bytes (located_reply at)) w)
+    told (locate_due (names_in w) w.watches viewers (query_of e) criteria) w (λ at. gives (reply_bytes (located_reply at)) w)
 -- the reply to `dup` is the number of rows
 outcome_in viewers w (commands.Dup name e) =
     told (answer (names_in w) viewers (query_of e)) w (λ t.
     unless_due (new_name_due w name (length w.snapshots) max_snapshots) w (gives (reply_bytes (Count (length t.rows))) (with_snapshot w name t)))
 outcome_in viewers w (commands.Undup name) =
     unless_due (undup_due w name) w (gives (reply_bytes Plain) (record w { snapshots = without_kept w.snapshots name }))
-outcome_in viewers w (commands.Cursor name target) = set_on (standing_of w.store.views w.snapshots target) w name target
+-- the reply to `watch` is the number of rows
+outcome_in viewers w (commands.Watch name e) =
+    unless_due (watch_due w name (query_of e)) w (gives (reply_bytes (Count (watch_size w (query_of e)))) (put_over w name (query_of e)))
+outcome_in viewers w (commands.Unwatch name) =
+    unless_due (unwatch_due w name) w (gives (reply_bytes Plain) (record w { watches = without_watch w.watches name }))
+outcome_in viewers w (commands.Cursor name target) = set_on (standing_of w.store.views w.snapshots w.watches target) w name target
 outcome_in viewers w (commands.Uncursor name) =
     unless_due (uncursor_due w name) w (gives (reply_bytes Plain) (record w { cursors = without_cursor w.cursors name }))
 outcome_in viewers w (commands.Next name) =
-    told (next_due w.store.views w.snapshots w.cursors name) w (λ place. gives (reply_bytes (Count place)) (moved_in w name place))
+    told (next_due w.store.views w.snapshots w.watches w.cursors name) w (λ place. gives (reply_bytes (Count place)) (moved_in w name place))
 outcome_in viewers w (commands.Prev name) =
-    told (previous_due w.store.views w.snapshots w.cursors name) w (λ place. gives (reply_bytes (Count place)) (moved_in w name place))
+    told (previous_due w.store.views w.snapshots w.watches w.cursors name) w (λ place. gives (reply_bytes (Count place)) (moved_in w name place))
 outcome_in viewers w (commands.Row name) =
-    told (row_due w.store.views w.snapshots w.cursors name) w (λ text. gives (reply_line (codes "ok " ++ text)) w)
+    told (row_due w.store.views w.snapshots w.watches w.cursors name) w (λ text. gives (reply_line (codes "ok " ++ text)) w)
 outcome_in viewers w (commands.Commit note) = unless_due (commit_due w.store) w (commits note)
 outcome_in viewers w commands.Log = gives (lines_text (note_texts w.store.kept.notes)) w
-outcome_in viewers w commands.Rollback = gives (reply_bytes (Rollback w.store.kept.number)) (without_cursors (with_store w (rolled_back w.store)))
+outcome_in viewers w commands.Rollback = gives (reply_bytes (Rollback w.store.kept.number)) (without_followers (with_store w (rolled_back w.store)))
 outcome_in viewers w commands.Reopen = reopens
 outcome_in viewers w commands.Revert = unless_due (revert_due w.store) w reverts
 outcome_in viewers w commands.Space = gives (reply_bytes (Space (taken w.store))) w

@@ -3,6 +3,7 @@ pub mod Carried
 pub mod Commands
 pub mod Disk
 pub mod Fitting
+pub mod Following
 pub mod Going
 pub mod Lines
 pub mod Moments

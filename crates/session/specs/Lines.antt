@@ -5,10 +5,11 @@ use Rattle.std.specs.Str.{bytes_eq, is_utf8}
 use Rattle.mk_value.specs.Conversions.{IsProper}
 use Rattle.mk_value.specs.LiteralValues.{literal_of}
 use Rattle.eval.specs.Parts.{IsWhole}
+use Rattle.expr_text.specs.InLines.{IsOperation}
 use Rattle.expr_text.specs.Meanings.{query_of}
 use Rattle.cmd_text.specs.Lines.{is_space, without_leading, without_trailing}
 use Rattle.cmd_text.specs.declared.command.Command.{Command}
-use Rattle.cmd_text.specs.declared.command.Command.TheVariants.{Getas, Add, Insert, Set, Size, Show, Find, Search, Locate, Dup, Watch, Unwatch, Hash, Ordered, Unmap}
+use Rattle.cmd_text.specs.declared.command.Command.TheVariants.{Getas, Add, Insert, Set, Size, Show, Find, Search, Locate, Dup, Watch, Hash, Ordered, Unmap}
 use Rattle.lines.specs.Lines.{max_line}
 use Rattle.struct_text.specs.Spelling.{spelling}
 
@@ -33,8 +34,7 @@ IsOfLine (Find e start criteria) = IsWhole (query_of e)
 IsOfLine (Search e criteria) = IsWhole (query_of e)
 IsOfLine (Locate e criteria) = IsWhole (query_of e)
 IsOfLine (Dup name e) = IsWhole (query_of e)
-IsOfLine (Watch name e) = ⊥
-IsOfLine (Unwatch name) = ⊥
+IsOfLine (Watch name e) = IsOperation (query_of e)
 IsOfLine (Hash name keys) = ⊥
 IsOfLine (Ordered name keys) = ⊥
 IsOfLine (Unmap name) = ⊥

@@ -1,14 +1,21 @@
--- Names beside those of views: the refusals of a command that makes or gives up a snapshot or a cursor, or a view that one may stand on.
-use Rattle.std.specs.Prelude.{ℕ, Bool, true, false, ◌&&◌, ◌||◌, not, nat_lt, List, [], ◌∷◌, length, Option, Some, None}
-use Rattle.std.specs.Option.{is_some}
+-- Names beside those of views: the refusals of a command that makes or gives up a snapshot, a cursor or a watch, or a view that one may stand on.
+use Rattle.std.specs.Prelude.{ℕ, Bool, false, ◌&&◌, ◌||◌, not, nat_lt, List, [], ◌∷◌, length, Option, Some, None, Result, Ok, Err}
+use Rattle.std.specs.Option.{is_some, option_map, unwrap_or}
 use Rattle.cmd_text.specs.declared.refusal.Refusal.{Refusal}
-use Rattle.cmd_text.specs.declared.refusal.Refusal.TheVariants.{NoName, Exists, Limit, InUse}
+use Rattle.cmd_text.specs.declared.refusal.Refusal.TheVariants.{Memory, NoName, Exists, NoProp, Kind, Limit, InUse}
+use Rattle.following.specs.Refusals.{put_due}
+use Rattle.following.specs.Watches.{has_over, is_watch, is_watched, source_of}
+use Rattle.live.specs.declared.error.WatchError.{WatchError}
+use Rattle.live.specs.declared.error.WatchError.TheVariants as watching
 use Rattle.mk_value.specs.Heading.{Attribute}
 use Rattle.mk_value.specs.Limits.{max_views}
 use Rattle.mk_value.specs.Names.{same_bytes}
-use Rattle.questions.specs.Cursors.{Placed, has_cursor_on, is_cursor}
-use Rattle.questions.specs.Kept.{Kept, is_kept}
-use Rattle.questions.specs.declared.cursor.Standing.TheVariants.{View, Snapshot}
+use Rattle.questions.specs.Cursors.{has_cursor_on, is_cursor}
+use Rattle.questions.specs.Kept.{is_kept}
+use Rattle.live.specs.declared.op.WatchOp.{WatchOp}
+use Rattle.questions.specs.Operations.{operand, operation}
+use Rattle.questions.specs.declared.cursor.Standing.TheVariants.{View, Snapshot, Watch}
+use Rattle.expr_text.specs.Queries.{Query}
 use Rattle.struct_text.specs.Spelling.{spelling}
 use Rattle.tables.specs.Tables.{StoredTable}
 use Rattle.view_store.specs.Views.{NamedTable, table_of}
@@ -22,9 +29,9 @@ max_snapshots = 64
 abbrev pub max_cursors : ℕ
 max_cursors = 64
 
--- a snapshot or a cursor has the name; or a view has it
+-- a snapshot, a cursor or a watch has the name; or a view has it
 abbrev pub is_beside_views : World → List ℕ → Bool
-is_beside_views w name = is_kept w.snapshots name || is_cursor w.cursors name
+is_beside_views w name = is_kept w.snapshots name || (is_cursor w.cursors name || is_watch w.watches name)
 
 abbrev pub is_taken : World → List ℕ → Bool
 is_taken w name = is_some (table_of w.store.views name) || is_beside_views w name
@@ -42,20 +49,24 @@ would_change (Some t) name schema = not (same_bytes (spelling name t.schema) (sp
 abbrev pub room_due : List NamedTable → List ℕ → Option Refusal
 room_due root name = unless (is_some (table_of root name) || nat_lt (length root) max_views) Limit
 
--- a structure for the view of a name: no cursor stands on a view whose structure would change
+-- a cursor or a watch stands on the view of the name
+abbrev pub is_view_used : World → List ℕ → Bool
+is_view_used w name = has_cursor_on w.cursors View name || is_watched w.watches name
+
+-- a structure for the view of a name: neither cursor nor watch stands on a view whose structure would change
 abbrev pub declare_due : World → List ℕ → List Attribute → Option Refusal
 declare_due w name schema =
     first_of (room_due w.store.views name
-    ∷ unless (not (would_change (table_of w.store.views name) name schema && has_cursor_on w.cursors View name)) InUse
+    ∷ unless (not (would_change (table_of w.store.views name) name schema && is_view_used w name)) InUse
     ∷ [])
 
--- `getas`: a structure for a name that no snapshot and no cursor has
+-- `getas`: a structure for a name that no snapshot, no cursor and no watch has
 abbrev pub getas_due : World → List ℕ → List Attribute → Option Refusal
 getas_due w name schema = first_of (unless (not (is_beside_views w name)) Exists ∷ declare_due w name schema ∷ [])
 
--- `drop`: the view of a name, on which no cursor stands
+-- `drop`: the view of a name, on which neither cursor nor watch stands
 abbrev pub drop_due : World → List ℕ → Option Refusal
-drop_due w name = first_of (unless (is_some (table_of w.store.views name)) NoName ∷ unless (not (has_cursor_on w.cursors View name)) InUse ∷ [])
+drop_due w name = first_of (unless (is_some (table_of w.store.views name)) NoName ∷ unless (not (is_view_used w name)) InUse ∷ [])
 
 -- `undup`: the snapshot of a name, on which no cursor stands
 abbrev pub undup_due : World → List ℕ → Option Refusal
@@ -64,3 +75,39 @@ undup_due w name = first_of (unless (is_kept w.snapshots name) NoName ∷ unless
 -- `uncursor`: the cursor of a name
 abbrev pub uncursor_due : World → List ℕ → Option Refusal
 uncursor_due w name = unless (is_cursor w.cursors name) NoName
+
+-- the table of the view over which what has this name stands: a view, or a watch; and an empty one where there is none
+abbrev pub table_under : World → List ℕ → Option StoredTable
+table_under w name = table_of w.store.views (source_of w.watches name).view
+
+abbrev pub view_under : World → List ℕ → StoredTable
+view_under w name = unwrap_or (table_under w name) (record { schema = []; rows = []; homes = [] })
+
+-- how it is told that a watch is not put
+abbrev pub refusal_of_watch : WatchError → Refusal
+refusal_of_watch watching.NoProp = NoProp
+refusal_of_watch watching.WrongKind = Kind
+refusal_of_watch watching.TooDeep = Limit
+refusal_of_watch watching.Memory = Memory
+
+-- what is told of a watch that was to be put
+abbrev pub told_of_put : Result ℕ WatchError → Result ℕ Refusal
+told_of_put (Ok size) = Ok size
+told_of_put (Err e) = Err (refusal_of_watch e)
+
+-- what is watched: an operation of what a name stands for
+abbrev pub watched_op : World → Query → WatchOp
+watched_op w q = operation (view_under w (operand q)).schema q
+
+-- `watch`: a view or a watch of the name that the operation is asked of, a new name, and the operation
+abbrev pub watch_due : World → List ℕ → Query → Option Refusal
+watch_due w name q =
+    first_of (unless (is_some (table_under w (operand q))) NoName
+    ∷ unless (not (is_taken w name)) Exists
+    ∷ option_map refusal_of_watch (put_due (view_under w (operand q)).schema w.watches (source_of w.watches (operand q)) (watched_op w q))
+    ∷ [])
+
+-- `unwatch`: the watch of a name, on which neither watch nor cursor stands
+abbrev pub unwatch_due : World → List ℕ → Option Refusal
+unwatch_due w name =
+    first_of (unless (is_watch w.watches name) NoName ∷ unless (not (has_over w.watches name || has_cursor_on w.cursors Watch name)) InUse ∷ [])

@@ -1,6 +1,5 @@
 -- What a question about an expression or a cursor is answered.
 use Rattle.std.specs.Prelude.{◌≡◌, ◌⊎◌, ℕ, List, Option, Some, None, Result, Ok, Err}
-use Rattle.cmd_text.specs.Replies.{reply_bytes}
 use Rattle.cmd_text.specs.declared.refusal.Refusal.{Refusal}
 use Rattle.cmd_text.specs.declared.refusal.Refusal.TheVariants.{Memory, NoName, Exists, Range, NoProp, Kind, Limit, Unsorted}
 use Rattle.cmd_text.specs.declared.reply.Reply.{Reply}
@@ -23,9 +22,9 @@ refusal_of_question questions.Limit = Limit
 refusal_of_question questions.Unsorted = Unsorted
 refusal_of_question questions.Memory = Memory
 
--- what the names of a question stand for: views, and behind them snapshots
+-- what the names of a question stand for: views, behind them snapshots, and behind these watches
 abbrev pub names_in : World → List Named
-names_in w = known w.store.views w.snapshots
+names_in w = known w.store.views w.snapshots w.watches
 
 -- a place where rows with the values stand, if there is one; and a place with a number of rows
 abbrev pub place_reply : Option ℕ → Reply

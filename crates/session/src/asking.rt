@@ -3,11 +3,13 @@ ghost use Rattle.std.specs.Prelude.{◌≡◌, map};
 ghost use Rattle.cmd_text.specs.declared.command.Command.TheVariants as commands;
 ghost use Rattle.eval.specs.Parts.{IsWhole};
 ghost use Rattle.expr_text.specs.Meanings.{query_of};
+ghost use Rattle.following.specs.Keeping.{AreKept, followed};
 ghost use Rattle.session.specs.Answered.{Answered};
 
 use crate::{Session, replies};
 use cmd_text::Reply;
 use expr_text::{Crits, Expr};
+use following::Following;
 use questions::{Known, Scope, Snapshots};
 use storage::Store;
 use viewers::Viewer;
@@ -15,11 +17,12 @@ use viewers::Viewer;
 impl Session {
     /// What a question may use.
     fn scope<'a, V: Viewer>(&'a self, viewers: &'a [V]) -> Scope<'a, V>
-        ensures views { result.names.views.now ≡ self.now.store.views }
-        ensures snapshots { result.names.snapshots.now ≡ self.now.snapshots }
+        ensures views { result.names.views ≡ self.now.store.views }
+        ensures snapshots { result.names.snapshots ≡ self.now.snapshots }
+        ensures watches { result.names.watches ≡ self.now.watches }
         ensures viewers { result.viewers.now ≡ viewers.now }
     {
-        scope_of(&self.store, &self.snapshots, viewers)
+        scope_of(&self.store, &self.snapshots, &self.watches, viewers)
     }
 
     /// Answers how many rows an expression has.
@@ -93,29 +96,35 @@ impl Session {
     }
 }
 
-/// What the names of a question stand for: the views of a store, and snapshots.
-pub(crate) fn names_of<'a>(store: &'a Store, snapshots: &'a Snapshots) -> Known<'a>
-    ensures views { result.views.now ≡ store.now.views }
-    ensures snapshots { result.snapshots.now ≡ snapshots.now }
+/// What the names of a question stand for: the views of a store, snapshots, and watches of those views.
+pub(crate) fn names_of<'a>(
+    store: &'a Store,
+    snapshots: &'a Snapshots,
+    watches: &'a Following,
+) -> Known<'a>
+    requires kept { AreKept store.now.views watches.now }
+    ensures views { result.views ≡ store.now.views }
+    ensures snapshots { result.snapshots ≡ snapshots.now }
+    ensures watches { result.watches ≡ followed watches.now }
 {
-    Known {
-        views: store.views(),
-        snapshots: snapshots.as_slice(),
-    }
+    Known::of(store.views(), snapshots.as_slice(), watches)
 }
 
-/// What a question may use: the views of a store, snapshots, and viewers.
+/// What a question may use: the views of a store, snapshots, watches of those views, and viewers.
 pub(crate) fn scope_of<'a, V: Viewer>(
     store: &'a Store,
     snapshots: &'a Snapshots,
+    watches: &'a Following,
     viewers: &'a [V],
 ) -> Scope<'a, V>
-    ensures views { result.names.views.now ≡ store.now.views }
-    ensures snapshots { result.names.snapshots.now ≡ snapshots.now }
+    requires kept { AreKept store.now.views watches.now }
+    ensures views { result.names.views ≡ store.now.views }
+    ensures snapshots { result.names.snapshots ≡ snapshots.now }
+    ensures watches { result.names.watches ≡ followed watches.now }
     ensures viewers { result.viewers.now ≡ viewers.now }
 {
     Scope {
-        names: names_of(store, snapshots),
+        names: names_of(store, snapshots, watches),
         viewers,
     }
 }

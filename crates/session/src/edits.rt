@@ -11,11 +11,11 @@ ghost use Rattle.view_store.specs.Fitting.{are_of};
 ghost use Rattle.view_store.specs.Edits.{Edit};
 ghost use Rattle.view_store.specs.Refusals.{due, schema_of};
 ghost use Rattle.view_store.specs.Views.{edited_views};
-ghost use Rattle.session.specs.Commands.{changed, inserted, removed};
+ghost use Rattle.session.specs.Commands.{changed, events_at, inserted, removed};
 ghost use Rattle.session.specs.Fitting.{all_short, is_short};
 ghost use Rattle.session.specs.Refusals.{AnswersDue, add_due, by_rows, by_schema, copies_refusal, first_of, insert_due, literal_refusal, literals_refusal, max_copies, place_refusal, remove_due, row_refusal, rows_refusal, set_due, unless};
 ghost use Rattle.session.specs.Values.{domain_named, schema_named, size_named, values_for};
-ghost use Rattle.session.specs.World.{with_tables};
+ghost use Rattle.session.specs.World.{with_line};
 
 use crate::Session;
 use crate::refusals::of_edit;
@@ -32,7 +32,7 @@ impl Session {
         requires { All IsProper literals.now }
         ensures due { AnswersDue (add_due self.old.store.views path.now literals.now) result }
         ensures place { IfOk result (λ place. place ≡ size_named self.old.store.views path.now) }
-        ensures ok { OnOk result (self.new ≡ with_tables self.old (inserted self.old.store.views path.now (size_named self.old.store.views path.now) 1 literals.now)) }
+        ensures ok { OnOk result (self.new ≡ with_line self.old (inserted self.old.store.views path.now (size_named self.old.store.views path.now) 1 literals.now) path.now.name 1) }
         ensures err { OnErr result (self.new ≡ self.old) }
     {
         self.check_row_of(path, literals)?;
@@ -52,7 +52,7 @@ impl Session {
         requires { All IsProper literals.now }
         ensures due { AnswersDue (insert_due self.old.store.views path.now place copies literals.now) result }
         ensures size { IfOk result (λ size. size ≡ size_named self.old.store.views path.now + copies) }
-        ensures ok { OnOk result (self.new ≡ with_tables self.old (inserted self.old.store.views path.now place copies literals.now)) }
+        ensures ok { OnOk result (self.new ≡ with_line self.old (inserted self.old.store.views path.now place copies literals.now) path.now.name (events_at path.now.steps copies)) }
         ensures err { OnErr result (self.new ≡ self.old) }
     {
         self.check_row_of(path, literals)?;
@@ -71,7 +71,7 @@ impl Session {
     ) -> Result<(), Refusal>
         requires { IsProper (literal_of literal.now) }
         ensures due { AnswersDue (set_due self.old.store.views path.now row prop.now (literal_of literal.now)) result }
-        ensures ok { OnOk result (self.new ≡ with_tables self.old (changed self.old.store.views path.now row prop.now (literal_of literal.now))) }
+        ensures ok { OnOk result (self.new ≡ with_line self.old (changed self.old.store.views path.now row prop.now (literal_of literal.now)) path.now.name 1) }
         ensures err { OnErr result (self.new ≡ self.old) }
     {
         self.check_value_of(path, prop, literal)?;
@@ -85,7 +85,7 @@ impl Session {
     pub(crate) fn remove(&mut self, path: &Path, place: u64, rows: u64) -> Result<u64, Refusal>
         ensures due { AnswersDue (remove_due self.old.store.views path.now place rows) result }
         ensures size { IfOk result (λ size. size ≡ size_named self.old.store.views path.now - rows) }
-        ensures ok { OnOk result (self.new ≡ with_tables self.old (removed self.old.store.views path.now place rows)) }
+        ensures ok { OnOk result (self.new ≡ with_line self.old (removed self.old.store.views path.now place rows) path.now.name (events_at path.now.steps rows)) }
         ensures err { OnErr result (self.new ≡ self.old) }
     {
         let size = self.size_of(path)?;
@@ -110,58 +110,13 @@ impl Session {
         requires place { place ≤ size }
         ensures due { AnswersDue (first_of (copies_refusal size copies ∷ unless (all_short literals.now) Refusal.Limit ∷ [])) result }
         ensures size { IfOk result (λ after. after ≡ size + copies) }
-        ensures ok { OnOk result (self.new ≡ with_tables self.old (inserted self.old.store.views path.now place copies literals.now)) }
+        ensures ok { OnOk result (self.new ≡ with_line self.old (inserted self.old.store.views path.now place copies literals.now) path.now.name (events_at path.now.steps copies)) }
         ensures err { OnErr result (self.new ≡ self.old) }
     {
         let after = check_copies(size, copies)?;
         let row = self.row_of(path, literals)?;
         self.insert_rows(path, place as usize, &row, copies as usize)?;
         Ok(after)
-    }
-
-    /// Puts copies of a row in, where no refusal is due.
-    fn insert_rows(
-        &mut self,
-        path: &Path,
-        place: usize,
-        row: &Row,
-        copies: usize,
-    ) -> Result<(), Refusal>
-        requires few { copies ≤ max_rows }
-        requires due { due self.old.store.views path.now (Edit.insert place row.now copies) ≡ None }
-        ensures memory { IfErr result (λ e. e ≡ Refusal.Memory) }
-        ensures ok { OnOk result (self.new ≡ with_tables self.old (edited_views self.old.store.views path.now (Edit.insert place row.now copies))) }
-        ensures err { OnErr result (self.new ≡ self.old) }
-    {
-        self.store
-            .insert_rows(path, place, row, copies)
-            .map_err(of_edit)
-    }
-
-    /// Gives a property of a row another value, where no refusal is due.
-    fn set_value(
-        &mut self,
-        path: &Path,
-        row: usize,
-        prop: &Name,
-        value: &Value,
-    ) -> Result<(), Refusal>
-        requires { due self.old.store.views path.now (Edit.set row prop.now (datum_of value.now)) ≡ None }
-        ensures memory { IfErr result (λ e. e ≡ Refusal.Memory) }
-        ensures ok { OnOk result (self.new ≡ with_tables self.old (edited_views self.old.store.views path.now (Edit.set row prop.now (datum_of value.now)))) }
-        ensures err { OnErr result (self.new ≡ self.old) }
-    {
-        self.store.set(path, row, prop, value).map_err(of_edit)
-    }
-
-    /// Removes rows, where no refusal is due.
-    fn remove_rows(&mut self, path: &Path, place: usize, rows: usize) -> Result<(), Refusal>
-        requires { due self.old.store.views path.now (Edit.remove place rows) ≡ None }
-        ensures memory { IfErr result (λ e. e ≡ Refusal.Memory) }
-        ensures ok { OnOk result (self.new ≡ with_tables self.old (edited_views self.old.store.views path.now (Edit.remove place rows))) }
-        ensures err { OnErr result (self.new ≡ self.old) }
-    {
-        self.store.remove_rows(path, place, rows).map_err(of_edit)
     }
 
     /// Answers the refusal of a row of literals that the names of the path and the schema of its view give alone.

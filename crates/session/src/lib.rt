@@ -5,11 +5,12 @@
 //! further command is a case of both.
 //!
 //! It stands on the commands and replies of `cmd_text`, the store of `storage`, the views of `view_store`, the new structures of
-//! `restructure`, and the questions, snapshots and cursors of `questions`. A question may ask the viewers that each line is lent. The loop of the crate `lines` cuts the input, calls `answer` and says what it gave.
+//! `restructure`, the questions, snapshots and cursors of `questions`, and the watches of `following`. A question may ask the viewers that each line is lent. The loop of the crate `lines` cuts the input, calls `answer` and says what it gave.
 #![tactic(auto)]
 
 mod asking;
 mod edits;
+mod followed;
 mod laws;
 mod looks;
 mod names;
@@ -21,6 +22,7 @@ mod starting;
 mod storing;
 mod structures;
 mod values;
+mod watching;
 mod words;
 
 pub use edits::MAX_COPIES;

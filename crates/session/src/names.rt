@@ -1,4 +1,4 @@
-//! Names beside those of views: snapshots and cursors.
+//! Names beside those of views: those of snapshots, cursors and watches.
 ghost use Rattle.std.specs.Prelude.{◌≡◌, List, length, map, IfErr, IfOk, OnErr, OnOk};
 ghost use Rattle.std.specs.Result.{result_err};
 ghost use Rattle.cmd_text.specs.declared.command.Command.TheVariants as commands;
@@ -26,15 +26,17 @@ use tables::Shared;
 use viewers::Viewer;
 
 impl Session {
-    /// Whether a snapshot or a cursor has the name.
+    /// Whether a snapshot, a cursor or a watch has the name.
     pub(crate) fn is_beside_views(&self, name: &Name) -> bool
         ensures { result ≡ is_name_beside self.now name.now }
     {
-        is_snapshot(self.snapshots.as_slice(), name) || is_cursor(self.cursors.as_slice(), name)
+        is_snapshot(self.snapshots.as_slice(), name)
+            || is_cursor(self.cursors.as_slice(), name)
+            || self.watches.is_watch(name)
     }
 
-    /// Whether a view, a snapshot or a cursor has the name.
-    fn is_taken(&self, name: &Name) -> bool
+    /// Whether a view, a snapshot, a cursor or a watch has the name.
+    pub(crate) fn is_taken(&self, name: &Name) -> bool
         ensures { result ≡ is_name_taken self.now name.now }
     {
         self.store.views().table(name).is_some() || self.is_beside_views(name)
@@ -58,7 +60,9 @@ impl Session {
         requires { IsWhole (query_of expr.now) }
         ensures { Answered (map V.meaning viewers.now) (commands.Dup name.now expr.now) self.old result self.new }
     {
-        let table = match scope_of(&self.store, &self.snapshots, viewers).table(self.alloc, expr) {
+        let table = match scope_of(&self.store, &self.snapshots, &self.watches, viewers).table(
+            self.alloc, expr,
+        ) {
             Ok(table) => table,
             Err(error) => return replies::unanswered(error),
         };
@@ -107,7 +111,8 @@ impl Session {
     pub(crate) fn set_cursor(&mut self, name: &Name, target: &Name) -> Reply
         ensures { (viewers : List Meaning) → Answered viewers (commands.Cursor name.now target.now) self.old result self.new }
     {
-        let Some(standing) = names_of(&self.store, &self.snapshots).standing(target) else {
+        let Some(standing) = names_of(&self.store, &self.snapshots, &self.watches).standing(target)
+        else {
             return replies::refused(Refusal::NoName);
         };
         if let Err(refusal) = self.check_new_name(name, self.cursors.len(), MAX_CURSORS) {
@@ -154,7 +159,7 @@ impl Session {
     pub(crate) fn next(&mut self, name: &Name) -> Reply
         ensures { (viewers : List Meaning) → Answered viewers (commands.Next name.now) self.old result self.new }
     {
-        match names_of(&self.store, &self.snapshots).next(&mut self.cursors, name) {
+        match names_of(&self.store, &self.snapshots, &self.watches).next(&mut self.cursors, name) {
             Ok(position) => replies::counted(position),
             Err(error) => replies::unanswered(error),
         }
@@ -164,7 +169,10 @@ impl Session {
     pub(crate) fn previous(&mut self, name: &Name) -> Reply
         ensures { (viewers : List Meaning) → Answered viewers (commands.Prev name.now) self.old result self.new }
     {
-        match names_of(&self.store, &self.snapshots).previous(&mut self.cursors, name) {
+        match names_of(&self.store, &self.snapshots, &self.watches).previous(
+            &mut self.cursors,
+            name,
+        ) {
             Ok(position) => replies::counted(position),
             Err(error) => replies::unanswered(error),
         }
@@ -174,7 +182,7 @@ impl Session {
     pub(crate) fn row(&self, name: &Name) -> Reply
         ensures { (viewers : List Meaning) → Answered viewers (commands.Row name.now) self.now result self.now }
     {
-        let names = names_of(&self.store, &self.snapshots);
+        let names = names_of(&self.store, &self.snapshots, &self.watches);
         match names.row(self.alloc, self.cursors.as_slice(), name) {
             Ok(text) => Reply::Row(text),
             Err(error) => replies::unanswered(error),

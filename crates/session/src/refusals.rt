@@ -1,9 +1,11 @@
 //! How what the layers below refuse is told.
 ghost use Rattle.std.specs.Prelude.{◌≡◌};
+ghost use Rattle.session.specs.Naming.{refusal_of_watch, told_of_put};
 ghost use Rattle.session.specs.Questions.{refusal_of_question};
 ghost use Rattle.session.specs.Refusals.{refusal_of_edit, refusal_of_opening, refusal_of_plan, refusal_of_reading, refusal_of_revert};
 
 use cmd_text::{CmdError, Refusal};
+use live::WatchError;
 use mk_value::Memory;
 use questions::QuestionError;
 use recovery::OpenError;
@@ -50,6 +52,28 @@ pub fn of_question(error: QuestionError) -> Refusal
         QuestionError::Limit => Refusal::Limit,
         QuestionError::Unsorted => Refusal::Unsorted,
         QuestionError::Memory => Refusal::Memory,
+    }
+}
+
+/// How it is told that a watch is not put.
+pub fn of_watch(error: WatchError) -> Refusal
+    ensures { result ≡ refusal_of_watch error }
+{
+    match error {
+        WatchError::NoProp => Refusal::NoProp,
+        WatchError::WrongKind => Refusal::Kind,
+        WatchError::TooDeep => Refusal::Limit,
+        WatchError::Memory => Refusal::Memory,
+    }
+}
+
+/// What is told of a watch that was to be put.
+pub fn of_put(answer: Result<u64, WatchError>) -> Result<u64, Refusal>
+    ensures { result ≡ told_of_put answer }
+{
+    match answer {
+        Ok(size) => Ok(size),
+        Err(error) => Err(of_watch(error)),
     }
 }
 

@@ -25,6 +25,7 @@ use crate::replies;
 use crate::saying::{refuse, say, say_quit};
 use crate::words::{is_blank, is_quit};
 use cmd_text::{Command, Refusal, Reply, Space, read_command};
+use following::Following;
 use host_io::Host;
 use lines::Flow;
 use mk_value::{Memory, Text};
@@ -34,12 +35,14 @@ use std::marker::Model;
 use storage::Store;
 use viewers::Viewer;
 
-/// A session: a store, whose views its lines edit and whose commits they make, and the snapshots and cursors beside its views.
+/// A session: a store, whose views its lines edit and whose commits they make, the snapshots and cursors beside its views, and the
+/// watches of its views, which keep the positions of their rows.
 #[derive(Drop)]
 pub struct Session {
     pub(crate) store: Store,
     pub(crate) snapshots: Snapshots,
     pub(crate) cursors: Cursors,
+    pub(crate) watches: Following,
     pub(crate) alloc: Global,
 }
 
@@ -50,17 +53,25 @@ pub struct Viewers<'a, V: Viewer> {
 }
 
 impl Model for Session {
-    ghost use Rattle.session.specs.World.{World, world_code};
+    ghost use Rattle.std.specs.Coded.{codes};
+    ghost use Rattle.following.specs.Keeping.{AreKept, followed};
+    ghost use Rattle.questions.specs.Cursors.{placed_code};
+    ghost use Rattle.questions.specs.Kept.{kept_code};
+    ghost use Rattle.relations.specs.Criteria.{interval_code};
+    ghost use Rattle.session.specs.World.{World};
+    ghost use Rattle.storage.specs.StoredCode.{stored_code};
 
     ghost Value = { World };
 
-    ghost coded = { world_code };
+    ghost coded = { Prim.hlevel (codes, stored_code, kept_code, placed_code, interval_code) };
 
-    ghost view = { λ s. record { store = s.store; snapshots = s.snapshots; cursors = s.cursors } };
+    ghost view = { λ s. record { store = s.store; snapshots = s.snapshots; cursors = s.cursors; watches = followed s.watches } };
+
+    ghost invariant = { λ s. AreKept s.store.views s.watches };
 }
 
 impl Session {
-    /// A session over a store, with neither snapshots nor cursors.
+    /// A session over a store, with neither snapshots, cursors nor watches.
     pub fn over(alloc: Global, store: Store) -> Session
         ensures { result ≡ world_over store }
     {
@@ -68,6 +79,7 @@ impl Session {
             store,
             snapshots: Snapshots::new(alloc),
             cursors: Cursors::new(alloc),
+            watches: Following::new(alloc),
             alloc,
         }
     }
@@ -147,6 +159,8 @@ impl Session {
             Command::Locate(expr, criteria) => self.locate(viewers, expr, criteria),
             Command::Dup(name, expr) => self.keep(viewers, name, expr),
             Command::Undup(name) => replies::done(self.give_up(name)),
+            Command::Watch(name, expr) => replies::count(self.watch(name, expr)),
+            Command::Unwatch(name) => replies::done(self.unwatch(name)),
             Command::Cursor(name, target) => self.set_cursor(name, target),
             Command::Uncursor(name) => replies::done(self.remove_cursor(name)),
             Command::Next(name) => self.next(name),
@@ -157,11 +171,7 @@ impl Session {
             Command::Space => replies::taken(self.taken()),
             Command::Quit => Reply::Quit,
             Command::Commit(_) | Command::Reopen | Command::Revert => unreachable!(),
-            Command::Watch(..)
-            | Command::Unwatch(_)
-            | Command::Hash(..)
-            | Command::Ordered(..)
-            | Command::Unmap(_) => unreachable!(),
+            Command::Hash(..) | Command::Ordered(..) | Command::Unmap(_) => unreachable!(),
         }
     }
 
@@ -171,6 +181,7 @@ impl Session {
     {
         self.store.rollback();
         self.cursors.clear();
+        self.watches.clear();
         replies::rolled_back(self.store.number())
     }
 

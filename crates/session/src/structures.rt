@@ -1,5 +1,6 @@
 //! Giving views structures, and dropping views.
-ghost use Rattle.std.specs.Prelude.{◌≡◌, ◌⊎◌, ◌<◌, ◌≤◌, [], length, IfErr, IfOk, IsSome, None, OnErr, OnOk};
+ghost use Rattle.std.specs.Prelude.{◌≡◌, ◌⊎◌, ◌<◌, ◌≤◌, [], false, length, IfErr, IfOk, IsSome, None, OnErr, OnOk};
+ghost use Rattle.following.specs.Watches.{is_watched};
 ghost use Rattle.restructure.specs.Restructuring.{restructured};
 ghost use Rattle.struct_text.specs.Spelling.{spelling};
 ghost use Rattle.mk_value.specs.Limits.{max_structure, max_views};
@@ -8,7 +9,7 @@ ghost use Rattle.view_store.specs.Rests.{MayReplace};
 ghost use Rattle.view_store.specs.Views.{table_of, without_view, with_view};
 ghost use Rattle.tables.specs.Rests.{RestsOn};
 ghost use Rattle.tables.specs.Tables.{table_without_homes};
-ghost use Rattle.session.specs.Naming.{declare_due, drop_due, getas_due, room_due};
+ghost use Rattle.session.specs.Naming.{declare_due, drop_due, getas_due, is_view_used as is_used, room_due};
 ghost use Rattle.session.specs.Refusals.{AnswersDue};
 ghost use Rattle.session.specs.Structures.{structured};
 ghost use Rattle.session.specs.World.{with_tables};
@@ -28,7 +29,7 @@ impl Session {
     ///
     /// # Errors
     ///
-    /// `Exists` where a snapshot or a cursor has the name. Else as of `declare`.
+    /// `Exists` where a snapshot, a cursor or a watch has the name. Else as of `declare`.
     pub(crate) fn getas(&mut self, name: &Name, schema: &Schema) -> Result<Text, Refusal>
         requires { length (spelling name.now schema.now) ≤ max_structure }
         ensures due { AnswersDue (getas_due self.old name.now schema.now) result }
@@ -50,7 +51,7 @@ impl Session {
     ///
     /// # Errors
     ///
-    /// `Limit` where there are as many views as there may be, and none of the name; `InUse` where a cursor stands on the view, and its
+    /// `Limit` where there are as many views as there may be, and none of the name; `InUse` where a cursor or a watch stands on the view, and its
     /// structure would change. `Memory`.
     fn declare(&mut self, name: &Name, schema: &Schema) -> Result<(), Refusal>
         requires { structure_length name.now schema.now ≤ max_structure }
@@ -66,11 +67,19 @@ impl Session {
         if known.schema().is_same(schema) {
             return Ok(());
         }
-        if has_cursor_on(self.cursors.as_slice(), Standing::View, name) {
+        if self.is_view_used(name) {
             return Err(Refusal::InUse);
         }
         let table = restructure_table(self.alloc, known, schema)?;
         self.put_view(name, table)
+    }
+
+    /// Whether a cursor or a watch stands on the view of a name.
+    fn is_view_used(&self, name: &Name) -> bool
+        ensures { result ≡ is_used self.now name.now }
+    {
+        has_cursor_on(self.cursors.as_slice(), Standing::View, name)
+            || self.watches.is_watched(name)
     }
 
     /// Adds a view without rows last.
@@ -88,11 +97,12 @@ impl Session {
         self.put_view(name, table)
     }
 
-    /// Replaces the view of a name in place, or adds it last.
+    /// Replaces the view of a name, which nothing watches, in place, or adds it last.
     fn put_view(&mut self, name: &Name, table: Table) -> Result<(), Refusal>
         requires room { IsSome (table_of self.old.store.views name.now) ⊎ (length self.old.store.views < max_views) }
         requires short { structure_length name.now table.schema ≤ max_structure }
         requires rests { MayReplace table (table_of self.old.store.views name.now) }
+        requires unwatched { is_watched self.old.watches name.now ≡ false }
         ensures memory { IfErr result (λ e. e ≡ Refusal.Memory) }
         ensures ok { OnOk result (self.new ≡ with_tables self.old (with_view self.old.store.views name.now table)) }
         ensures err { OnErr result (self.new ≡ self.old) }
@@ -104,7 +114,7 @@ impl Session {
     ///
     /// # Errors
     ///
-    /// `NoName` where there is none; `InUse` where a cursor stands on it.
+    /// `NoName` where there is none; `InUse` where a cursor or a watch stands on it.
     pub(crate) fn drop_view(&mut self, name: &Name) -> Result<(), Refusal>
         ensures due { AnswersDue (drop_due self.old name.now) result }
         ensures ok { OnOk result (self.new ≡ with_tables self.old (without_view self.old.store.views name.now)) }
@@ -113,7 +123,7 @@ impl Session {
         if self.store.views().table(name).is_none() {
             return Err(Refusal::NoName);
         }
-        if has_cursor_on(self.cursors.as_slice(), Standing::View, name) {
+        if self.is_view_used(name) {
             return Err(Refusal::InUse);
         }
         self.store.drop_view(name).map_err(of_edit)

@@ -1,24 +1,19 @@
-use Rattle.std.proofs.Common.{map, sym, ◌∙◌, ap, List}
+use Rattle.std.proofs.Common.{map, sym}
 use Rattle.expr_text.specs.Meanings.{query_of}
-use Rattle.mk_value.specs.Heading.{Attribute}
-use Rattle.relations.specs.Criteria.{Interval, is_in_range}
-use Rattle.relations.specs.Refusals.{literals_due}
-use Rattle.relations.specs.Searching.{rows_before}
-use Rattle.eval.specs.Values.{asked}
 use Rattle.questions.specs.Kept.{known}
-use Rattle.questions.specs.Places.{begin, known_keys, values_of}
 use Rattle.questions.proofs.Unordered.{located_is}
 use Rattle.questions.proofs.scope.Scope.locate.Goals as goal
 
 pub returns : goal.returns
 returns g c =
-    let names = known c.args.self.now.names.views.now c.args.self.now.names.snapshots.now in
+    let watches = c.args.self.now.names.watches in
+    let names = known c.args.self.now.names.views c.args.self.now.names.snapshots watches in
     let viewers = map g.V.Viewer.meaning c.args.self.now.viewers.now in
     let q = query_of c.args.expr.now in
     let list = c.args.criteria.now in
     let t = c.in_ok-table.ensures.0 in
     let has = c.in_ok-table.ensures.2 in
-    located_is names viewers q list t c.in_ok-table.table.rows c.count_before-position.result c.in_ok-count.count c.in_ok-table.ensures.1 has.as_many
+    located_is names watches viewers q list t c.in_ok-table.table.rows c.count_before-position.result c.in_ok-count.count c.in_ok-table.ensures.1 has.as_many
     (rw (c.schema.ensures.value, has.same_schema) at c.in_ok-values.ensures.0)
     (rw (c.as_slice.ensures, c.in_ok-keys.ensures, c.schema-2.ensures.value, has.same_schema) at (sym c.if-not-begin.ensures))
     (rw (c.as_slice-2.ensures, c.as_slice-3.ensures, c.in_ok-keys.ensures, c.in_ok-values.ensures.1, c.schema-2.ensures.value, c.schema.ensures.value, has.same_schema) at c.count_before-position.ensures)

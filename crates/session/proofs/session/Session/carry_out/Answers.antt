@@ -2,6 +2,7 @@
 use Rattle.std.proofs.Common.{map, sym, subst}
 use Rattle.cmd_text.specs.declared.command.Command.{Command}
 use Rattle.session.specs.Answered.{Answered}
+use Rattle.session.proofs.Putting.{watch_answered}
 use Rattle.session.proofs.session.Session.carry_out.Goals as goal
 
 pub returns-in-Cursor : goal.returns-in-Cursor
@@ -28,3 +29,10 @@ pub returns-in-Rollback : goal.returns-in-Rollback
 returns-in-Rollback g c =
     let viewers = map g.V.Viewer.meaning c.args.viewers.now in
     subst (λ (x : Command). Answered viewers x c.args.self.now c.rollback.result c.rollback.new.self) (sym c.in-Rollback.is) (c.rollback.ensures viewers)
+
+pub returns-in-Watch : goal.returns-in-Watch
+returns-in-Watch g c =
+    let viewers = map g.V.Viewer.meaning c.args.viewers.now in
+    subst (λ (x : Command). Answered viewers x c.args.self.now c.count-in-Watch.result c.watch.new.self) (sym c.in-Watch.is)
+    (watch_answered viewers c.args.self.now c.watch.new.self c.in-Watch.name c.in-Watch.expr c.watch.result c.count-in-Watch.result c.watch.ensures.due c.watch.ensures.size c.watch.ensures.ok c.watch.ensures.err
+    c.count-in-Watch.ensures.value c.count-in-Watch.ensures.short)

@@ -2,9 +2,8 @@ use Rattle.std.proofs.Common.{ap, inl, sym, ◌∙◌}
 use Rattle.std.proofs.lemmas.Bool.{false≢true}
 use Rattle.view_store.specs.Views.{table_of, with_view}
 use Rattle.view_store.proofs.Editing.{IfOk-then}
-use Rattle.questions.specs.Cursors.{has_cursor_on}
-use Rattle.questions.specs.declared.cursor.Standing.TheVariants.{View}
-use Rattle.session.specs.Naming.{declare_due}
+use Rattle.session.specs.Naming.{declare_due, is_view_used}
+use Rattle.following.specs.Keeping.{followed}
 use Rattle.session.specs.World.{World, with_tables}
 use Rattle.session.proofs.Structured.{declare-in_use, structured-other}
 use Rattle.session.proofs.session.Session.declare.Goals as goal
@@ -17,13 +16,13 @@ returns-clause-ok c =
     (λ _ e. e ∙ ap (λ views. with_tables c.args.self.now views) (ap (λ t. with_view root name t) c.in_ok-table.ensures.ok
     ∙ sym (structured-other root name c.args.schema.now c.in-Some.known.now (ap (λ (w : World). table_of w.store.views name) (sym c.self.view_is) ∙ ap (λ v. table_of v name) (sym c.views.ensures) ∙ c.in-Some.ensures) c.as_bytes-name.ensures.name c.schema.ensures.whole c.len-properties.ensures.whole (λ same. false≢true (sym c.if-is_same.false ∙ c.is_same.ensures.1 (c.schema.ensures.value ∙ same))))))
 
-pub returns-then-has_cursor_on-clause-due : goal.returns-then-has_cursor_on-clause-due
-returns-then-has_cursor_on-clause-due c =
+pub returns-then-is_view_used-clause-due : goal.returns-then-is_view_used-clause-due
+returns-then-is_view_used-clause-due c =
     let name = c.args.name.now in
     let schema = c.args.schema.now in
-    let inside : World = record { store = c.self.inside.store; snapshots = c.self.inside.snapshots; cursors = c.self.inside.cursors } in
+    let inside : World = record { store = c.self.inside.store; snapshots = c.self.inside.snapshots; cursors = c.self.inside.cursors; watches = followed c.self.inside.watches } in
     let found = ap (λ v. table_of v name) (sym c.views.ensures) ∙ c.in-Some.ensures in
-    let stands = ap (λ cursors. has_cursor_on cursors View name) (sym c.as_slice.ensures) ∙ sym c.has_cursor_on.ensures ∙ c.if-has_cursor_on.true in
+    let stands = ap (λ (w : World). is_view_used w name) c.self.view_is ∙ sym c.is_view_used.ensures ∙ c.if-is_view_used.true in
     inl (ap (λ (w : World). declare_due w name schema) (sym c.self.view_is)
     ∙ declare-in_use inside name schema c.in-Some.known.now found c.as_bytes-name.ensures.name c.schema.ensures.whole c.len-properties.ensures.whole
     (λ same. false≢true (sym c.if-is_same.false ∙ c.is_same.ensures.1 (c.schema.ensures.value ∙ same))) stands)

@@ -1,4 +1,4 @@
-use Rattle.std.proofs.Common.{Err, ap, refl, sym, subst, ◌∙◌}
+use Rattle.std.proofs.Common.{[], Err, ap, refl, sym, subst, ◌∙◌}
 use Rattle.cmd_text.specs.Replies.{reply_bytes}
 use Rattle.cmd_text.specs.declared.command.Command.TheVariants as commands
 use Rattle.cmd_text.specs.declared.reply.Reply.TheVariants.{Refused}
@@ -7,6 +7,7 @@ use Rattle.storage.specs.Stored.{Stored, is_shut, reopened}
 use Rattle.session.specs.Disk.{IsSteady}
 use Rattle.session.specs.Carried.{Carried}
 use Rattle.session.specs.Going.{GoesOn}
+use Rattle.following.specs.Keeping.{followed}
 use Rattle.session.specs.World.{World, with_store}
 use Rattle.session.proofs.OnDisk.{reopen_made, reopen_refused, reopened_goes, synced_goes}
 use Rattle.session.proofs.session.Session.reopen.Goals as goal
@@ -15,7 +16,7 @@ pub returns-in-Err-clause-carried : goal.returns-in-Err-clause-carried
 returns-in-Err-clause-carried g c = λ viewers.
     let from = g.H.Disk.outside c.args.host.now in
     let to = g.H.Disk.outside c.reopen.new.disk in
-    let inside : World = record { store = c.self.inside.store; snapshots = c.self.inside.snapshots; cursors = c.self.inside.cursors } in
+    let inside : World = record { store = c.self.inside.store; snapshots = c.self.inside.snapshots; cursors = c.self.inside.cursors; watches = followed c.self.inside.watches } in
     let reply = reply_bytes c.refused.result in
     let e = c.in-Err.ensures in
     subst (λ (w : World). Carried g.H.Disk.tells viewers commands.Reopen (state_of w from) reply (state_of (with_store inside c.reopen.new.self) to)) c.self.view_is
@@ -28,7 +29,7 @@ pub returns-in-Err-clause-goes : goal.returns-in-Err-clause-goes
 returns-in-Err-clause-goes g c = λ tells.
     let from = g.H.Disk.outside c.args.host.now in
     let to = g.H.Disk.outside c.reopen.new.disk in
-    let inside : World = record { store = c.self.inside.store; snapshots = c.self.inside.snapshots; cursors = c.self.inside.cursors } in
+    let inside : World = record { store = c.self.inside.store; snapshots = c.self.inside.snapshots; cursors = c.self.inside.cursors; watches = followed c.self.inside.watches } in
     let ready : IsSteady (state_of inside from) = subst (λ (v : World). IsSteady (state_of v from)) (sym c.self.view_is) (c.requires.ready tells) in
     let e = c.in-Err.ensures in
     subst (λ (w : World). GoesOn commands.Reopen (state_of w from) (state_of (with_store inside c.reopen.new.self) to) from to) c.self.view_is
@@ -39,22 +40,24 @@ pub returns-clause-carried : goal.returns-clause-carried
 returns-clause-carried g c = λ viewers.
     let from = g.H.Disk.outside c.args.host.now in
     let to = g.H.Disk.outside c.reopen.new.disk in
-    let inside : World = record { store = c.self.inside.store; snapshots = c.self.inside.snapshots; cursors = c.self.inside.cursors } in
-    let new : World = record { store = c.reopen.new.self; snapshots = c.self.inside.snapshots; cursors = c.clear.new.self } in
+    let inside : World = record { store = c.self.inside.store; snapshots = c.self.inside.snapshots; cursors = c.self.inside.cursors; watches = followed c.self.inside.watches } in
+    let new : World = record { store = c.reopen.new.self; snapshots = c.self.inside.snapshots; cursors = c.clear.new.self; watches = followed c.clear-2.new.self } in
     let reply = reply_bytes c.reopened.result in
     let e = c.in-Ok.ensures in
     subst (λ (w : World). Carried g.H.Disk.tells viewers commands.Reopen (state_of w from) reply (state_of new to)) c.self.view_is
     (reopen_made g.H.Disk.tells viewers inside from to reply e.counts.later new c.in-Ok.number
-    (ap (λ s. record { store = s; snapshots = c.self.inside.snapshots; cursors = c.clear.new.self }) e.ok
-    ∙ ap (λ cursors. record { store = reopened c.self.inside.store c.reopen.new.self.kept c.reopen.new.self.slot c.reopen.new.self.other; snapshots = c.self.inside.snapshots; cursors = cursors }) c.clear.ensures)
+    (ap (λ s. record { store = s; snapshots = c.self.inside.snapshots; cursors = c.clear.new.self; watches = followed c.clear-2.new.self }) e.ok
+    ∙ let store = reopened c.self.inside.store c.reopen.new.self.kept c.reopen.new.self.slot c.reopen.new.self.other in
+    ap (λ cursors. record { store = store; snapshots = c.self.inside.snapshots; cursors = cursors; watches = followed c.clear-2.new.self }) c.clear.ensures
+    ∙ ap (λ watches. record { store = store; snapshots = c.self.inside.snapshots; cursors = []; watches = followed watches }) c.clear-2.ensures)
     e.number (ap reply_bytes c.reopened.ensures.value) e.stands e.rests e.syncs)
 
 pub returns-clause-goes : goal.returns-clause-goes
 returns-clause-goes g c = λ tells.
     let from = g.H.Disk.outside c.args.host.now in
     let to = g.H.Disk.outside c.reopen.new.disk in
-    let inside : World = record { store = c.self.inside.store; snapshots = c.self.inside.snapshots; cursors = c.self.inside.cursors } in
-    let new : World = record { store = c.reopen.new.self; snapshots = c.self.inside.snapshots; cursors = c.clear.new.self } in
+    let inside : World = record { store = c.self.inside.store; snapshots = c.self.inside.snapshots; cursors = c.self.inside.cursors; watches = followed c.self.inside.watches } in
+    let new : World = record { store = c.reopen.new.self; snapshots = c.self.inside.snapshots; cursors = c.clear.new.self; watches = followed c.clear-2.new.self } in
     let ready : IsSteady (state_of inside from) = subst (λ (v : World). IsSteady (state_of v from)) (sym c.self.view_is) (c.requires.ready tells) in
     let e = c.in-Ok.ensures in
     subst (λ (w : World). GoesOn commands.Reopen (state_of w from) (state_of new to) from to) c.self.view_is

@@ -1,0 +1,141 @@
+-- The watches of views once the views are others.
+use Rattle.std.proofs.Common.{◌≡◌, ℕ, Bool, true, false, cond, ◌||◌, suc, List, [], ◌∷◌, Option, Some, None, MatchOption, refl, ap, sym, subst, ◌∙◌, arith}
+use Rattle.std.specs.Option.{option_map}
+use Rattle.std.specs.Prelude.{find}
+use Rattle.std.proofs.lemmas.Bool.{false≢true}
+use Rattle.commit_plan.specs.Following.{NamedRows, rows_of_views}
+use Rattle.commit_plan.specs.Plans.{Planned}
+use Rattle.following.specs.Keeping.{AreKept, ChangesRows, HaveSameRows, IsKept, IsWatchOf, Kept, followed}
+use Rattle.following.proofs.Holding.{kept_where_others, raised_where_none}
+use Rattle.following.proofs.Shown.{watch_shows}
+use Rattle.following.specs.Watches.{is_watch}
+use Rattle.live.specs.States.{Watching}
+use Rattle.mk_value.specs.Paths.{Route}
+use Rattle.row_edits.specs.declared.edit.RowEdit.{RowEdit}
+use Rattle.view_store.specs.Edits.{Edit}
+use Rattle.view_store.specs.Views.{edited_views}
+use Rattle.view_store.proofs.Roots.{same_name}
+use Rattle.session.specs.Following.{IsLineOn, KeepsPositions}
+use Rattle.session.specs.World.{World, with_line, with_tables}
+use Rattle.session.proofs.LinesOn.{other_edited, other_name}
+use Rattle.following.specs.Watches.{is_watched}
+use Rattle.mk_value.specs.Names.{same_bytes}
+use Rattle.relations.proofs.Faults.{cases}
+use Rattle.session.specs.Disk.{IsNext}
+use Rattle.storage.specs.Stored.{Stored}
+use Rattle.tables.specs.Tables.{StoredTable}
+use Rattle.view_store.specs.Views.{NamedTable, table_of, with_view, without_view}
+
+some_is : {X : Type 0} (x y : X) → Some x ≡ Some y → x ≡ y
+some_is x y e = cc
+
+-- views with the same names and rows
+head_is : {X : Type 0} (x y : X) (xs ys : List X) → x ∷ xs ≡ y ∷ ys → x ≡ y
+head_is x y xs ys e = cc
+
+tail_is : {X : Type 0} (x y : X) (xs ys : List X) → x ∷ xs ≡ y ∷ ys → xs ≡ ys
+tail_is x y xs ys e = cc
+
+abbrev row_of : NamedTable → NamedRows
+row_of v = record { name = v.name; schema = v.table.schema; rows = v.table.rows }
+
+same_first : (old new : List NamedTable) → rows_of_views new ≡ rows_of_views old → HaveSameRows old new
+same_first [] new h name t found = absurd (let f : ◌≡◌ {A = Option StoredTable} None (Some t) = found in cc)
+same_first (v ∷ old) [] h name t found = absurd (let f : ◌≡◌ {A = List NamedRows} [] (row_of v ∷ rows_of_views old) = h in cc)
+same_first (v ∷ old) (w ∷ new) h name t found =
+    let first : row_of w ≡ row_of v = head_is (row_of w) (row_of v) (rows_of_views new) (rows_of_views old) h in
+    let named : w.name ≡ v.name = ap (λ (r : NamedRows). r.name) first in
+    let rest = tail_is (row_of w) (row_of v) (rows_of_views new) (rows_of_views old) h in
+    cases (same_bytes v.name name)
+    (λ e. let is : v.table ≡ t = some_is v.table t (rw e at found) in (
+      w.table,
+      ap (λ b. option_map (λ (x : NamedTable). x.table) (cond b (Some w) (find (λ (x : NamedTable). same_bytes x.name name) new))) (ap (λ n. same_bytes n name) named ∙ e),
+      ap (λ (r : NamedRows). r.schema) first ∙ ap (λ (u : StoredTable). u.schema) is,
+      ap (λ (r : NamedRows). r.rows) first ∙ ap (λ (u : StoredTable). u.rows) is,
+    ))
+    (λ e. let there = same_first old new rest name t (rw e at found) in (
+      there.0,
+      ap (λ b. option_map (λ (x : NamedTable). x.table) (cond b (Some w) (find (λ (x : NamedTable). same_bytes x.name name) new))) (ap (λ n. same_bytes n name) named ∙ e) ∙ there.1,
+      there.2,
+      there.3,
+    ))
+
+-- a commit keeps the names and the rows
+pub commit_same : (s : Stored) (note : List ℕ) (planned : Planned) → IsNext s note planned → HaveSameRows s.views planned.next.views
+commit_same s note planned next = same_first s.views planned.next.views next.follows.same_rows
+
+-- a line on a view, as its watches follow it
+pub line_changes : (name called : List ℕ) (edit : RowEdit) (home : ℕ) (old new now : List NamedTable) (before after : StoredTable) → called ≡ name → IsLineOn name edit home old new → now ≡ new
+    → table_of old name ≡ Some before → table_of now name ≡ Some after → ChangesRows called before.schema before.rows after.rows old now
+line_changes name called edit home old new now before after same line is was_before is_after =
+    let b : line.before ≡ before = some_is line.before before (sym line.was ∙ was_before) in
+    let a : line.after ≡ after = some_is line.after after (sym line.is ∙ sym (ap (λ v. table_of v name) is) ∙ is_after) in
+    record {
+      old_table = before;
+      new_table = after;
+      was = ap (λ n. table_of old n) same ∙ was_before;
+      is = ap (λ n. table_of now n) same ∙ is_after;
+      schema_before = refl;
+      schema_after = ap (λ (t : StoredTable). t.schema) (sym a) ∙ line.schema ∙ ap (λ (t : StoredTable). t.schema) b;
+      rows_before = refl;
+      rows_after = refl;
+      others = λ n h. ap (λ v. table_of v n) is ∙ line.others n (subst (λ m. same_bytes n m ≡ false) same h);
+    }
+
+-- an edit of a view that nothing watches
+pub kept_edited : (views : List NamedTable) (all : List Kept) (route : Route) (edit : Edit) → is_watched (followed all) route.name ≡ false → AreKept views all → AreKept (edited_views views route edit) all
+kept_edited views all route edit none h = kept_where_others views (edited_views views route edit) all route.name none (other_edited views route edit) h
+
+pub unwatched_line : (w : World) (views : List NamedTable) (name : List ℕ) (events : ℕ) → is_watched w.watches name ≡ false → with_tables w views ≡ with_line w views name events
+unwatched_line w views name events none = ap (λ watches. record (with_tables w views) { watches = watches }) (sym (raised_where_none w.watches name events none))
+
+-- another table of a view that nothing watches, and a view that goes
+other_with : (views : List NamedTable) (name : List ℕ) (t : StoredTable) (n : List ℕ) → same_bytes n name ≡ false → table_of (with_view views name t) n ≡ table_of views n
+other_with [] name t n h = cases (same_bytes name n)
+    (λ e. absurd (other_name name n e h))
+    (λ e. rw e refl)
+other_with (v ∷ views) name t n h = cases (same_bytes v.name name)
+    (λ e. rw e (cases (same_bytes v.name n)
+    (λ f. absurd (false≢true (sym h ∙ subst (λ m. same_bytes m name ≡ true) (same_name v.name n f) e)))
+    (λ f. rw f refl)))
+    (λ e. rw e (cases (same_bytes v.name n)
+    (λ f. rw f refl)
+    (λ f. rw f (other_with views name t n h))))
+
+other_without : (views : List NamedTable) (name n : List ℕ) → same_bytes n name ≡ false → table_of (without_view views name) n ≡ table_of views n
+other_without [] name n h = refl
+other_without (v ∷ views) name n h = cases (same_bytes v.name name)
+    (λ e. rw e (cases (same_bytes v.name n)
+    (λ f. absurd (false≢true (sym h ∙ subst (λ m. same_bytes m name ≡ true) (same_name v.name n f) e)))
+    (λ f. rw f refl)))
+    (λ e. rw e (cases (same_bytes v.name n)
+    (λ f. rw f refl)
+    (λ f. rw f (other_without views name n h))))
+
+pub kept_with : (views : List NamedTable) (all : List Kept) (name : List ℕ) (t : StoredTable) → is_watched (followed all) name ≡ false → AreKept views all → AreKept (with_view views name t) all
+kept_with views all name t none h = kept_where_others views (with_view views name t) all name none (other_with views name t) h
+
+pub kept_without : (views : List NamedTable) (all : List Kept) (name : List ℕ) → is_watched (followed all) name ≡ false → AreKept views all → AreKept (without_view views name) all
+kept_without views all name none h = kept_where_others views (without_view views name) all name none (other_without views name) h
+
+-- nothing watches a view that is not there
+pub absent_unwatched : (views : List NamedTable) (all : List Kept) (name : List ℕ) → AreKept views all → table_of views name ≡ None → is_watched (followed all) name ≡ false
+absent_unwatched views [] name h none = refl
+absent_unwatched views (k ∷ all) name h none = cases (same_bytes k.view name)
+    (λ e. let first : IsKept views k = h 0 k (omega arith) in
+    absurd (let f : ◌≡◌ {A = Option StoredTable} (Some first.table) None = sym first.there ∙ ap (λ n. table_of views n) (same_name k.view name e) ∙ none in cc))
+    (λ e. rw e (absent_unwatched views all name (λ i d p. h (suc i) d (omega (arith, p))) none))
+
+pub neither : (a b : Bool) → a || b ≡ false → b ≡ false
+neither true b h = absurd (false≢true (sym h))
+neither false b h = h
+
+-- what a watch keeps
+pub keeps_positions : {R : Type 0} (w : World) (all : List Kept) (name : List ℕ) (r : Option R) (watching : R → Watching) (number : R → ℕ) → followed all ≡ w.watches → AreKept w.store.views all
+    → MatchOption r (is_watch (followed all) name ≡ false) (λ x. IsWatchOf all name (watching x) (number x))
+    → MatchOption r (is_watch w.watches name ≡ false) (λ x. KeepsPositions w name (watching x) (number x))
+keeps_positions w all name None watching number same kept h = subst (λ ws. is_watch ws name ≡ false) same h
+keeps_positions w all name (Some x) watching number same kept h =
+    let s = watch_shows w.store.views all name (watching x) (number x) kept h in
+    subst (λ ws. KeepsPositions (record w { watches = ws }) name (watching x) (number x)) same
+    (record { view = s.0; shown = s.1; over = s.2; shows = s.3; keeps = s.4 })

@@ -1,0 +1,19 @@
+use Rattle.std.proofs.Common.{◌≡◌, false, sym, subst}
+use Rattle.following.specs.Keeping.{AreKept}
+use Rattle.following.specs.Watches.{is_watched}
+use Rattle.storage.specs.Stored.{Stored, with_views}
+use Rattle.view_store.specs.Edits.{Edit}
+use Rattle.view_store.specs.Views.{edited_views}
+use Rattle.view_store.proofs.Editing.{by_answer}
+use Rattle.session.specs.World.{World}
+use Rattle.session.proofs.Watched.{kept_edited}
+use Rattle.session.proofs.session.Session.insert_in_place.Goals as goal
+
+pub invariant_of-self : goal.invariant_of-self
+invariant_of-self c =
+    let store = c.self.inside.store in
+    let path = c.args.path.now in
+    let edit = Edit.insert c.args.place c.args.row.now c.args.copies in
+    by_answer (λ (s : Stored). AreKept s.views c.self.inside.watches) c.insert_rows.result c.insert_rows.new.self store (with_views store (edited_views store.views path edit)) c.insert_rows.ensures.ok c.insert_rows.ensures.err
+    (kept_edited store.views c.self.inside.watches path edit (subst (λ (w : World). is_watched w.watches path.name ≡ false) (sym c.self.view_is) c.requires.unwatched) c.self.invariant)
+    c.self.invariant
