@@ -8,6 +8,7 @@ use anyhow::Result;
 use bit_pack::Width;
 use bytes_col::BytesCol;
 use int_col::IntCol;
+pub use integers::samples as random_integers;
 use std::rt::Clock;
 use std::time::Instant;
 

@@ -1,10 +1,12 @@
 //! Times what the store is made of, in nanoseconds a call, a row or an event.
 //!
-//! `bench columns` times columns of integers and of texts, `bench operators` the operators, and `bench watches` what follows the events
-//! of a table. Without a word the operators go over a few rows, and what they answer is printed without times.
+//! `bench columns` times columns of integers and of texts, `bench blocks` their bytes, `bench nested` edits inside a row, `bench operators`
+//! the operators, and `bench watches` what follows the events of a table. Without a word the operators go over a few rows, and what they answer is printed without times.
 #![tactic(auto)]
 
+mod blocks;
 mod columns;
+mod nested;
 mod operators;
 mod watches;
 
@@ -15,9 +17,11 @@ fn main(rt: HostRuntime) -> Result<()> {
     let words: Vec<String> = env::args(&rt)?.collect(rt.alloc())?;
     match words.get(1).map(|word| word.as_str()) {
         None => operators::list_all(&rt),
+        Some("blocks") => blocks::measure_all(&rt),
         Some("columns") => columns::measure_all(&rt),
+        Some("nested") => nested::measure_all(&rt),
         Some("operators") => operators::measure_all(&rt),
         Some("watches") => watches::measure_all(&rt),
-        Some(_) => bail!("the words are columns, operators or watches"),
+        Some(_) => bail!("the words are blocks, columns, nested, operators or watches"),
     }
 }
