@@ -2,6 +2,7 @@ pub mod Besides
 pub mod Cells
 pub mod Chains
 pub mod Fills
+pub mod Firsts
 pub mod Projections
 pub mod Renaming
 pub mod Selecting

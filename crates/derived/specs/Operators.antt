@@ -25,6 +25,10 @@ range bounds t = with_rows t (filter (is_in_range t.schema bounds) t.rows)
 abbrev pub sort : List Key → Table → Table
 sort keys t = with_rows t (sorted (row_cmp t.schema (keys_or_all t.schema keys)) t.rows)
 
+-- the first rows, so many
+abbrev pub first_rows : ℕ → Table → Table
+first_rows count t = with_rows t (take count t.rows)
+
 -- the named properties in this order, a repeated name once
 abbrev pub project : List (List ℕ) → Table → Table
 project names t = only (once names) t

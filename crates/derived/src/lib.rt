@@ -26,5 +26,5 @@ pub use derived::{Derived, beside, extend, gather, held, leaf, pick, stack};
 pub use passing::{range, select};
 pub use relations::{Criterion, DerivedError, Key, copy_row, copy_rows};
 pub use slicing::slice;
-pub use sorting::sort;
+pub use sorting::{sort, sort_first};
 pub use stacking::concat;

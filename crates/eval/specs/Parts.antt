@@ -1,11 +1,14 @@
 -- What an expression is made of.
-use Rattle.std.specs.Prelude.{◌≡◌, ℕ, List, Result, Ok}
+use Rattle.std.specs.Prelude.{◌≡◌, ℕ, ℤ, List, [], Result, Ok}
 use Rattle.viewers.specs.Meanings.{Meaning}
 use Rattle.mk_value.specs.Tables.{Table}
 use Rattle.expr_text.specs.Meanings.{query_of}
 use Rattle.expr_text.specs.Operators.{form_of, one_table, takes, two_tables}
-use Rattle.expr_text.specs.Arguments.{IsTail}
+use Rattle.expr_text.specs.Arguments.{IsTail, orders, rows}
 use Rattle.expr_text.specs.Queries.{IsQuery, Query, path, one, two}
+use Rattle.expr_text.specs.declared.expr.Order.{Order}
+use Rattle.expr_text.specs.declared.operator.Operator.TheVariants as operators
+use Rattle.eval.specs.Names.{continued}
 use Rattle.eval.specs.declared.bases.Bases.{Bases}
 use Rattle.eval.specs.declared.bases.Bases.TheVariants.{Path, One, Two}
 use Rattle.eval.specs.declared.error.EvalError.{EvalError}
@@ -39,3 +42,14 @@ given_of_one viewers _ t = Ok t
 abbrev pub given_of_two : Query → Table → Table → Result Table EvalError
 given_of_two (two operator p q tail) a b = of_two operator tail a b
 given_of_two _ a b = Ok a
+
+-- a slice of an expression, and a sorting of one
+abbrev pub sliced : Query → ℕ → ℕ → ℤ → Query
+sliced q first limit step = one operators.Slice q (rows first limit step)
+
+abbrev pub sorted_by : Query → List Order → Query
+sorted_by q list = one operators.Sort q (orders list)
+
+-- what a slice of a sorting gives of the table that is sorted
+abbrev pub slice_of_sorting : List Order → ℕ → ℕ → ℤ → Table → Result Table EvalError
+slice_of_sorting list first limit step t = continued (of_one [] operators.Sort (orders list) t) (of_one [] operators.Slice (rows first limit step))

@@ -10,6 +10,7 @@ use crate::error::EvalError;
 use crate::names::Names;
 use crate::on_one::on_one;
 use crate::on_two::on_two;
+use crate::sliced::{as_sliced, slice_sorted};
 use derived::Derived;
 use expr_text::Expr;
 use mk_value::{Same, TableRead};
@@ -31,6 +32,11 @@ pub fn eval<T: TableRead + Same + Drop, N: Names<T>, V: Viewer>(
     requires { IsWhole (query_of expr.now) }
     ensures { Evaluates table_of (value (N.named names.now) (map V.meaning viewers.now) (query_of expr.now)) result }
 {
+    // Of a sorting that is sliced only the first rows are found.
+    if let Some(sliced) = as_sliced(expr) {
+        let base = eval(alloc, sliced.base, names, viewers)?;
+        return slice_sorted(alloc, base, &sliced);
+    }
     match bases_of(expr) {
         Bases::Path(path) => match names.view(path) {
             Ok(derived) => Ok(derived),

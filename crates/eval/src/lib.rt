@@ -12,6 +12,7 @@ mod literals;
 mod names;
 mod on_one;
 mod on_two;
+mod sliced;
 
 pub use error::{EvalError, NameError};
 pub use evaluation::eval;

@@ -152,7 +152,7 @@ fn sort_by<T: TableRead + Same + Drop>(
 }
 
 /// The keys to sort by that these are.
-fn keys_of(alloc: Global, orders: &[Order]) -> Result<Sequence<Key>, Memory>
+pub(crate) fn keys_of(alloc: Global, orders: &[Order]) -> Result<Sequence<Key>, Memory>
     ensures { IfOk result (λ keys. keys ≡ map key_of orders.now) }
 {
     let mut keys = Sequence::new(alloc);

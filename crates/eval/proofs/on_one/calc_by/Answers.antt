@@ -1,4 +1,4 @@
-use Rattle.std.proofs.Common.{map, sym, subst}
+use Rattle.std.proofs.Common.{sym, subst}
 use Rattle.std.specs.Prelude.{Option}
 use Rattle.derived.specs.Layers.{table_of}
 use Rattle.derived.specs.Viewing.{calc, calc_due}
