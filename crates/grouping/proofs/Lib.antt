@@ -15,3 +15,4 @@ pub mod Others
 pub mod Positions
 pub mod Probing
 pub mod Searched
+pub mod WholeRows

@@ -4,6 +4,7 @@ pub mod KeyTests
 pub mod ListedPairs
 pub mod Listing
 pub mod Matches
+pub mod Members
 pub mod Names
 pub mod Pairings
 pub mod Placings

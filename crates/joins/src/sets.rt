@@ -1,22 +1,24 @@
 //! Two tables of one schema as sets of rows: two rows are the same where all their values are, views row by row.
-ghost use Rattle.std.specs.Prelude.{◌≡◌, ◌≤◌, [], length, None, IfErr, IfOk, OnOk};
+ghost use Rattle.std.specs.Prelude.{◌≡◌, ◌<◌, ◌≤◌, [], length, true, None, IfErr, IfOk, OnOk};
 ghost use Rattle.std.specs.List.{filter};
 ghost use Rattle.std.specs.Result.{result_err};
 ghost use Rattle.mk_value.specs.Limits.{max_rows};
 ghost use Rattle.derived.specs.Layers.{table_of};
-ghost use Rattle.relations.specs.Positions.{passing};
+ghost use Rattle.relations.specs.Positions.{numbers, passing};
 ghost use Rattle.derived.specs.Operators.{different, intersect, minus, union, unique, with_rows};
 ghost use Rattle.relations.specs.Answers.{AnswersDue};
 ghost use Rattle.relations.specs.Refusals.{other_schema};
 ghost use Rattle.derived.specs.Refusals.{different_due, union_due};
 ghost use Rattle.relations.specs.Answers.{AnswersCounted};
 ghost use Rattle.joins.specs.Counted.{IsRefusedAt};
+ghost use Rattle.grouping.specs.WholeRows.{is_plain as has_plain_values};
 ghost use Rattle.joins.specs.Sets.{is_kept};
 
+use crate::placing::groups_near;
 use derived::{Derived, concat, gather};
-use grouping::{RowIndex, unique};
+use grouping::{KeyIndex, RowIndex, is_plain, unique, whole_index};
 use mk_value::{Memory, Positions, Row, Same, TableRead};
-use relations::{DerivedError, copy_row, copy_rows};
+use relations::{Columns, DerivedError, all_columns, copy_row, copy_rows};
 use std::alloc::Global;
 
 /// The first's rows that the second has, in the first's order; equal rows of the first as often as they stand there.
@@ -183,9 +185,53 @@ fn kept_positions<T: TableRead + Same + Drop>(
     ensures kept { IfOk result (λ positions. positions ≡ passing (is_kept among b.now.rows) [] a.now.rows) }
     ensures few { IfOk result (λ positions. length positions ≤ max_rows) }
 {
+    if is_plain(a.schema()) && is_plain(b.schema()) {
+        return kept_of_plain(alloc, a, b, among);
+    }
     let rows = copy_rows(alloc, b)?;
     let index = RowIndex::new(alloc, rows)?;
     positions_by(alloc, a, &index, among)
+}
+
+/// The same where no value is a view. It copies no row.
+fn kept_of_plain<T: TableRead + Same + Drop>(
+    alloc: Global,
+    a: &Derived<T>,
+    b: &Derived<T>,
+    among: bool,
+) -> Result<Positions, Memory>
+    requires { has_plain_values b.now.schema ≡ true }
+    ensures kept { IfOk result (λ positions. positions ≡ passing (is_kept among b.now.rows) [] a.now.rows) }
+    ensures few { IfOk result (λ positions. length positions ≤ max_rows) }
+{
+    let columns = all_columns(alloc, a.schema().len())?;
+    let index = whole_index(alloc, b)?;
+    let mut near = groups_near(alloc, a.size())?;
+    positions_in(alloc, a, &columns, &index, &mut near, among)
+}
+
+/// The positions of the rows that an index of whole rows has, or of those that it has not. In `near` it remembers groups.
+fn positions_in<'x, T: TableRead + Same + Drop>(
+    alloc: Global,
+    table: &Derived<T>,
+    columns: &Columns,
+    index: &'x KeyIndex<'x, Derived<T>>,
+    near: &mut [usize],
+    among: bool,
+) -> Result<Positions, Memory>
+    requires some { 0 < length near.old }
+    requires all { columns.now ≡ numbers (length table.now.schema) }
+    ensures kept { IfOk result (λ positions. positions ≡ passing (is_kept among index.now) [] table.now.rows) }
+    ensures few { IfOk result (λ positions. length positions ≤ max_rows) }
+{
+    let mut positions = Positions::new(alloc);
+    for at in 0..table.size() {
+        if index.has_partner(near, table, at, columns) != among {
+            continue;
+        }
+        positions.push(at as u32)?;
+    }
+    Ok(positions)
 }
 
 /// The positions of the rows that an index has, or of those that it has not.

@@ -1,4 +1,4 @@
-use Rattle.std.proofs.Common.{◌≡◌, List, [], length, subst, ◌∙◌}
+use Rattle.std.proofs.Common.{◌≡◌, List, [], subst, ◌∙◌}
 use Rattle.std.specs.Prelude.{IfOk}
 use Rattle.mk_value.specs.Data.{Datum}
 use Rattle.relations.specs.Positions.{passing}

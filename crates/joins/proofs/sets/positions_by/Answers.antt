@@ -1,7 +1,6 @@
-use Rattle.std.proofs.Common.{◌≡◌, ◌≤◌, [], get_or, length, ap, sym, subst, ◌∙◌, arith}
+use Rattle.std.proofs.Common.{◌≡◌, [], get_or, length, ap, sym, ◌∙◌, arith}
 use Rattle.std.specs.List.{filter}
-use Rattle.mk_value.specs.Limits.{max_rows}
-use Rattle.relations.specs.Positions.{numbers, passing}
+use Rattle.relations.specs.Positions.{numbers}
 use Rattle.relations.proofs.Filtering.{passing_few, skipped, taken}
 use Rattle.joins.specs.Sets.{is_kept}
 use Rattle.joins.proofs.sets.positions_by.Goals as goal
