@@ -1,0 +1,6 @@
+pub mod Finding
+pub mod Holding
+pub mod Inside
+pub mod Keyed
+pub mod Placing
+pub mod Whole

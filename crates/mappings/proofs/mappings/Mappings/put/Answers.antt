@@ -1,0 +1,30 @@
+use Rattle.std.proofs.Common.{◌<◌, length, ap, subst, sym, ◌∙◌, arith}
+use Rattle.mappings.specs.declared.kept.Kept.{Kept}
+use Rattle.mappings.specs.Keeping.{AreKept, AreWhole, mapped}
+use Rattle.mappings.specs.Mapped.{is_mapped}
+use Rattle.view_store.specs.Views.{table_of}
+use Rattle.mappings.proofs.Holding.{kept_push, whole_push}
+use Rattle.mappings.specs.Refusals.{schema_due}
+use Rattle.mappings.proofs.Keyed.{count_none}
+use Rattle.mappings.proofs.mappings.Mappings.put.Goals as goal
+
+pub invariant_of-self-2 : goal.invariant_of-self-2
+invariant_of-self-2 c =
+    let kept : Kept = record { view = c.in_ok-view.view; keys = c.args.keys; mapping = c.in_ok-mapping.mapping } in
+    let below = c.if-len-ge-MAX_MAPPINGS.false in
+    let long = c.len.ensures in
+    let few : length c.self.inside.list.items < 64 = omega arith in
+    subst AreWhole (sym c.in_ok-push.ensures.ok)
+    (whole_push c.self.inside.list.items c.args.self.now kept c.self.invariant few c.self.view_is
+    (ap (is_mapped (mapped c.args.self.now)) c.in_ok-view.ensures ∙ sym c.is_mapped.ensures ∙ c.if-is_mapped.false))
+
+pub returns-clause-kept : goal.returns-clause-kept
+returns-clause-kept c = λ views there h.
+    let kept : Kept = record { view = c.in_ok-view.view; keys = c.args.keys; mapping = c.in_ok-mapping.mapping } in
+    subst (AreKept views) (sym c.in_ok-push.ensures.ok)
+    (kept_push views c.self.inside.list.items kept (subst (AreKept views) (sym c.self.view_is) h)
+    (record {
+      table = c.args.table.now;
+      there = ap (table_of views) c.in_ok-view.ensures ∙ there;
+      over = record { plain = count_none c.args.keys c.args.table.now.schema (ap (schema_due c.args.keys) (sym c.schema.ensures.value) ∙ sym c.in_ok-check_schema.ensures); kept = c.in_ok-mapping.ensures.kept };
+    }))
