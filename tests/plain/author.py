@@ -5,6 +5,7 @@ from collections import ChainMap
 from dataclasses import dataclass
 
 from plain import tables
+from plain.keyed import Mapping
 from plain.operators import OPERATORS, TOO_LONG, VIEWERS, Expression, Unfit, is_view, kind_of, names_of, place, sort_keys, sortable
 from plain.reading import MOST_NAME, RUN
 from plain.session import Session
@@ -301,7 +302,12 @@ class Author:
         return [*expression_tokens(expression), str(start), *part_tokens("criteria", self.criteria(table))]
 
     def of_search(self):
-        """Mostly a sorting, or a watch that is one, and values for its first keys."""
+        """Mostly a sorting, a watch that is one, or a view in the order of its keys, and values for the first keys."""
+        in_order = [name for name, mapping in self.session.mappings.items() if mapping.in_order]
+        if in_order and self.often(0.2):
+            name = self.chance.choice(in_order)
+            keys = Expression("sort", [], [[(key, False) for key, _ in self.session.views[name].props[:self.session.mappings[name].count]]])
+            return [name, *part_tokens("criteria", self.criteria_sorted(keys, self.session.value((name,))))]
         sortings = [name for name, watched in self.session.watches.items() if watched.word == "sort"]
         if sortings and self.often(0.3):
             name = self.chance.choice(sortings)
@@ -349,6 +355,24 @@ class Author:
 
     def of_unwatch(self):
         return [self.one_of(self.session.watches)]
+
+    def of_hash(self, in_order=False):
+        """Mostly a view that can be mapped, by as many keys as it can."""
+        name = self.one_of(self.session.views)
+        table = self.session.views.get(name)
+        counts = [count for count in range(1, len(table.props) + 1) if self.can_map(table, Mapping(in_order, count))] if table else []
+        if counts and self.often(0.7):
+            return [name, str(self.chance.choice(counts))]
+        return [name, str(self.chance.randint(0, len(table.props) + 1 if table else 1))]
+
+    def of_ordered(self):
+        return self.of_hash(True)
+
+    def can_map(self, table, mapping):
+        return not any(is_view(kind) for _, kind in table.props[:mapping.count]) and mapping.broken(table.rows) is None
+
+    def of_unmap(self):
+        return [self.one_of(self.session.mappings)]
 
     def of_cursor_name(self):
         return [self.one_of(self.session.cursors)]
@@ -409,7 +433,7 @@ GIVEN = {
 WEIGHTS = {
     "getas": 3, "drop": 2, "struct": 1, "add": 8, "insert": 2, "set": 7, "remove": 4, "size": 10, "show": 50, "find": 14, "search": 12,
     "locate": 14, "dup": 10,
-    "undup": 4, "watch": 9, "unwatch": 3, "cursor": 7, "uncursor": 2, "next": 12, "prev": 6, "row": 7, "commit": 3, "log": 1, "rollback": 1, "revert": 0.5,
+    "undup": 4, "watch": 9, "unwatch": 3, "hash": 5, "ordered": 7, "unmap": 2, "cursor": 7, "uncursor": 2, "next": 12, "prev": 6, "row": 7, "commit": 3, "log": 1, "rollback": 1, "revert": 0.5,
     "reopen": 0.6, "space": 1,
 }
 
@@ -449,11 +473,32 @@ def twins(author):
     yield "rollback"
 
 
+def mapped(author):
+    """Lines that empty a view and map it, and put rows into it and change them."""
+    name = author.one_of(author.session.views)
+    if name not in author.session.views:
+        return
+    table = author.session.views[name]
+    plain = next((at for at, (_, kind) in enumerate(table.props) if is_view(kind)), len(table.props))
+    yield f"remove {name} 0 {len(table.rows)}"
+    yield f"{author.chance.choice(('hash', 'ordered'))} {name} {author.chance.randint(1, max(1, min(2, plain)))}"
+    for _ in range(author.chance.randint(4, 12)):
+        size, row = len(table.rows), author.literals(table.props)
+        prop, kind = author.chance.choice(table.props)
+        values = [token for value in row for token in literal_tokens(value)]
+        yield author.joined(author.chance.choice((
+            ["add", name, *values],
+            ["insert", name, str(author.chance.randint(0, size)), author.chance.choice("0112"), *values],
+            ["set", name, str(author.chance.randint(0, max(0, size - 1))), prop, *literal_tokens(author.literal(kind))],
+        )))
+        yield f"show {name}"
+
+
 def stream_lines(author, count):
     """So many lines; views are made anew where few are left."""
     for _ in range(count):
         if len(author.session.views) < VIEWS // 2:
             yield from begun(author)
-        yield from twins(author) if author.often(0.01) else [author.line()]
+        yield from twins(author) if author.often(0.01) else mapped(author) if author.often(0.02) else [author.line()]
     if author.often(0.5):
         yield "quit"

@@ -227,7 +227,8 @@ COMMANDS = {
     "getas": (), "drop": ("name",), "struct": (), "add": ("path", "literals"), "insert": ("path", "number", "number", "literals"),
     "set": ("path", "number", "name", "literal"), "remove": ("path", "number", "number"), "size": ("expression",), "show": ("expression",),
     "find": ("expression", "number", "criteria"), "search": ("expression", "criteria"), "locate": ("expression", "criteria"),
-    "dup": ("name", "expression"), "undup": ("name",), "watch": ("name", "operation"), "unwatch": ("name",), "cursor": ("name", "name"), "uncursor": ("name",), "next": ("name",), "prev": ("name",),
+    "dup": ("name", "expression"), "undup": ("name",), "watch": ("name", "operation"), "unwatch": ("name",), "hash": ("name", "number"), "ordered": ("name", "number"), "unmap": ("name",),
+    "cursor": ("name", "name"), "uncursor": ("name",), "next": ("name",), "prev": ("name",),
     "row": ("name",), "commit": ("note",), "log": (), "rollback": (), "revert": (), "reopen": (), "space": (), "quit": (),
 }
 

@@ -1,9 +1,11 @@
-"""What a session answers: what tests/tables knows of views and commits, with expressions, questions, snapshots, watches and cursors."""
+"""What a session answers: what tests/tables knows of views and commits, with expressions, questions, snapshots, watches, cursors and views kept by
+key."""
 
 from collections import ChainMap, Counter
 from dataclasses import dataclass, field
 
 from plain import tables
+from plain.keyed import Keyed
 from plain.operators import OPERATORS, TOLD, Expression, Unfit, check_values, has, place, rows_of, sort_keys, sortable
 from plain.reading import COMMANDS, RUN, read_line
 
@@ -28,7 +30,7 @@ def command_of(line):
 
 
 @dataclass
-class Session(Model):
+class Session(Keyed):
     """What `tests/tables` knows of views and commits, with snapshots, watches, cursors and questions. A watch is an operator of a name, and
     is asked anew each time."""
 
@@ -119,8 +121,7 @@ class Session(Model):
         props, rows = self.asked(expression, criteria)
         if isinstance(expression, tuple) and self.is_watch(expression):
             expression = self.watches[expression[0]]
-        is_sorting = isinstance(expression, Expression) and expression.word == "sort"
-        keys = sort_keys(props, expression.given[0])[:len(criteria)] if is_sorting else []
+        keys = self.known_keys(props, expression)[:len(criteria)]
         if [name for name, _ in keys] != [name for name, _ in criteria]:
             raise Refused("18 unsorted")
 
@@ -132,6 +133,13 @@ class Session(Model):
             return False
 
         return sum(map(comes_before, rows)), sum(has(props, row, criteria) for row in rows)
+
+    def known_keys(self, props, expression):
+        """The keys by which the table is known to be sorted: those of a sorting, or the key of a view that is kept in order."""
+        if isinstance(expression, Expression):
+            return sort_keys(props, expression.given[0]) if expression.word == "sort" else []
+        mapping = self.mapping_on(expression)
+        return [(name, False) for name, _ in props[:mapping.count]] if mapping and mapping.in_order else []
 
     def search(self, expression, criteria):
         return str(self.in_order(expression, criteria)[0])
@@ -151,8 +159,10 @@ class Session(Model):
             raise Refused("8 limit")
 
     def check_free(self, standing, name):
-        """No cursor stands on the view, the snapshot or the watch, and no watch stands over the view or the watch."""
+        """No cursor stands on the view, the snapshot or the watch, no watch stands over the view or the watch, and the view has no mapping."""
         if any(cursor.standing == standing and cursor.name == name for cursor in self.cursors.values()):
+            raise Refused("16 inuse")
+        if standing == "view" and name in self.mappings:
             raise Refused("16 inuse")
         if standing != "snapshot" and any((name,) in watched.bases for watched in self.watches.values()):
             raise Refused("16 inuse")
@@ -264,16 +274,16 @@ class Session(Model):
         return super().commit(note)
 
     def rollback(self):
-        self.cursors, self.watches = {}, {}
+        self.cursors, self.watches, self.mappings = {}, {}, {}
         return super().rollback()
 
     def reopen(self):
-        self.cursors, self.watches = {}, {}
+        self.cursors, self.watches, self.mappings = {}, {}, {}
         return super().reopen()
 
     def revert(self):
         said = super().revert()
-        self.cursors, self.watches = {}, {}
+        self.cursors, self.watches, self.mappings = {}, {}, {}
         return said
 
     def quit(self):

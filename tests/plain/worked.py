@@ -1,6 +1,7 @@
 """Lines with replies that were worked out by hand."""
 
 from plain import tables
+from plain.keyed import MOST_MAPPINGS
 from plain.operators import MOST_PROPERTIES, TOO_LONG
 from plain.reading import COMMANDS, MOST_OPERATORS, Reader, tokens_of
 from plain.session import MOST_CURSORS, MOST_SNAPSHOTS, MOST_VIEWS
@@ -226,7 +227,7 @@ def session_lines(text):
 
 
 def full_lines():
-    """As many snapshots and cursors as there may be, and one more."""
+    """As many snapshots, cursors and mappings as there may be, and one more."""
     yield "getas t[a:I]", "ok t[a:I]"
     yield from ((f"dup s{at} t", "ok 0") for at in range(MOST_SNAPSHOTS))
     yield from [("dup more t", "err 8 limit"), ("dup s0 t", "err 4 exists"), ("dup more nosuch", "err 3 noname")]
@@ -237,6 +238,8 @@ def full_lines():
     yield from [("rollback", "ok rollback 0"), ("cursor c more", "ok 0"), ("dup s9 more", "err 8 limit")]
     yield from ((f"getas v{at}[a:I]", f"ok v{at}[a:I]") for at in range(MOST_VIEWS))
     yield from [("getas s0[a:I]", "err 4 exists"), ("getas v[a:I]", "err 8 limit"), ("getas v0[a:I]", "ok v0[a:I]")]
+    yield from ((f"{('hash', 'ordered')[at % 2]} v{at} 1", "ok") for at in range(MOST_MAPPINGS))
+    yield from [("ordered v64 1", "err 8 limit"), ("hash v0 1", "err 8 limit"), ("hash v0 2", "err 5 range 1"), ("unmap v9", "ok"), ("hash v64 1", "ok"), ("unmap v9", "err 3 noname")]
 
 
 # Each command with what it is refused for, where that needs no session of its own: over two rows of the first structure, and over no rows of

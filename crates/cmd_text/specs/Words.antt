@@ -91,9 +91,6 @@ form_of Revert = parts_and [] no_more
 form_of Space = parts_and [] no_more
 form_of Quit = parts_and [] no_more
 
--- The words that the program does not know yet. In a line such a word is a token at which no command can go on.
+-- each of these words is known
 abbrev pub is_known : Verb → Bool
-is_known Hash = false
-is_known Ordered = false
-is_known Unmap = false
-is_known _ = true
+is_known verb = true

@@ -196,7 +196,7 @@ fn read_pieces(alloc: Global, pieces: &[Piece<'_>], end: usize) -> Result<Comman
     }
 }
 
-/// The command whose first word a token is, if the program knows it.
+/// The command whose first word a token is.
 fn verb_of(token: &Token<'_>) -> Option<Verb>
     ensures some { IfSome result (λ verb. (is_known verb ≡ true) × (token_of token.now ≡ keyword (word_of verb))) }
     ensures none { IsNone result → (verb : TheVerb) → is_known verb ≡ true → token_of token.now ≡ keyword (word_of verb) → ⊥ }
@@ -204,9 +204,5 @@ fn verb_of(token: &Token<'_>) -> Option<Verb>
     let Token::Word(word) = token else {
         return None;
     };
-    let verb = Verb::of(word)?;
-    if !verb.is_known() {
-        return None;
-    }
-    Some(verb)
+    Verb::of(word)
 }

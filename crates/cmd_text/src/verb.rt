@@ -1,5 +1,5 @@
-ghost use Rattle.std.specs.Prelude.{◌≡◌, true, IfSome, IsNone};
-ghost use Rattle.cmd_text.specs.Words.{is_known as known_verb, word_of};
+ghost use Rattle.std.specs.Prelude.{◌≡◌, IfSome, IsNone};
+ghost use Rattle.cmd_text.specs.Words.{word_of};
 ghost use Rattle.cmd_text.specs.declared.verb.Verb.{Verb as TheVerb};
 
 /// The first word of a command that is cut into tokens.
@@ -76,13 +76,5 @@ impl Verb {
             "quit" => Verb::Quit,
             _ => return None,
         })
-    }
-
-    /// Whether the program knows the command. The words that it does not know yet are these alone: a word moves in or out here and in the same list
-    /// of the table.
-    pub(crate) fn is_known(self) -> bool
-        ensures { result ≡ known_verb self }
-    {
-        !matches!(self, Verb::Hash | Verb::Ordered | Verb::Unmap)
     }
 }

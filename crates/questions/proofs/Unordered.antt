@@ -26,6 +26,7 @@ use Rattle.eval.specs.declared.error.EvalError.{EvalError}
 use Rattle.questions.specs.Answers.{Answers, answer}
 use Rattle.questions.specs.Places.{AnswersUnordered, HasRowsOf, before_values, begin, known_keys, locate_due, located, unless_due, values_of, where_sorted}
 use Rattle.following.specs.Watches.{Followed}
+use Rattle.mappings.specs.Mapped.{MappedView}
 use Rattle.questions.specs.Told.{told}
 use Rattle.questions.specs.declared.error.QuestionError.{QuestionError}
 use Rattle.questions.specs.declared.error.QuestionError.TheVariants.{Unsorted}
@@ -77,17 +78,17 @@ in_order due (Ok d) h = (table_of d, h, record { same_schema = refl; as_many = �
 in_order due (Err e) h = h
 
 -- where rows in whatever order are counted
-pub located_is : (names : List Named) (watches : List Followed) (viewers : List Meaning) (q : Query) (list : List Criterion) (t : Table) (rows : List (List Datum)) (position count : ℕ) → answer names viewers q ≡ Ok t
-    → ((test : List Datum → Bool) → count_by test rows ≡ count_by test t.rows) → literals_due (map asked list) t.schema ≡ None → begin list (known_keys watches q t.schema) ≡ true
-    → position ≡ rows_before t.schema (known_keys watches q t.schema) (values_of t.schema list) rows → count ≡ count_by (is_in_range t.schema (values_of t.schema list)) rows
-    → locate_due names watches viewers q list ≡ Ok (record { position = position; count = count })
-located_is names watches viewers q list t rows position count is as_many due first place_is count_is =
-    let place : before_values watches q list t ≡ position =
-    sym (place_is ∙ as_many (λ row. is_lt (asked_cmp t.schema (known_keys watches q t.schema) (values_of t.schema list) row))) in
-    let number : (located watches q list t).count ≡ count = sym (count_is ∙ as_many (is_in_range t.schema (values_of t.schema list))) in
-    ap (λ (r : Result Table QuestionError). continued r (λ t. unless_due (literals_due (map asked list) t.schema) (where_sorted watches q list t (located watches q list t)))) is
-    ∙ ap (λ (d : Option DerivedError). unless_due d (where_sorted watches q list t (located watches q list t))) due
-    ∙ ap (λ (b : Bool). if b then Ok (located watches q list t) else Err Unsorted) first
+pub located_is : (names : List Named) (watches : List Followed) (mappings : List MappedView) (viewers : List Meaning) (q : Query) (list : List Criterion) (t : Table) (rows : List (List Datum)) (position count : ℕ) → answer names viewers q ≡ Ok t
+    → ((test : List Datum → Bool) → count_by test rows ≡ count_by test t.rows) → literals_due (map asked list) t.schema ≡ None → begin list (known_keys watches mappings q t.schema) ≡ true
+    → position ≡ rows_before t.schema (known_keys watches mappings q t.schema) (values_of t.schema list) rows → count ≡ count_by (is_in_range t.schema (values_of t.schema list)) rows
+    → locate_due names watches mappings viewers q list ≡ Ok (record { position = position; count = count })
+located_is names watches mappings viewers q list t rows position count is as_many due first place_is count_is =
+    let place : before_values watches mappings q list t ≡ position =
+    sym (place_is ∙ as_many (λ row. is_lt (asked_cmp t.schema (known_keys watches mappings q t.schema) (values_of t.schema list) row))) in
+    let number : (located watches mappings q list t).count ≡ count = sym (count_is ∙ as_many (is_in_range t.schema (values_of t.schema list))) in
+    ap (λ (r : Result Table QuestionError). continued r (λ t. unless_due (literals_due (map asked list) t.schema) (where_sorted watches mappings q list t (located watches mappings q list t)))) is
+    ∙ ap (λ (d : Option DerivedError). unless_due d (where_sorted watches mappings q list t (located watches mappings q list t))) due
+    ∙ ap (λ (b : Bool). if b then Ok (located watches mappings q list t) else Err Unsorted) first
     ∙ (λ i. Ok (record { position = place i; count = number i }))
 
 -- in whatever order rows stand, there are as many

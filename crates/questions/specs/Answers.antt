@@ -1,5 +1,5 @@
 -- What a question is answered: what it asks for, or the refusal; or memory was wanting.
-use Rattle.std.specs.Prelude.{◌≡◌, ◌⊎◌, ℕ, List, length, map, Result, Ok, Err}
+use Rattle.std.specs.Prelude.{◌≡◌, ◌⊎◌, ℕ, Bool, if◌then◌else◌, List, length, map, Result, Ok, Err}
 use Rattle.std.specs.Result.{result_map_both}
 use Rattle.mk_value.specs.Buffer.{Buffer}
 use Rattle.mk_value.specs.Literals.{row_text}
@@ -7,6 +7,8 @@ use Rattle.mk_value.specs.Tables.{Table}
 use Rattle.eval.specs.Names.{Named, continued}
 use Rattle.eval.specs.Values.{value}
 use Rattle.expr_text.specs.Queries.{Query}
+use Rattle.expr_text.specs.declared.operator.Operator.{Operator}
+use Rattle.expr_text.specs.declared.operator.Operator.TheVariants as operators
 use Rattle.viewers.specs.Meanings.{Meaning}
 use Rattle.questions.specs.declared.error.QuestionError.{QuestionError}
 use Rattle.questions.specs.declared.error.QuestionError.TheVariants.{Memory}
@@ -31,3 +33,7 @@ rows_due names viewers q = continued (answer names viewers q) (λ t. Ok (map row
 -- the bytes of texts
 abbrev pub contents : List Buffer → List (List ℕ)
 contents texts = map (λ (text : Buffer). text.bytes) texts
+
+-- the operator of a join, by whether it is an outer one
+abbrev pub joining : Bool → Operator
+joining outer = if outer then operators.OuterJoin else operators.Join

@@ -7,6 +7,7 @@ use Rattle.mk_value.specs.Names.{same_bytes}
 use Rattle.mk_value.specs.Tables.{Table, table_code}
 use Rattle.eval.specs.Names.{Named}
 use Rattle.following.specs.Watches.{Followed, Shown, watch_table}
+use Rattle.mappings.specs.Mapped.{MappedView}
 use Rattle.tables.specs.Tables.{StoredTable}
 use Rattle.view_store.specs.Views.{NamedTable}
 
@@ -49,11 +50,12 @@ stored views snapshots = map named_view views ++ map named_snapshot snapshots
 abbrev pub watched : List NamedTable → List Followed → List Named
 watched views watches = map (named_watch views watches) (watch_names watches)
 
--- what names stand for
+-- what names stand for, and which views are kept by key
 pub record Names : Type 0 where
   pub views : List NamedTable
   pub snapshots : List Kept
   pub watches : List Followed
+  pub mappings : List MappedView
 
 -- views and snapshots decide before watches
 abbrev pub known : List NamedTable → List Kept → List Followed → List Named

@@ -1,9 +1,11 @@
 -- Where the value of an expression has the values that criteria ask for.
-use Rattle.std.specs.Prelude.{◌≡◌, ◌⊎◌, ℕ, Bool, true, false, ◌&&◌, not, nat_le, if◌then◌else◌, List, [], ◌∷◌, count_by, filter, length, map, Option, Some, None, Result, Ok, Err}
+use Rattle.std.specs.Prelude.{◌≡◌, ◌⊎◌, ℕ, Bool, true, false, ◌&&◌, not, nat_le, if◌then◌else◌, List, [], ◌∷◌, count_by, filter, length, map, take, Option, Some, None, Result, Ok, Err}
 use Rattle.derived.specs.Layers.{Layered}
 use Rattle.mk_value.specs.Data.{Datum}
 use Rattle.mk_value.specs.Heading.{Attribute}
 use Rattle.mk_value.specs.Names.{same_bytes}
+use Rattle.mk_value.specs.Paths.{Route}
+use Rattle.mk_value.specs.declared.path.Step.{Step}
 use Rattle.mk_value.specs.Tables.{Table}
 use Rattle.relations.specs.declared.criteria.Key.{Key}
 use Rattle.relations.specs.declared.error.DerivedError.{DerivedError}
@@ -19,6 +21,7 @@ use Rattle.expr_text.specs.declared.operator.Operator.TheVariants as operators
 use Rattle.eval.specs.Names.{Named, continued}
 use Rattle.eval.specs.Values.{asked, key_of}
 use Rattle.following.specs.Watches.{Followed, op_of}
+use Rattle.mappings.specs.Mapped.{MappedView, mapping_of, order_in}
 use Rattle.live.specs.declared.op.WatchOp.{WatchOp}
 use Rattle.live.specs.declared.op.WatchOp.TheVariants as shows
 use Rattle.questions.specs.declared.error.QuestionError.{QuestionError}
@@ -80,12 +83,29 @@ abbrev pub keys_shown : Option WatchOp → List Key
 keys_shown (Some (shows.Sort keys)) = first_keys keys
 keys_shown _ = []
 
--- the keys by which the value of an expression is known to be sorted: those of a sorting, or of a watch that is one. Any other is known
--- to be sorted by none
-abbrev pub known_keys : List Followed → Query → List Attribute → List Key
-known_keys watches (one operators.Sort q (orders list)) schema = first_keys (keys_or_all schema (map key_of list))
-known_keys watches (path route) schema = keys_shown (op_of watches route.name)
-known_keys watches _ schema = []
+-- of how many values the key is in whose order the rows of the view of a route stand; steps lead away from it
+abbrev pub order_under : List Step → Option MappedView → Option ℕ
+order_under [] mapping = order_in mapping
+order_under (s ∷ steps) mapping = None
+
+abbrev pub order_at : List MappedView → Route → Option ℕ
+order_at mappings route = order_under route.steps (mapping_of mappings route.name)
+
+-- the first properties, so many, upwards
+abbrev pub upwards : ℕ → List Attribute → List Key
+upwards count schema = map (λ a. record { prop = a.name; down = false }) (take count schema)
+
+-- the keys of a view whose rows stand in their order, or else those of a watch
+abbrev pub keys_in_order : Option ℕ → Option WatchOp → List Attribute → List Key
+keys_in_order (Some count) watch schema = upwards count schema
+keys_in_order None watch schema = keys_shown watch
+
+-- the keys by which the value of an expression is known to be sorted: those of a sorting, of a view that is kept in their order, or of a
+-- watch that is a sorting. Any other is known to be sorted by none
+abbrev pub known_keys : List Followed → List MappedView → Query → List Attribute → List Key
+known_keys watches mappings (one operators.Sort q (orders list)) schema = first_keys (keys_or_all schema (map key_of list))
+known_keys watches mappings (path route) schema = keys_in_order (order_at mappings route) (op_of watches route.name) schema
+known_keys watches mappings _ schema = []
 
 -- the criteria name the first keys, in order
 abbrev pub begin : List Criterion → List Key → Bool
@@ -94,22 +114,22 @@ begin (c ∷ criteria) [] = false
 begin (c ∷ criteria) (k ∷ keys) = same_bytes c.prop k.prop && begin criteria keys
 
 -- where they do, this
-abbrev pub where_sorted : {Y : Type 0} → List Followed → Query → List Criterion → Table → Y → Result Y QuestionError
-where_sorted watches q criteria t done = if begin criteria (known_keys watches q t.schema) then Ok done else Err Unsorted
+abbrev pub where_sorted : {Y : Type 0} → List Followed → List MappedView → Query → List Criterion → Table → Y → Result Y QuestionError
+where_sorted watches mappings q criteria t done = if begin criteria (known_keys watches mappings q t.schema) then Ok done else Err Unsorted
 
 -- `search`: how many rows come before the values in the order of the keys
-abbrev pub before_values : List Followed → Query → List Criterion → Table → ℕ
-before_values watches q criteria t = rows_before t.schema (known_keys watches q t.schema) (values_of t.schema criteria) t.rows
+abbrev pub before_values : List Followed → List MappedView → Query → List Criterion → Table → ℕ
+before_values watches mappings q criteria t = rows_before t.schema (known_keys watches mappings q t.schema) (values_of t.schema criteria) t.rows
 
-abbrev pub search_due : List Named → List Followed → List Meaning → Query → List Criterion → Result ℕ QuestionError
-search_due names watches viewers q criteria = asked_with names viewers q criteria (λ t. where_sorted watches q criteria t (before_values watches q criteria t))
+abbrev pub search_due : List Named → List Followed → List MappedView → List Meaning → Query → List Criterion → Result ℕ QuestionError
+search_due names watches mappings viewers q criteria = asked_with names viewers q criteria (λ t. where_sorted watches mappings q criteria t (before_values watches mappings q criteria t))
 
 -- `locate`: and how many have the values
-abbrev pub located : List Followed → Query → List Criterion → Table → Located
-located watches q criteria t = record {
-  position = before_values watches q criteria t;
+abbrev pub located : List Followed → List MappedView → Query → List Criterion → Table → Located
+located watches mappings q criteria t = record {
+  position = before_values watches mappings q criteria t;
   count = count_by (is_in_range t.schema (values_of t.schema criteria)) t.rows;
 }
 
-abbrev pub locate_due : List Named → List Followed → List Meaning → Query → List Criterion → Result Located QuestionError
-locate_due names watches viewers q criteria = asked_with names viewers q criteria (λ t. where_sorted watches q criteria t (located watches q criteria t))
+abbrev pub locate_due : List Named → List Followed → List MappedView → List Meaning → Query → List Criterion → Result Located QuestionError
+locate_due names watches mappings viewers q criteria = asked_with names viewers q criteria (λ t. where_sorted watches mappings q criteria t (located watches mappings q criteria t))

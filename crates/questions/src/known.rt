@@ -4,6 +4,7 @@ ghost use Rattle.std.specs.Option.{is_some};
 ghost use Rattle.eval.specs.Names.{IsSeen, Named, view_at};
 ghost use Rattle.eval.specs.declared.error.NameError.TheVariants as name_error;
 ghost use Rattle.following.specs.Keeping.{AreKept, followed};
+ghost use Rattle.mappings.specs.Keeping.{mapped};
 ghost use Rattle.mk_value.specs.Names.{same_bytes};
 ghost use Rattle.view_store.specs.Views.{table_of as view_named};
 ghost use Rattle.questions.specs.Kept.{Kept, stored, table_of, watched};
@@ -13,23 +14,26 @@ use crate::walk::inner_table;
 use derived::{Derived, leaf};
 use eval::{NameError, Names};
 use following::{Following, view_of};
+use mappings::Mappings;
 use mk_value::{Name, Path, Same};
 use std::marker::Model;
 use tables::Shared;
 use view_store::Root;
 
 /// Views, snapshots and watches by name, of which a view decides before a snapshot and a snapshot before a watch, and the first of
-/// several. The watches keep the positions of their rows in those of the views.
+/// several. The watches keep the positions of their rows in those of the views. Beside them it knows which views are kept by key.
 #[derive(Drop)]
 pub struct Known<'a> {
     pub(crate) views: &'a Root,
     pub(crate) snapshots: &'a [Snapshot],
     pub(crate) watches: &'a Following,
+    pub(crate) mappings: &'a Mappings,
 }
 
 impl<'a> Model for Known<'a> {
     ghost use Rattle.std.specs.Coded.{codes};
     ghost use Rattle.following.specs.Keeping.{AreKept, followed};
+    ghost use Rattle.mappings.specs.Keeping.{mapped};
     ghost use Rattle.questions.specs.Kept.{Names, kept_code};
     ghost use Rattle.relations.specs.Criteria.{interval_code};
     ghost use Rattle.view_store.specs.Views.{views_code};
@@ -38,7 +42,7 @@ impl<'a> Model for Known<'a> {
 
     ghost coded = { Prim.hlevel (codes, views_code, kept_code, interval_code) };
 
-    ghost view = { λ k. record { views = k.views.now; snapshots = k.snapshots.now; watches = followed k.watches.now } };
+    ghost view = { λ k. record { views = k.views.now; snapshots = k.snapshots.now; watches = followed k.watches.now; mappings = mapped k.mappings.now } };
 
     ghost invariant = { λ k. AreKept k.views.now k.watches.now };
 }
@@ -58,17 +62,24 @@ impl Names<Shared> for Known<'_> {
 }
 
 impl<'a> Known<'a> {
-    /// What names stand for, by these views and snapshots and the watches of those views.
-    pub fn of(views: &'a Root, snapshots: &'a [Snapshot], watches: &'a Following) -> Known<'a>
+    /// What names stand for, by these views and snapshots, and the watches and mappings of those views.
+    pub fn of(
+        views: &'a Root,
+        snapshots: &'a [Snapshot],
+        watches: &'a Following,
+        mappings: &'a Mappings,
+    ) -> Known<'a>
         requires kept { AreKept views.now watches.now }
         ensures views { result.views ≡ views.now }
         ensures snapshots { result.snapshots ≡ snapshots.now }
         ensures watches { result.watches ≡ followed watches.now }
+        ensures mappings { result.mappings ≡ mapped mappings.now }
     {
         Known {
             views,
             snapshots,
             watches,
+            mappings,
         }
     }
 

@@ -56,8 +56,8 @@ impl<V: Viewer> Scope<'_, V> {
     ///
     /// # Errors
     ///
-    /// The first refusal of the expression; `NoProp`, `Kind` by the criteria; `Unsorted` where it is no sorting, and no watch that is one, of which
-    /// the criteria name the first keys, in order, each once. Else `Memory`.
+    /// The first refusal of the expression; `NoProp`, `Kind` by the criteria; `Unsorted` where it is no sorting, no view that is kept in the
+    /// order of its keys and no watch that is a sorting, of which the criteria name the first keys, in order, each once. Else `Memory`.
     pub fn search(
         &self,
         alloc: Global,
@@ -65,7 +65,7 @@ impl<V: Viewer> Scope<'_, V> {
         criteria: &[Crit],
     ) -> Result<u64, QuestionError>
         requires { IsWhole (query_of expr.now) }
-        ensures { Answers (λ position. position) (search_due (known self.now.names.views self.now.names.snapshots self.now.names.watches) self.now.names.watches (map V.meaning self.now.viewers.now) (query_of expr.now) criteria.now) result }
+        ensures { Answers (λ position. position) (search_due (known self.now.names.views self.now.names.snapshots self.now.names.watches) self.now.names.watches self.now.names.mappings (map V.meaning self.now.viewers.now) (query_of expr.now) criteria.now) result }
     {
         let table = self.unordered(alloc, expr)?;
         let values = tested(alloc, table.schema(), criteria)?;
@@ -88,7 +88,7 @@ impl<V: Viewer> Scope<'_, V> {
         criteria: &[Crit],
     ) -> Result<Located, QuestionError>
         requires { IsWhole (query_of expr.now) }
-        ensures { Answers (λ located. located) (locate_due (known self.now.names.views self.now.names.snapshots self.now.names.watches) self.now.names.watches (map V.meaning self.now.viewers.now) (query_of expr.now) criteria.now) result }
+        ensures { Answers (λ located. located) (locate_due (known self.now.names.views self.now.names.snapshots self.now.names.watches) self.now.names.watches self.now.names.mappings (map V.meaning self.now.viewers.now) (query_of expr.now) criteria.now) result }
     {
         let table = self.unordered(alloc, expr)?;
         let values = tested(alloc, table.schema(), criteria)?;

@@ -1,16 +1,16 @@
 //! The value of an expression: its size, its rows as texts, and as a table of its own.
-ghost use Rattle.std.specs.Prelude.{◌≡◌, find, map, true, IfOk};
+ghost use Rattle.std.specs.Prelude.{◌≡◌, ◌<◌, find, length, map, true, IfOk};
 ghost use Rattle.std.specs.Option.{is_some};
 ghost use Rattle.std.specs.Result.{result_map_both};
 ghost use Rattle.eval.specs.Names.{Named};
-ghost use Rattle.expr_text.specs.Arguments.{named};
+ghost use Rattle.expr_text.specs.Arguments.{named, names};
 ghost use Rattle.expr_text.specs.Meanings.{query_of};
-ghost use Rattle.expr_text.specs.Queries.{one, path as to_path};
+ghost use Rattle.expr_text.specs.Queries.{one, path as to_path, two};
 ghost use Rattle.expr_text.specs.declared.operator.Operator.TheVariants as operators;
 ghost use Rattle.eval.specs.Parts.{IsWhole};
 ghost use Rattle.mk_value.specs.Literals.{row_text};
 ghost use Rattle.mk_value.specs.Names.{same_bytes};
-ghost use Rattle.questions.specs.Answers.{Answers, answer, contents, rows_due, size_due};
+ghost use Rattle.questions.specs.Answers.{Answers, answer, contents, joining, rows_due, size_due};
 ghost use Rattle.questions.specs.Kept.{known, stored, table_of};
 ghost use Rattle.questions.specs.Told.{told_of_operator};
 
@@ -19,6 +19,7 @@ use crate::scope::Scope;
 use derived::Derived;
 use expr_text::Expr;
 use grouping::{counts_size, group_by_size};
+use joins::join_size;
 use mk_value::{Memory, Name, Path, Row, TableRead, Text, Texts, print_row};
 use relations::{DerivedError, copy_row, copy_rows};
 use std::alloc::Global;
@@ -26,7 +27,7 @@ use tables::{Shared, from_rows, share};
 use viewers::Viewer;
 
 impl<V: Viewer> Scope<'_, V> {
-    /// The number of rows. Where the expression is a sorting, groups or counts, none of its rows is made.
+    /// The number of rows. Where the expression is a sorting, groups, counts or a join, none of its rows is made.
     ///
     /// # Errors
     ///
@@ -38,6 +39,12 @@ impl<V: Viewer> Scope<'_, V> {
         match expr {
             Expr::GroupBy(base, keys, sub) => self.groups(alloc, base, keys.as_slice(), sub),
             Expr::Counts(base, keys, count) => self.counts(alloc, base, keys.as_slice(), count),
+            Expr::Join(first, second, keys) => {
+                self.pairs(alloc, first, second, keys.as_slice(), false)
+            }
+            Expr::OuterJoin(first, second, keys) => {
+                self.pairs(alloc, first, second, keys.as_slice(), true)
+            }
             _ => self.size_unordered(alloc, expr),
         }
     }
@@ -80,6 +87,25 @@ impl<V: Viewer> Scope<'_, V> {
         let table = self.value(alloc, base)?;
         let rows = table.size() as u64;
         told_size(counts_size(alloc, table, keys, count), rows)
+    }
+
+    /// The number of pairs of rows that agree on the keys; in an outer join with those of the first that agree with none.
+    fn pairs(
+        &self,
+        alloc: Global,
+        first: &Expr,
+        second: &Expr,
+        keys: &[Name],
+        outer: bool,
+    ) -> Result<u64, QuestionError>
+        requires first { IsWhole (query_of first.now) }
+        requires second { IsWhole (query_of second.now) }
+        requires some { 0 < length keys.now }
+        ensures { Answers (λ size. size) (size_due (known self.now.names.views self.now.names.snapshots self.now.names.watches) (map V.meaning self.now.viewers.now) (two (joining outer) (query_of first.now) (query_of second.now) (names keys.now))) result }
+    {
+        let a = self.value(alloc, first)?;
+        let b = self.value(alloc, second)?;
+        told_size(join_size(alloc, &a, &b, keys, outer), a.size() as u64)
     }
 
     /// The texts of the rows, in order. Beside the texts and what the expression takes, one row at a time takes memory.

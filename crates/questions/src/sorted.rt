@@ -1,39 +1,64 @@
 //! By what the value of an expression is known to be sorted.
-ghost use Rattle.std.specs.Prelude.{◌≡◌, map, IfOk};
+ghost use Rattle.std.specs.Prelude.{◌≡◌, ◌≤◌, length, map, IfOk};
 ghost use Rattle.std.specs.List.{list_any};
 ghost use Rattle.expr_text.specs.Meanings.{query_of};
 ghost use Rattle.eval.specs.Values.{key_of};
 ghost use Rattle.mk_value.specs.Names.{same_bytes};
 ghost use Rattle.relations.specs.Sorting.{all_keys, keys_or_all};
 ghost use Rattle.following.specs.Watches.{op_of};
-ghost use Rattle.questions.specs.Places.{begin as begin_keys, first_keys as keys_once, keys_shown, known_keys as keys_known};
+ghost use Rattle.questions.specs.Places.{begin as begin_keys, first_keys as keys_once, keys_in_order, keys_shown, known_keys as keys_known, order_at as order_where, upwards as keys_upwards};
 
 use crate::known::Known;
 use expr_text::{Crit, Expr, Order};
 use live::WatchOp;
-use mk_value::{Kind, Memory, Name, Schema, Sequence};
+use mk_value::{Kind, Memory, Name, Path, Schema, Sequence};
 use relations::Key;
 use std::alloc::Global;
 
 impl Known<'_> {
-    /// The keys by which the value of an expression is known to be sorted, each property once; none where it is neither a sorting nor a
-    /// watch that is one.
+    /// The keys by which the value of an expression is known to be sorted, each property once; none where it is no sorting, no view that is
+    /// kept in the order of its keys and no watch that is a sorting.
     pub(crate) fn known_keys(
         &self,
         alloc: Global,
         expr: &Expr,
         schema: &Schema,
     ) -> Result<Sequence<Key>, Memory>
-        ensures { IfOk result (λ keys. keys ≡ keys_known self.now.watches (query_of expr.now) schema.now) }
+        ensures { IfOk result (λ keys. keys ≡ keys_known self.now.watches self.now.mappings (query_of expr.now) schema.now) }
     {
         match expr {
             Expr::Sort(_, orders) => {
                 let keys = given_or_all(alloc, orders.as_slice(), schema)?;
                 first_keys(alloc, keys.as_slice())
             }
-            Expr::Path(path) => self.watched_keys(alloc, path.name()),
+            Expr::Path(path) => self.named_keys(alloc, path, schema),
             _ => Ok(Sequence::new(alloc)),
         }
+    }
+
+    /// The keys of the view to which a path leads, if its rows stand in their order, and else those of the watch of its name.
+    fn named_keys(
+        &self,
+        alloc: Global,
+        path: &Path,
+        schema: &Schema,
+    ) -> Result<Sequence<Key>, Memory>
+        ensures { IfOk result (λ keys. keys ≡ keys_in_order (order_where self.now.mappings path.now) (op_of self.now.watches path.now.name) schema.now) }
+    {
+        match self.order_at(path) {
+            Some(count) => upwards(alloc, schema, count.min(schema.len())),
+            None => self.watched_keys(alloc, path.name()),
+        }
+    }
+
+    /// Of how many values the key is in whose order the rows of the view to which a path leads stand, if they do.
+    fn order_at(&self, path: &Path) -> Option<usize>
+        ensures { result ≡ order_where self.now.mappings path.now }
+    {
+        if path.steps().is_empty() {
+            return self.mappings.order(path.name());
+        }
+        None
     }
 
     /// The keys of the watch of a name, each property once; none where it is no sorting, or there is none.
@@ -121,6 +146,20 @@ fn key(order: &Order) -> Result<Key, Memory>
         prop,
         down: order.down,
     })
+}
+
+/// The first properties, so many, upwards.
+fn upwards(alloc: Global, schema: &Schema, count: usize) -> Result<Sequence<Key>, Memory>
+    requires { count ≤ length schema.now }
+    ensures { IfOk result (λ keys. keys ≡ keys_upwards count schema.now) }
+{
+    let mut keys = Sequence::new(alloc);
+    for col in 0..count {
+        let prop = &schema.as_slice()[col];
+        let prop = prop.name.copy()?;
+        keys.push(Key { prop, down: false })?;
+    }
+    Ok(keys)
 }
 
 /// All properties that are no views, upwards.

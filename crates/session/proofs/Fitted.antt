@@ -162,3 +162,10 @@ refused_next literals schema row i x r e h (inl due) =
       | true ↦ λ is d. absurd (let f : ◌≡◌ {A = Option Refusal} None (Some r) = d in cc)
       | false ↦ λ is d. inl (ap (λ b. unless b Limit) (next_long literals schema row i x e h is) ∙ d)
     ] refl due
+
+-- there are no more values than properties
+pub values_few : (schema : List Attribute) (literals : List Datum) → length (values_for schema literals) ≤ length schema
+values_few [] [] = omega arith
+values_few [] (d ∷ literals) = omega arith
+values_few (a ∷ schema) [] = omega arith
+values_few (a ∷ schema) (d ∷ literals) = let h = values_few schema literals in omega (arith, h)

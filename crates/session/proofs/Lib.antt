@@ -1,7 +1,12 @@
+mod Answering
 pub mod Asked
 pub mod Dues
 pub mod Fitted
 pub mod Known
+mod KeyedFollow
+mod KeyedKept
+mod KeyedLines
+mod KeyedPut
 mod LinesOn
 pub mod Machines
 pub mod OnDisk

@@ -40,7 +40,7 @@ home_of (Edit.set i prop d) = i
 home_of (Edit.remove at n) = 0
 
 -- the table of the view is edited, and that of each other name is as before
-found_edited : (views : List NamedTable) (route : Route) (edit : Edit) (t : StoredTable) → table_of views route.name ≡ Some t
+pub found_edited : (views : List NamedTable) (route : Route) (edit : Edit) (t : StoredTable) → table_of views route.name ≡ Some t
     → table_of (edited_views views route edit) route.name ≡ Some (edited route.steps edit t)
 found_edited [] route edit t h = some_none t (sym h)
 found_edited (v ∷ views) route edit t h = cases (same_bytes v.name route.name)
@@ -76,10 +76,10 @@ below a b e = grind (arith, nat_tests)
 at_most : (a b : ℕ) → ltb a b ≡ false → b ≤ a
 at_most a b e = grind (arith, nat_tests)
 
-in_range : (t : StoredTable) (edit : Edit) → due_in t [] edit ≡ None → range_refusal (length t.rows) edit ≡ None
+pub in_range : (t : StoredTable) (edit : Edit) → due_in t [] edit ≡ None → range_refusal (length t.rows) edit ≡ None
 in_range t edit h = none_second (kind_refusal t.schema edit) (range_refusal (length t.rows) edit) h
 
-row_in : (n i : ℕ) → cond (ltb i n) None (Some (OutOfRange n)) ≡ None → i < n
+pub row_in : (n i : ℕ) → cond (ltb i n) None (Some (OutOfRange n)) ≡ None → i < n
 row_in n i h = cases (ltb i n) (λ e. below i n e) (λ e. some_none (OutOfRange n) (rw e at h))
 
 rows_in_range : (n i : ℕ) → cond (ltb n i) (Some (OutOfRange n)) None ≡ None → i ≤ n

@@ -1,5 +1,5 @@
 -- What comes of a command, where the session is shut and where it is not.
-use Rattle.std.proofs.Common.{◌≡◌, ℕ, Bool, true, false, cond, ◌&&◌, List, ◌++◌, length, Option, Some, None, Result, Ok, Err, refl, ap, sym, subst, inl, inr}
+use Rattle.std.proofs.Common.{◌≡◌, ℕ, eqb, Bool, true, false, cond, ◌&&◌, List, ◌++◌, length, Option, Some, None, Result, Ok, Err, refl, ap, sym, subst, inl, inr}
 use Rattle.std.specs.Prelude.{codes, not, if◌then◌else◌}
 use Rattle.cmd_text.specs.Replies.{lines_text, reply_bytes, reply_line}
 use Rattle.cmd_text.specs.declared.command.Command.{Command}
@@ -16,14 +16,20 @@ use Rattle.view_store.specs.Views.{NamedTable}
 use Rattle.viewers.specs.Meanings.{Meaning}
 use Rattle.session.specs.Answered.{Answered, IsGiven}
 use Rattle.expr_text.specs.Meanings.{query_of}
+use Rattle.followers.specs.declared.keyed.KeyedEdit.{KeyedEdit}
+use Rattle.mappings.specs.Mapped.{MappedView}
+use Rattle.mk_value.specs.Data.{Datum}
+use Rattle.mk_value.specs.LiteralValues.{literal_of}
+use Rattle.mk_value.specs.Paths.{Route}
 use Rattle.mk_value.specs.Tables.{Table}
+use Rattle.session.specs.Keyed.{line_by_key, mapping_on, put_edits, put_line}
 use Rattle.questions.specs.Answers.{answer, rows_due, size_due}
 use Rattle.questions.specs.Cursors.{next_due, previous_due, row_due, standing_of}
 use Rattle.questions.specs.Places.{find_due, locate_due, search_due}
 use Rattle.questions.specs.declared.cursor.Standing.{Standing}
 use Rattle.questions.specs.declared.error.QuestionError.{QuestionError}
 use Rattle.session.specs.Carried.{Carried, Comes, LeavesDiskBy, LeavesDiskFor}
-use Rattle.session.specs.Commands.{Outcome, Reach, gives, commits, goes_when_shut, moved_in, off_disk, outcome_in, outcome_of, reach_of, refused, reopens, reverts, set_on, told, unless_due, with_cursor, with_snapshot}
+use Rattle.session.specs.Commands.{Outcome, Reach, add_in, gives, commits, goes_when_shut, insert_in, moved_in, off_disk, outcome_in, outcome_of, reach_of, refused, reopens, reverts, set_in, set_on, told, unless_due, with_cursor, with_snapshot}
 use Rattle.session.specs.Disk.{LeavesDisk}
 use Rattle.session.specs.Naming.{max_cursors, max_snapshots, new_name_due}
 use Rattle.session.specs.Questions.{located_reply, names_in, place_reply, refusal_of_question}
@@ -131,23 +137,43 @@ given_set None w new reply name target given = nothing_given w new (reply_bytes 
 given_set (Some standing) w new reply name target given =
     given_unless (new_name_due w name (length w.cursors) max_cursors) w (with_cursor w name target standing) new (reply_bytes (Count 0)) reply given (nothing_changed w)
 
+-- rows that come, by key or not
+given_add : (o : Option MappedView) (w new : World) (reply : List ℕ) (route : Route) (literals : List Datum) → IsGiven (add_in o w route literals) reply new → SameFile w.store new.store
+given_add None w new reply route literals given = given_unless _ w _ new _ reply given (changed_views w _)
+given_add (Some m) w new reply route literals given = given_unless _ w _ new _ reply given (changed_views w _)
+
+put_same : (w : World) (route : Route) (copies : ℕ) (row : List Datum) (e : KeyedEdit) → SameFile w.store (put_line w route copies row e).store
+put_same w route copies row e = either (eqb copies 0)
+  where
+    either : (b : Bool) → SameFile w.store (cond b w (line_by_key w route e (put_edits row e))).store
+    either true = nothing_changed w
+    either false = changed_views w _
+
+given_insert : (o : Option MappedView) (w new : World) (reply : List ℕ) (route : Route) (place copies : ℕ) (literals : List Datum) → IsGiven (insert_in o w route place copies literals) reply new → SameFile w.store new.store
+given_insert None w new reply route place copies literals given = given_unless _ w _ new _ reply given (changed_views w _)
+given_insert (Some m) w new reply route place copies literals given = given_unless _ w _ new _ reply given (put_same w route copies _ _)
+
+given_value : (o : Option MappedView) (w new : World) (reply : List ℕ) (route : Route) (row : ℕ) (prop : List ℕ) (literal : Datum) → IsGiven (set_in o w route row prop literal) reply new → SameFile w.store new.store
+given_value None w new reply route row prop literal given = given_unless _ w _ new _ reply given (changed_views w _)
+given_value (Some m) w new reply route row prop literal given = given_unless _ w _ new _ reply given (changed_views w _)
+
 pub given_same : (viewers : List Meaning) (command : Command) (w : World) (reply : List ℕ) (new : World) → IsGiven (outcome_in viewers w command) reply new → SameFile w.store new.store
 given_same viewers commands.Nothing w reply new given = given_left w _ new _ reply given (nothing_changed w)
 given_same viewers (commands.Getas name schema) w reply new given = given_unless _ w _ new _ reply given (changed_views w _)
 given_same viewers (commands.Drop name) w reply new given = given_unless _ w _ new _ reply given (changed_views w _)
 given_same viewers commands.Struct w reply new given = given_left w _ new _ reply given (nothing_changed w)
-given_same viewers (commands.Add route literals) w reply new given = given_unless _ w _ new _ reply given (changed_views w _)
-given_same viewers (commands.Insert route place copies literals) w reply new given = given_unless _ w _ new _ reply given (changed_views w _)
-given_same viewers (commands.Set route row prop literal) w reply new given = given_unless _ w _ new _ reply given (changed_views w _)
+given_same viewers (commands.Add route literals) w reply new given = given_add (mapping_on w route) w new reply route literals given
+given_same viewers (commands.Insert route place copies literals) w reply new given = given_insert (mapping_on w route) w new reply route place copies literals given
+given_same viewers (commands.Set route row prop literal) w reply new given = given_value (mapping_on w route) w new reply route row prop (literal_of literal) given
 given_same viewers (commands.Remove route place rows) w reply new given = given_unless _ w _ new _ reply given (changed_views w _)
 given_same viewers (commands.Size e) w reply new given = given_told (size_due (names_in w) viewers (query_of e)) (λ size. reply_bytes (Count size)) w new reply given
 given_same viewers (commands.Show e) w reply new given = given_told (rows_due (names_in w) viewers (query_of e)) lines_text w new reply given
 given_same viewers (commands.Find e start criteria) w reply new given =
     given_told (find_due (names_in w) viewers (query_of e) start criteria) (λ place. reply_bytes (place_reply place)) w new reply given
 given_same viewers (commands.Search e criteria) w reply new given =
-    given_told (search_due (names_in w) w.watches viewers (query_of e) criteria) (λ place. reply_bytes (Count place)) w new reply given
+    given_told (search_due (names_in w) w.watches w.mappings viewers (query_of e) criteria) (λ place. reply_bytes (Count place)) w new reply given
 given_same viewers (commands.Locate e criteria) w reply new given =
-    given_told (locate_due (names_in w) w.watches viewers (query_of e) criteria) (λ at. reply_bytes (located_reply at)) w new reply given
+    given_told (locate_due (names_in w) w.watches w.mappings viewers (query_of e) criteria) (λ at. reply_bytes (located_reply at)) w new reply given
 given_same viewers (commands.Dup name e) w reply new given = given_dup (answer (names_in w) viewers (query_of e)) w new reply name given
 given_same viewers (commands.Undup name) w reply new given = given_unless _ w _ new _ reply given (nothing_changed w)
 given_same viewers (commands.Cursor name target) w reply new given = given_set (standing_of w.store.views w.snapshots w.watches target) w new reply name target given
@@ -165,9 +191,9 @@ given_same viewers commands.Space w reply new given = given_left w _ new _ reply
 given_same viewers commands.Quit w reply new given = given_left w _ new _ reply given (nothing_changed w)
 given_same viewers (commands.Watch name e) w reply new given = given_unless _ w _ new _ reply given (nothing_changed w)
 given_same viewers (commands.Unwatch name) w reply new given = given_unless _ w _ new _ reply given (nothing_changed w)
-given_same viewers (commands.Hash name keys) w reply new given = given_left w _ new _ reply given (nothing_changed w)
-given_same viewers (commands.Ordered name keys) w reply new given = given_left w _ new _ reply given (nothing_changed w)
-given_same viewers (commands.Unmap name) w reply new given = given_left w _ new _ reply given (nothing_changed w)
+given_same viewers (commands.Hash name keys) w reply new given = given_unless _ w _ new _ reply given (nothing_changed w)
+given_same viewers (commands.Ordered name keys) w reply new given = given_unless _ w _ new _ reply given (nothing_changed w)
+given_same viewers (commands.Unmap name) w reply new given = given_unless _ w _ new _ reply given (nothing_changed w)
 
 pub answered_same : (viewers : List Meaning) (command : Command) (w : World) (reply : Reply) (new : World) → Answered viewers command w reply new → SameFile w.store new.store
 answered_same viewers command w reply new answered = elim answered.answers [

@@ -261,9 +261,6 @@ of_tokens tokens (commands.Search e criteria) h = whole_at max_operators (query_
 of_tokens tokens (commands.Locate e criteria) h = whole_at max_operators (query_of e) h.1.whole.0
 of_tokens tokens (commands.Dup name e) h = whole_at max_operators (query_of e) h.1.whole.1.0
 of_tokens tokens (commands.Watch name e) h = h.1.whole.1.0
-of_tokens tokens (commands.Hash name keys) h = absurd (false≢true h.0)
-of_tokens tokens (commands.Ordered name keys) h = absurd (false≢true h.0)
-of_tokens tokens (commands.Unmap name) h = absurd (false≢true h.0)
 of_tokens tokens command h = tt
 
 -- a structure text is shorter than its line by the word before it

@@ -1,5 +1,5 @@
 -- The watches of views once the views are others.
-use Rattle.std.proofs.Common.{◌≡◌, ℕ, Bool, true, false, cond, ◌||◌, suc, List, [], ◌∷◌, Option, Some, None, MatchOption, refl, ap, sym, subst, ◌∙◌, arith}
+use Rattle.std.proofs.Common.{◌≡◌, ℕ, true, false, cond, suc, List, [], ◌∷◌, Option, Some, None, MatchOption, refl, ap, sym, subst, ◌∙◌, arith}
 use Rattle.std.specs.Option.{option_map}
 use Rattle.std.specs.Prelude.{find}
 use Rattle.std.proofs.lemmas.Bool.{false≢true}
@@ -90,7 +90,7 @@ pub unwatched_line : (w : World) (views : List NamedTable) (name : List ℕ) (ev
 unwatched_line w views name events none = ap (λ watches. record (with_tables w views) { watches = watches }) (sym (raised_where_none w.watches name events none))
 
 -- another table of a view that nothing watches, and a view that goes
-other_with : (views : List NamedTable) (name : List ℕ) (t : StoredTable) (n : List ℕ) → same_bytes n name ≡ false → table_of (with_view views name t) n ≡ table_of views n
+pub other_with : (views : List NamedTable) (name : List ℕ) (t : StoredTable) (n : List ℕ) → same_bytes n name ≡ false → table_of (with_view views name t) n ≡ table_of views n
 other_with [] name t n h = cases (same_bytes name n)
     (λ e. absurd (other_name name n e h))
     (λ e. rw e refl)
@@ -102,7 +102,7 @@ other_with (v ∷ views) name t n h = cases (same_bytes v.name name)
     (λ f. rw f refl)
     (λ f. rw f (other_with views name t n h))))
 
-other_without : (views : List NamedTable) (name n : List ℕ) → same_bytes n name ≡ false → table_of (without_view views name) n ≡ table_of views n
+pub other_without : (views : List NamedTable) (name n : List ℕ) → same_bytes n name ≡ false → table_of (without_view views name) n ≡ table_of views n
 other_without [] name n h = refl
 other_without (v ∷ views) name n h = cases (same_bytes v.name name)
     (λ e. rw e (cases (same_bytes v.name n)
@@ -125,10 +125,6 @@ absent_unwatched views (k ∷ all) name h none = cases (same_bytes k.view name)
     (λ e. let first : IsKept views k = h 0 k (omega arith) in
     absurd (let f : ◌≡◌ {A = Option StoredTable} (Some first.table) None = sym first.there ∙ ap (λ n. table_of views n) (same_name k.view name e) ∙ none in cc))
     (λ e. rw e (absent_unwatched views all name (λ i d p. h (suc i) d (omega (arith, p))) none))
-
-pub neither : (a b : Bool) → a || b ≡ false → b ≡ false
-neither true b h = absurd (false≢true (sym h))
-neither false b h = h
 
 -- what a watch keeps
 pub keeps_positions : {R : Type 0} (w : World) (all : List Kept) (name : List ℕ) (r : Option R) (watching : R → Watching) (number : R → ℕ) → followed all ≡ w.watches → AreKept w.store.views all

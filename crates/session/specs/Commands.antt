@@ -17,8 +17,12 @@ use Rattle.cmd_text.specs.declared.reply.Reply.TheVariants.{Plain, Count, Quit, 
 use Rattle.expr_text.specs.Meanings.{query_of}
 use Rattle.expr_text.specs.Queries.{Query}
 use Rattle.following.specs.Watches.{rows_under, source_of, watches_of, with_watch, without_watch}
+use Rattle.followers.specs.Keyed.{home_of}
 use Rattle.live.specs.Laws.{shown}
 use Rattle.live.specs.Putting.{spelled}
+use Rattle.mappings.specs.Mapped.{MappedView, without_mapping}
+use Rattle.mappings.specs.declared.by.By.{By}
+use Rattle.mappings.specs.declared.by.By.TheVariants.{Hash, Order}
 use Rattle.mk_value.specs.declared.path.Step.{Step}
 use Rattle.mk_value.specs.Tables.{Table}
 use Rattle.questions.specs.Answers.{answer, rows_due, size_due}
@@ -37,7 +41,8 @@ use Rattle.struct_text.specs.Spelling.{spelling}
 use Rattle.view_store.specs.Edits.{Edit}
 use Rattle.view_store.specs.Views.{NamedTable, edited_views, without_view}
 use Rattle.viewers.specs.Meanings.{Meaning}
-use Rattle.session.specs.Naming.{drop_due, getas_due, max_cursors, max_snapshots, new_name_due, uncursor_due, undup_due, unwatch_due, view_under, watch_due, watched_op}
+use Rattle.session.specs.Keyed.{add_by_key_due, insert_by_key_due, mapping_on, put_by_key, put_line, row_for, set_line, size_by_key}
+use Rattle.session.specs.Naming.{drop_due, getas_due, map_due, max_cursors, max_snapshots, new_name_due, uncursor_due, undup_due, unmap_due, unwatch_due, view_under, watch_due, watched_op}
 use Rattle.session.specs.Questions.{located_reply, names_in, place_reply, refusal_of_question}
 use Rattle.session.specs.Refusals.{add_due, first_of, insert_due, remove_due, set_due, unless}
 use Rattle.session.specs.Structures.{structured, structures}
@@ -145,6 +150,39 @@ note_texts notes = map note_text (reverse notes)
 abbrev pub taken : Stored → Taken
 taken s = record { number = s.kept.number; end = s.kept.end; used = (space_of s.kept).used }
 
+-- `add`, `insert` and `set`: where the rows of the view are kept by key, the row that comes is put by its key, and another row of the same
+-- key goes
+abbrev pub add_in : Option MappedView → World → Route → List Datum → Outcome
+add_in None w route literals =
+    unless_due (add_due w.store.views route literals) w
+    (gives (reply_bytes (Count (size_named w.store.views route))) (with_line w (inserted w.store.views route (size_named w.store.views route) 1 literals) route.name 1))
+add_in (Some m) w route literals =
+    let row = row_for w.store.views route literals in
+    let e = put_by_key m w.store.views route (size_named w.store.views route) row in
+    unless_due (add_by_key_due m w.store.views route literals) w (gives (reply_bytes (Count (home_of e))) (put_line w route 1 row e))
+
+abbrev pub insert_in : Option MappedView → World → Route → ℕ → ℕ → List Datum → Outcome
+insert_in None w route place copies literals =
+    unless_due (insert_due w.store.views route place copies literals) w
+    (gives (reply_bytes (Count (size_named w.store.views route + copies))) (with_line w (inserted w.store.views route place copies literals) route.name (events_at route.steps copies)))
+insert_in (Some m) w route place copies literals =
+    let row = row_for w.store.views route literals in
+    let e = put_by_key m w.store.views route place row in
+    unless_due (insert_by_key_due m w.store.views route place copies literals) w
+    (gives (reply_bytes (Count (size_by_key copies e (size_named w.store.views route)))) (put_line w route copies row e))
+
+abbrev pub set_in : Option MappedView → World → Route → ℕ → List ℕ → Datum → Outcome
+set_in None w route row prop literal =
+    unless_due (set_due w.store.views route row prop literal) w
+    (gives (reply_bytes Plain) (with_line w (changed w.store.views route row prop literal) route.name 1))
+set_in (Some m) w route row prop literal =
+    unless_due (set_due w.store.views route row prop literal) w
+    (gives (reply_bytes Plain) (set_line m w route row prop (becomes literal (domain_named (schema_named w.store.views route) prop))))
+
+-- a mapping more, behind the others
+abbrev pub with_mapping : World → By → List ℕ → ℕ → World
+with_mapping w by view keys = record w { mappings = w.mappings ++ (record { view = view; by = by; keys = keys } ∷ []) }
+
 -- what comes of a command of a session that is not shut, where these viewers may be asked
 abbrev pub outcome_in : List Meaning → World → Command → Outcome
 outcome_in viewers w commands.Nothing = gives [] w
@@ -154,15 +192,9 @@ outcome_in viewers w (commands.Getas name schema) =
 outcome_in viewers w (commands.Drop name) = unless_due (drop_due w name) w (gives (reply_bytes Plain) (with_tables w (without_view w.store.views name)))
 outcome_in viewers w commands.Struct = gives (lines_text (structures w.store.views)) w
 -- the reply to `add` is the place of the row; the replies to `insert` and `remove` are the sizes after them
-outcome_in viewers w (commands.Add route literals) =
-    unless_due (add_due w.store.views route literals) w
-    (gives (reply_bytes (Count (size_named w.store.views route))) (with_line w (inserted w.store.views route (size_named w.store.views route) 1 literals) route.name 1))
-outcome_in viewers w (commands.Insert route place copies literals) =
-    unless_due (insert_due w.store.views route place copies literals) w
-    (gives (reply_bytes (Count (size_named w.store.views route + copies))) (with_line w (inserted w.store.views route place copies literals) route.name (events_at route.steps copies)))
-outcome_in viewers w (commands.Set route row prop literal) =
-    unless_due (set_due w.store.views route row prop (literal_of literal)) w
-    (gives (reply_bytes Plain) (with_line w (changed w.store.views route row prop (literal_of literal)) route.name 1))
+outcome_in viewers w (commands.Add route literals) = add_in (mapping_on w route) w route literals
+outcome_in viewers w (commands.Insert route place copies literals) = insert_in (mapping_on w route) w route place copies literals
+outcome_in viewers w (commands.Set route row prop literal) = set_in (mapping_on w route) w route row prop (literal_of literal)
 outcome_in viewers w (commands.Remove route place rows) =
     unless_due (remove_due w.store.views route place rows) w
     (gives (reply_bytes (Count (size_named w.store.views route - rows))) (with_line w (removed w.store.views route place rows) route.name (events_at route.steps rows)))
@@ -171,9 +203,9 @@ outcome_in viewers w (commands.Show e) = told (rows_due (names_in w) viewers (qu
 outcome_in viewers w (commands.Find e start criteria) =
     told (find_due (names_in w) viewers (query_of e) start criteria) w (λ place. gives (reply_bytes (place_reply place)) w)
 outcome_in viewers w (commands.Search e criteria) =
-    told (search_due (names_in w) w.watches viewers (query_of e) criteria) w (λ place. gives (reply_bytes (Count place)) w)
+    told (search_due (names_in w) w.watches w.mappings viewers (query_of e) criteria) w (λ place. gives (reply_bytes (Count place)) w)
 outcome_in viewers w (commands.Locate e criteria) =
-    told (locate_due (names_in w) w.watches viewers (query_of e) criteria) w (λ at. gives (reply_bytes (located_reply at)) w)
+    told (locate_due (names_in w) w.watches w.mappings viewers (query_of e) criteria) w (λ at. gives (reply_bytes (located_reply at)) w)
 -- the reply to `dup` is the number of rows
 outcome_in viewers w (commands.Dup name e) =
     told (answer (names_in w) viewers (query_of e)) w (λ t.
@@ -185,6 +217,10 @@ outcome_in viewers w (commands.Watch name e) =
     unless_due (watch_due w name (query_of e)) w (gives (reply_bytes (Count (watch_size w (query_of e)))) (put_over w name (query_of e)))
 outcome_in viewers w (commands.Unwatch name) =
     unless_due (unwatch_due w name) w (gives (reply_bytes Plain) (record w { watches = without_watch w.watches name }))
+outcome_in viewers w (commands.Hash name keys) = unless_due (map_due w Hash name keys) w (gives (reply_bytes Plain) (with_mapping w Hash name keys))
+outcome_in viewers w (commands.Ordered name keys) = unless_due (map_due w Order name keys) w (gives (reply_bytes Plain) (with_mapping w Order name keys))
+outcome_in viewers w (commands.Unmap name) =
+    unless_due (unmap_due w name) w (gives (reply_bytes Plain) (record w { mappings = without_mapping w.mappings name }))
 outcome_in viewers w (commands.Cursor name target) = set_on (standing_of w.store.views w.snapshots w.watches target) w name target
 outcome_in viewers w (commands.Uncursor name) =
     unless_due (uncursor_due w name) w (gives (reply_bytes Plain) (record w { cursors = without_cursor w.cursors name }))
@@ -201,8 +237,6 @@ outcome_in viewers w commands.Reopen = reopens
 outcome_in viewers w commands.Revert = unless_due (revert_due w.store) w reverts
 outcome_in viewers w commands.Space = gives (reply_bytes (Space (taken w.store))) w
 outcome_in viewers w commands.Quit = gives (reply_bytes Quit) w
--- no line reads as one of the others yet
-outcome_in viewers w _ = gives [] w
 
 -- what a session that is shut answers as any other does
 abbrev pub goes_when_shut : Command → Bool

@@ -5,6 +5,7 @@ pub mod Disk
 pub mod Fitting
 pub mod Following
 pub mod Going
+pub mod Keyed
 pub mod Lines
 pub mod Moments
 pub mod Naming

@@ -9,7 +9,7 @@ use Rattle.expr_text.specs.InLines.{IsOperation}
 use Rattle.expr_text.specs.Meanings.{query_of}
 use Rattle.cmd_text.specs.Lines.{is_space, without_leading, without_trailing}
 use Rattle.cmd_text.specs.declared.command.Command.{Command}
-use Rattle.cmd_text.specs.declared.command.Command.TheVariants.{Getas, Add, Insert, Set, Size, Show, Find, Search, Locate, Dup, Watch, Hash, Ordered, Unmap}
+use Rattle.cmd_text.specs.declared.command.Command.TheVariants.{Getas, Add, Insert, Set, Size, Show, Find, Search, Locate, Dup, Watch}
 use Rattle.lines.specs.Lines.{max_line}
 use Rattle.struct_text.specs.Spelling.{spelling}
 
@@ -22,7 +22,7 @@ abbrev pub is_quit : List ℕ → Bool
 is_quit line = is_utf8 line && bytes_eq (without_trailing (without_leading line)) (codes "quit")
 
 -- What the command of a line keeps: a structure is shorter than the line by the word before it, literals are proper values, and an expression
--- is one that a text may hold. Some commands no line reads as yet.
+-- is one that a text may hold.
 abbrev pub IsOfLine : Command → Type 0
 IsOfLine (Getas name schema) = length (spelling name schema) + 5 ≤ max_line
 IsOfLine (Add route literals) = All IsProper literals
@@ -35,7 +35,4 @@ IsOfLine (Search e criteria) = IsWhole (query_of e)
 IsOfLine (Locate e criteria) = IsWhole (query_of e)
 IsOfLine (Dup name e) = IsWhole (query_of e)
 IsOfLine (Watch name e) = IsOperation (query_of e)
-IsOfLine (Hash name keys) = ⊥
-IsOfLine (Ordered name keys) = ⊥
-IsOfLine (Unmap name) = ⊥
 IsOfLine _ = Unit {0}

@@ -1,12 +1,18 @@
--- Names beside those of views: the refusals of a command that makes or gives up a snapshot, a cursor or a watch, or a view that one may stand on.
+-- Names beside those of views: the refusals of a command that makes or gives up a snapshot, a cursor or a watch, or a view that one may stand on, and of
+-- one that maps a view.
 use Rattle.std.specs.Prelude.{ℕ, Bool, false, ◌&&◌, ◌||◌, not, nat_lt, List, [], ◌∷◌, length, Option, Some, None, Result, Ok, Err}
 use Rattle.std.specs.Option.{is_some, option_map, unwrap_or}
 use Rattle.cmd_text.specs.declared.refusal.Refusal.{Refusal}
-use Rattle.cmd_text.specs.declared.refusal.Refusal.TheVariants.{Memory, NoName, Exists, NoProp, Kind, Limit, InUse}
+use Rattle.cmd_text.specs.declared.refusal.Refusal.TheVariants.{Memory, NoName, Exists, Range, NoProp, Kind, Limit, InUse, Keys}
 use Rattle.following.specs.Refusals.{put_due}
 use Rattle.following.specs.Watches.{has_over, is_watch, is_watched, source_of}
 use Rattle.live.specs.declared.error.WatchError.{WatchError}
 use Rattle.live.specs.declared.error.WatchError.TheVariants as watching
+use Rattle.mappings.specs.Mapped.{MappedView, is_mapped}
+use Rattle.mappings.specs.Refusals.{put_due as put_mapping_due}
+use Rattle.mappings.specs.declared.by.By.{By}
+use Rattle.mappings.specs.declared.error.MappingError.{MappingError}
+use Rattle.mappings.specs.declared.error.MappingError.TheVariants as mapping
 use Rattle.mk_value.specs.Heading.{Attribute}
 use Rattle.mk_value.specs.Limits.{max_views}
 use Rattle.mk_value.specs.Names.{same_bytes}
@@ -49,11 +55,11 @@ would_change (Some t) name schema = not (same_bytes (spelling name t.schema) (sp
 abbrev pub room_due : List NamedTable → List ℕ → Option Refusal
 room_due root name = unless (is_some (table_of root name) || nat_lt (length root) max_views) Limit
 
--- a cursor or a watch stands on the view of the name
+-- a cursor or a watch stands on the view of the name, or it has a mapping
 abbrev pub is_view_used : World → List ℕ → Bool
-is_view_used w name = has_cursor_on w.cursors View name || is_watched w.watches name
+is_view_used w name = has_cursor_on w.cursors View name || (is_watched w.watches name || is_mapped w.mappings name)
 
--- a structure for the view of a name: neither cursor nor watch stands on a view whose structure would change
+-- a structure for the view of a name: no cursor, watch or mapping names a view whose structure would change
 abbrev pub declare_due : World → List ℕ → List Attribute → Option Refusal
 declare_due w name schema =
     first_of (room_due w.store.views name
@@ -64,7 +70,7 @@ declare_due w name schema =
 abbrev pub getas_due : World → List ℕ → List Attribute → Option Refusal
 getas_due w name schema = first_of (unless (not (is_beside_views w name)) Exists ∷ declare_due w name schema ∷ [])
 
--- `drop`: the view of a name, on which neither cursor nor watch stands
+-- `drop`: the view of a name, which no cursor, watch or mapping names
 abbrev pub drop_due : World → List ℕ → Option Refusal
 drop_due w name = first_of (unless (is_some (table_of w.store.views name)) NoName ∷ unless (not (is_view_used w name)) InUse ∷ [])
 
@@ -111,3 +117,25 @@ watch_due w name q =
 abbrev pub unwatch_due : World → List ℕ → Option Refusal
 unwatch_due w name =
     first_of (unless (is_watch w.watches name) NoName ∷ unless (not (has_over w.watches name || has_cursor_on w.cursors Watch name)) InUse ∷ [])
+
+-- how it is told that a view is not mapped
+abbrev pub refusal_of_mapping : MappingError → Refusal
+refusal_of_mapping mapping.Kind = Kind
+refusal_of_mapping (mapping.Range count) = Range count
+refusal_of_mapping mapping.Limit = Limit
+refusal_of_mapping (mapping.Keys row) = Keys row
+refusal_of_mapping mapping.InUse = InUse
+refusal_of_mapping mapping.Memory = Memory
+
+-- a table that is mapped, if it is there
+abbrev pub mapping_due : Option StoredTable → By → ℕ → List MappedView → List ℕ → Option Refusal
+mapping_due None by keys all name = Some NoName
+mapping_due (Some t) by keys all name = option_map refusal_of_mapping (put_mapping_due by keys t.schema t.rows all name)
+
+-- `hash` and `ordered`: the view of a name, and its first properties, so many, as the key of its rows
+abbrev pub map_due : World → By → List ℕ → ℕ → Option Refusal
+map_due w by name keys = mapping_due (table_of w.store.views name) by keys w.mappings name
+
+-- `unmap`: a view that has a mapping
+abbrev pub unmap_due : World → List ℕ → Option Refusal
+unmap_due w name = unless (is_mapped w.mappings name) NoName

@@ -1,6 +1,7 @@
 -- What a session holds.
 use Rattle.std.specs.Prelude.{ℕ, List, []}
 use Rattle.following.specs.Watches.{Followed, followed_by}
+use Rattle.mappings.specs.Mapped.{MappedView}
 use Rattle.questions.specs.Cursors.{Placed}
 use Rattle.questions.specs.Kept.{Kept}
 use Rattle.storage.specs.Stored.{Stored, with_views}
@@ -14,10 +15,12 @@ pub record World : Type 0 where
   pub cursors : List Placed
   -- the watches of the views that are edited
   pub watches : List Followed
+  -- the views whose rows are kept by key
+  pub mappings : List MappedView
 
--- a session that begins has neither snapshots, cursors nor watches
+-- a session that begins has neither snapshots, cursors, watches nor mappings
 abbrev pub world_over : Stored → World
-world_over store = record { store = store; snapshots = []; cursors = []; watches = [] }
+world_over store = record { store = store; snapshots = []; cursors = []; watches = []; mappings = [] }
 
 -- the world with another store
 abbrev pub with_store : World → Stored → World
@@ -31,6 +34,6 @@ with_tables w views = with_store w (with_views w.store views)
 abbrev pub with_line : World → List NamedTable → List ℕ → ℕ → World
 with_line w views view events = record w { store = with_views w.store views; watches = followed_by w.watches view events }
 
--- The world where the views became those of a commit: no cursor stands on any more, and no watch. Snapshots are kept.
+-- The world where the views became those of a commit: no cursor stands on any more, no watch and no mapping. Snapshots are kept.
 abbrev pub without_followers : World → World
-without_followers w = record w { cursors = []; watches = [] }
+without_followers w = record w { cursors = []; watches = []; mappings = [] }

@@ -4,12 +4,14 @@ ghost use Rattle.cmd_text.specs.declared.command.Command.TheVariants as commands
 ghost use Rattle.eval.specs.Parts.{IsWhole};
 ghost use Rattle.expr_text.specs.Meanings.{query_of};
 ghost use Rattle.following.specs.Keeping.{AreKept, followed};
+ghost use Rattle.mappings.specs.Keeping.{mapped};
 ghost use Rattle.session.specs.Answered.{Answered};
 
 use crate::{Session, replies};
 use cmd_text::Reply;
 use expr_text::{Crits, Expr};
 use following::Following;
+use mappings::Mappings;
 use questions::{Known, Scope, Snapshots};
 use storage::Store;
 use viewers::Viewer;
@@ -20,9 +22,16 @@ impl Session {
         ensures views { result.names.views ≡ self.now.store.views }
         ensures snapshots { result.names.snapshots ≡ self.now.snapshots }
         ensures watches { result.names.watches ≡ self.now.watches }
+        ensures mappings { result.names.mappings ≡ self.now.mappings }
         ensures viewers { result.viewers.now ≡ viewers.now }
     {
-        scope_of(&self.store, &self.snapshots, &self.watches, viewers)
+        scope_of(
+            &self.store,
+            &self.snapshots,
+            &self.watches,
+            &self.mappings,
+            viewers,
+        )
     }
 
     /// Answers how many rows an expression has.
@@ -96,35 +105,39 @@ impl Session {
     }
 }
 
-/// What the names of a question stand for: the views of a store, snapshots, and watches of those views.
+/// What the names of a question stand for: the views of a store, snapshots, and watches and mappings of those views.
 pub(crate) fn names_of<'a>(
     store: &'a Store,
     snapshots: &'a Snapshots,
     watches: &'a Following,
+    mappings: &'a Mappings,
 ) -> Known<'a>
     requires kept { AreKept store.now.views watches.now }
     ensures views { result.views ≡ store.now.views }
     ensures snapshots { result.snapshots ≡ snapshots.now }
     ensures watches { result.watches ≡ followed watches.now }
+    ensures mappings { result.mappings ≡ mapped mappings.now }
 {
-    Known::of(store.views(), snapshots.as_slice(), watches)
+    Known::of(store.views(), snapshots.as_slice(), watches, mappings)
 }
 
-/// What a question may use: the views of a store, snapshots, watches of those views, and viewers.
+/// What a question may use: the views of a store, snapshots, watches and mappings of those views, and viewers.
 pub(crate) fn scope_of<'a, V: Viewer>(
     store: &'a Store,
     snapshots: &'a Snapshots,
     watches: &'a Following,
+    mappings: &'a Mappings,
     viewers: &'a [V],
 ) -> Scope<'a, V>
     requires kept { AreKept store.now.views watches.now }
     ensures views { result.names.views ≡ store.now.views }
     ensures snapshots { result.names.snapshots ≡ snapshots.now }
     ensures watches { result.names.watches ≡ followed watches.now }
+    ensures mappings { result.names.mappings ≡ mapped mappings.now }
     ensures viewers { result.viewers.now ≡ viewers.now }
 {
     Scope {
-        names: names_of(store, snapshots, watches),
+        names: names_of(store, snapshots, watches, mappings),
         viewers,
     }
 }

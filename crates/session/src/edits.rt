@@ -1,4 +1,4 @@
-//! Edits of the rows of views.
+//! Edits of the rows of views, but those that are kept by key.
 ghost use Rattle.std.specs.Prelude.{◌≡◌, ◌+◌, ◌-◌, ◌≤◌, [], ◌∷◌, All, IfErr, IfOk, None, OnErr, OnOk, true};
 ghost use Rattle.std.specs.Result.{result_err};
 ghost use Rattle.mk_value.specs.Conversions.{IsProper, becomes};
@@ -13,6 +13,7 @@ ghost use Rattle.view_store.specs.Refusals.{due, schema_of};
 ghost use Rattle.view_store.specs.Views.{edited_views};
 ghost use Rattle.session.specs.Commands.{changed, events_at, inserted, removed};
 ghost use Rattle.session.specs.Fitting.{all_short, is_short};
+ghost use Rattle.session.specs.Keyed.{mapping_on};
 ghost use Rattle.session.specs.Refusals.{AnswersDue, add_due, by_rows, by_schema, copies_refusal, first_of, insert_due, literal_refusal, literals_refusal, max_copies, place_refusal, remove_due, row_refusal, rows_refusal, set_due, unless};
 ghost use Rattle.session.specs.Values.{domain_named, schema_named, size_named, values_for};
 ghost use Rattle.session.specs.World.{with_line};
@@ -29,7 +30,8 @@ pub const MAX_COPIES: u64 = 65_536;
 impl Session {
     /// Puts a row of literals behind the last of a view, and gives its place.
     pub(crate) fn add(&mut self, path: &Path, literals: &Literals) -> Result<u64, Refusal>
-        requires { All IsProper literals.now }
+        requires proper { All IsProper literals.now }
+        requires apart { mapping_on self.old path.now ≡ None }
         ensures due { AnswersDue (add_due self.old.store.views path.now literals.now) result }
         ensures place { IfOk result (λ place. place ≡ size_named self.old.store.views path.now) }
         ensures ok { OnOk result (self.new ≡ with_line self.old (inserted self.old.store.views path.now (size_named self.old.store.views path.now) 1 literals.now) path.now.name 1) }
@@ -49,7 +51,8 @@ impl Session {
         copies: u64,
         literals: &Literals,
     ) -> Result<u64, Refusal>
-        requires { All IsProper literals.now }
+        requires proper { All IsProper literals.now }
+        requires apart { mapping_on self.old path.now ≡ None }
         ensures due { AnswersDue (insert_due self.old.store.views path.now place copies literals.now) result }
         ensures size { IfOk result (λ size. size ≡ size_named self.old.store.views path.now + copies) }
         ensures ok { OnOk result (self.new ≡ with_line self.old (inserted self.old.store.views path.now place copies literals.now) path.now.name (events_at path.now.steps copies)) }
@@ -69,7 +72,8 @@ impl Session {
         prop: &Name,
         literal: &Literal,
     ) -> Result<(), Refusal>
-        requires { IsProper (literal_of literal.now) }
+        requires proper { IsProper (literal_of literal.now) }
+        requires apart { mapping_on self.old path.now ≡ None }
         ensures due { AnswersDue (set_due self.old.store.views path.now row prop.now (literal_of literal.now)) result }
         ensures ok { OnOk result (self.new ≡ with_line self.old (changed self.old.store.views path.now row prop.now (literal_of literal.now)) path.now.name 1) }
         ensures err { OnErr result (self.new ≡ self.old) }
@@ -108,6 +112,7 @@ impl Session {
         requires there { by_rows self.old.store.views path.now ≡ None }
         requires size { size ≡ size_named self.old.store.views path.now }
         requires place { place ≤ size }
+        requires apart { mapping_on self.old path.now ≡ None }
         ensures due { AnswersDue (first_of (copies_refusal size copies ∷ unless (all_short literals.now) Refusal.Limit ∷ [])) result }
         ensures size { IfOk result (λ after. after ≡ size + copies) }
         ensures ok { OnOk result (self.new ≡ with_line self.old (inserted self.old.store.views path.now place copies literals.now) path.now.name (events_at path.now.steps copies)) }
@@ -120,7 +125,7 @@ impl Session {
     }
 
     /// Answers the refusal of a row of literals that the names of the path and the schema of its view give alone.
-    fn check_row_of(&self, path: &Path, literals: &Literals) -> Result<(), Refusal>
+    pub(crate) fn check_row_of(&self, path: &Path, literals: &Literals) -> Result<(), Refusal>
         ensures { result_err result ≡ by_schema (schema_of self.now.store.views path.now) (λ schema. literals_refusal literals.now schema) }
     {
         match self.store.views().schema(path) {
@@ -130,7 +135,12 @@ impl Session {
     }
 
     /// Answers the refusal of a literal for a property that the names of the path and the schema of its view give alone.
-    fn check_value_of(&self, path: &Path, prop: &Name, literal: &Literal) -> Result<(), Refusal>
+    pub(crate) fn check_value_of(
+        &self,
+        path: &Path,
+        prop: &Name,
+        literal: &Literal,
+    ) -> Result<(), Refusal>
         ensures { result_err result ≡ by_schema (schema_of self.now.store.views path.now) (λ schema. literal_refusal (literal_of literal.now) schema (find schema prop.now)) }
     {
         match self.store.views().schema(path) {
@@ -140,7 +150,7 @@ impl Session {
     }
 
     /// The row of literals that fit the view of a path.
-    fn row_of(&self, path: &Path, literals: &Literals) -> Result<Row, Refusal>
+    pub(crate) fn row_of(&self, path: &Path, literals: &Literals) -> Result<Row, Refusal>
         requires proper { All IsProper literals.now }
         requires fit { by_schema (schema_of self.now.store.views path.now) (λ schema. literals_refusal literals.now schema) ≡ None }
         ensures due { AnswersDue (unless (all_short literals.now) Refusal.Limit) result }
@@ -154,7 +164,12 @@ impl Session {
     }
 
     /// The value of a literal that fits a property of the view of a path.
-    fn value_of(&self, path: &Path, prop: &Name, literal: &Literal) -> Result<Value, Refusal>
+    pub(crate) fn value_of(
+        &self,
+        path: &Path,
+        prop: &Name,
+        literal: &Literal,
+    ) -> Result<Value, Refusal>
         requires proper { IsProper (literal_of literal.now) }
         requires fit { by_schema (schema_of self.now.store.views path.now) (λ schema. literal_refusal (literal_of literal.now) schema (find schema prop.now)) ≡ None }
         ensures due { AnswersDue (unless (is_short (literal_of literal.now)) Refusal.Limit) result }
@@ -169,7 +184,7 @@ impl Session {
 }
 
 /// Answers the refusal of a place before, or behind the last of, so many rows.
-fn check_place(size: u64, place: u64) -> Result<(), Refusal>
+pub(crate) fn check_place(size: u64, place: u64) -> Result<(), Refusal>
     ensures { result_err result ≡ place_refusal size place }
 {
     if place > size {
@@ -179,7 +194,7 @@ fn check_place(size: u64, place: u64) -> Result<(), Refusal>
 }
 
 /// Answers the refusal of one of so many rows.
-fn check_row(size: u64, row: u64) -> Result<(), Refusal>
+pub(crate) fn check_row(size: u64, row: u64) -> Result<(), Refusal>
     ensures { result_err result ≡ row_refusal size row }
 {
     if row >= size {

@@ -1,4 +1,4 @@
-//! Edits of views that may be watched. The watches of a view follow each line on it.
+//! Edits of views that may be watched. The watches of a view follow each line on it. The lines of views whose rows are kept by key are apart.
 ghost use Rattle.std.specs.Prelude.{◌≡◌, ◌≤◌, false, IfErr, IfOk, IsSome, None, OnErr, OnOk, Some};
 ghost use Rattle.following.specs.Watches.{is_watched};
 ghost use Rattle.mk_value.specs.Limits.{max_rows};
@@ -10,6 +10,7 @@ ghost use Rattle.view_store.specs.Rests.{ViewsRestOn};
 ghost use Rattle.view_store.specs.Views.{edited_views, table_of};
 ghost use Rattle.session.specs.Commands.{events_at};
 ghost use Rattle.session.specs.Following.{IsLineOn, edit_at as edit_where, home_at as home_where};
+ghost use Rattle.session.specs.Keyed.{KeepKeys, mapping_on};
 ghost use Rattle.session.specs.World.{with_line, with_tables};
 
 use crate::Session;
@@ -32,6 +33,7 @@ impl Session {
     ) -> Result<(), Refusal>
         requires few { copies ≤ max_rows }
         requires due { due self.old.store.views path.now (Edit.insert place row.now copies) ≡ None }
+        requires apart { mapping_on self.old path.now ≡ None }
         ensures memory { IfErr result (λ e. e ≡ Refusal.Memory) }
         ensures ok { OnOk result (self.new ≡ with_line self.old (edited_views self.old.store.views path.now (Edit.insert place row.now copies)) path.now.name (events_at path.now.steps copies)) }
         ensures err { OnErr result (self.new ≡ self.old) }
@@ -58,6 +60,7 @@ impl Session {
         requires few { copies ≤ max_rows }
         requires due { due self.old.store.views path.now (Edit.insert place row.now copies) ≡ None }
         requires unwatched { is_watched self.old.watches path.now.name ≡ false }
+        requires apart { mapping_on self.old path.now ≡ None }
         ensures memory { IfErr result (λ e. e ≡ Refusal.Memory) }
         ensures ok { OnOk result (self.new ≡ with_tables self.old (edited_views self.old.store.views path.now (Edit.insert place row.now copies))) }
         ensures err { OnErr result (self.new ≡ self.old) }
@@ -96,7 +99,8 @@ impl Session {
         prop: &Name,
         value: &Value,
     ) -> Result<(), Refusal>
-        requires { due self.old.store.views path.now (Edit.set row prop.now (datum_of value.now)) ≡ None }
+        requires due { due self.old.store.views path.now (Edit.set row prop.now (datum_of value.now)) ≡ None }
+        requires apart { mapping_on self.old path.now ≡ None }
         ensures memory { IfErr result (λ e. e ≡ Refusal.Memory) }
         ensures ok { OnOk result (self.new ≡ with_line self.old (edited_views self.old.store.views path.now (Edit.set row prop.now (datum_of value.now))) path.now.name 1) }
         ensures err { OnErr result (self.new ≡ self.old) }
@@ -118,6 +122,7 @@ impl Session {
     ) -> Result<(), Refusal>
         requires due { due self.old.store.views path.now (Edit.set row prop.now (datum_of value.now)) ≡ None }
         requires unwatched { is_watched self.old.watches path.now.name ≡ false }
+        requires apart { mapping_on self.old path.now ≡ None }
         ensures memory { IfErr result (λ e. e ≡ Refusal.Memory) }
         ensures ok { OnOk result (self.new ≡ with_tables self.old (edited_views self.old.store.views path.now (Edit.set row prop.now (datum_of value.now)))) }
         ensures err { OnErr result (self.new ≡ self.old) }
@@ -126,7 +131,7 @@ impl Session {
     }
 
     /// The views once more, with another value of a property of a row. They share what the edit leaves.
-    fn views_with_value(
+    pub(crate) fn views_with_value(
         &self,
         path: &Path,
         row: usize,
@@ -155,6 +160,20 @@ impl Session {
         ensures ok { OnOk result (self.new ≡ with_line self.old (edited_views self.old.store.views path.now (Edit.remove place rows)) path.now.name (events_at path.now.steps rows)) }
         ensures err { OnErr result (self.new ≡ self.old) }
     {
+        match self.mapping_on(path) {
+            Some(_) => self.remove_by_key(path, place, rows),
+            None => self.remove_unkeyed(path, place, rows),
+        }
+    }
+
+    /// Removes rows that no mapping keeps by key, where no refusal is due.
+    fn remove_unkeyed(&mut self, path: &Path, place: usize, rows: usize) -> Result<(), Refusal>
+        requires due { due self.old.store.views path.now (Edit.remove place rows) ≡ None }
+        requires apart { mapping_on self.old path.now ≡ None }
+        ensures memory { IfErr result (λ e. e ≡ Refusal.Memory) }
+        ensures ok { OnOk result (self.new ≡ with_line self.old (edited_views self.old.store.views path.now (Edit.remove place rows)) path.now.name (events_at path.now.steps rows)) }
+        ensures err { OnErr result (self.new ≡ self.old) }
+    {
         if !self.watches.is_watched(path.name()) {
             return self.remove_in_place(path, place, rows);
         }
@@ -170,6 +189,7 @@ impl Session {
     fn remove_in_place(&mut self, path: &Path, place: usize, rows: usize) -> Result<(), Refusal>
         requires due { due self.old.store.views path.now (Edit.remove place rows) ≡ None }
         requires unwatched { is_watched self.old.watches path.now.name ≡ false }
+        requires apart { mapping_on self.old path.now ≡ None }
         ensures memory { IfErr result (λ e. e ≡ Refusal.Memory) }
         ensures ok { OnOk result (self.new ≡ with_tables self.old (edited_views self.old.store.views path.now (Edit.remove place rows))) }
         ensures err { OnErr result (self.new ≡ self.old) }
@@ -178,7 +198,12 @@ impl Session {
     }
 
     /// The views once more, without rows. They share what the edit leaves.
-    fn views_without_rows(&self, path: &Path, place: usize, rows: usize) -> Result<Root, Refusal>
+    pub(crate) fn views_without_rows(
+        &self,
+        path: &Path,
+        place: usize,
+        rows: usize,
+    ) -> Result<Root, Refusal>
         requires { due self.now.store.views path.now (Edit.remove place rows) ≡ None }
         ensures memory { IfErr result (λ e. e ≡ Refusal.Memory) }
         ensures ok { IfOk result (λ views. views ≡ edited_views self.now.store.views path.now (Edit.remove place rows)) }
@@ -207,6 +232,7 @@ impl Session {
         home: usize,
     ) -> Result<(), Refusal>
         requires rests { ViewsRestOn views self.old.store.views }
+        requires keys { KeepKeys self.old.mappings self.old.store.views views }
         requires line { IsLineOn path.now.name (edit_where path.now.steps edit) (home_where path.now.steps home) self.old.store.views views }
         ensures memory { IfErr result (λ e. e ≡ Refusal.Memory) }
         ensures ok { OnOk result (self.new ≡ with_line self.old views path.now.name (count_of (edit_where path.now.steps edit))) }
@@ -232,7 +258,7 @@ impl Session {
 }
 
 /// The table of a view that is there, shared.
-fn shared_view(views: &Root, name: &Name) -> Result<Shared, Refusal>
+pub(crate) fn shared_view(views: &Root, name: &Name) -> Result<Shared, Refusal>
     requires { IsSome (table_of views.now name.now) }
     ensures memory { IfErr result (λ e. e ≡ Refusal.Memory) }
     ensures ok { IfOk result (λ table. table_of views.now name.now ≡ Some table) }
@@ -241,7 +267,7 @@ fn shared_view(views: &Root, name: &Name) -> Result<Shared, Refusal>
 }
 
 /// The table of a view that is there.
-fn view<'a>(views: &'a Root, name: &Name) -> &'a Shared
+pub(crate) fn view<'a>(views: &'a Root, name: &Name) -> &'a Shared
     requires { IsSome (table_of views.now name.now) }
     ensures { table_of views.now name.now ≡ Some result.now }
 {

@@ -60,9 +60,15 @@ impl Session {
         requires { IsWhole (query_of expr.now) }
         ensures { Answered (map V.meaning viewers.now) (commands.Dup name.now expr.now) self.old result self.new }
     {
-        let table = match scope_of(&self.store, &self.snapshots, &self.watches, viewers).table(
-            self.alloc, expr,
-        ) {
+        let table = match scope_of(
+            &self.store,
+            &self.snapshots,
+            &self.watches,
+            &self.mappings,
+            viewers,
+        )
+        .table(self.alloc, expr)
+        {
             Ok(table) => table,
             Err(error) => return replies::unanswered(error),
         };
@@ -111,8 +117,12 @@ impl Session {
     pub(crate) fn set_cursor(&mut self, name: &Name, target: &Name) -> Reply
         ensures { (viewers : List Meaning) → Answered viewers (commands.Cursor name.now target.now) self.old result self.new }
     {
-        let Some(standing) = names_of(&self.store, &self.snapshots, &self.watches).standing(target)
-        else {
+        let Some(standing) = names_of(
+            &self.store,
+            &self.snapshots,
+            &self.watches,
+            &self.mappings,
+        ).standing(target) else {
             return replies::refused(Refusal::NoName);
         };
         if let Err(refusal) = self.check_new_name(name, self.cursors.len(), MAX_CURSORS) {
@@ -159,7 +169,10 @@ impl Session {
     pub(crate) fn next(&mut self, name: &Name) -> Reply
         ensures { (viewers : List Meaning) → Answered viewers (commands.Next name.now) self.old result self.new }
     {
-        match names_of(&self.store, &self.snapshots, &self.watches).next(&mut self.cursors, name) {
+        match names_of(&self.store, &self.snapshots, &self.watches, &self.mappings).next(
+            &mut self.cursors,
+            name,
+        ) {
             Ok(position) => replies::counted(position),
             Err(error) => replies::unanswered(error),
         }
@@ -169,7 +182,7 @@ impl Session {
     pub(crate) fn previous(&mut self, name: &Name) -> Reply
         ensures { (viewers : List Meaning) → Answered viewers (commands.Prev name.now) self.old result self.new }
     {
-        match names_of(&self.store, &self.snapshots, &self.watches).previous(
+        match names_of(&self.store, &self.snapshots, &self.watches, &self.mappings).previous(
             &mut self.cursors,
             name,
         ) {
@@ -182,7 +195,7 @@ impl Session {
     pub(crate) fn row(&self, name: &Name) -> Reply
         ensures { (viewers : List Meaning) → Answered viewers (commands.Row name.now) self.now result self.now }
     {
-        let names = names_of(&self.store, &self.snapshots, &self.watches);
+        let names = names_of(&self.store, &self.snapshots, &self.watches, &self.mappings);
         match names.row(self.alloc, self.cursors.as_slice(), name) {
             Ok(text) => Reply::Row(text),
             Err(error) => replies::unanswered(error),

@@ -1,11 +1,12 @@
 //! How what the layers below refuse is told.
 ghost use Rattle.std.specs.Prelude.{◌≡◌};
-ghost use Rattle.session.specs.Naming.{refusal_of_watch, told_of_put};
+ghost use Rattle.session.specs.Naming.{refusal_of_mapping, refusal_of_watch, told_of_put};
 ghost use Rattle.session.specs.Questions.{refusal_of_question};
 ghost use Rattle.session.specs.Refusals.{refusal_of_edit, refusal_of_opening, refusal_of_plan, refusal_of_reading, refusal_of_revert};
 
 use cmd_text::{CmdError, Refusal};
 use live::WatchError;
+use mappings::MappingError;
 use mk_value::Memory;
 use questions::QuestionError;
 use recovery::OpenError;
@@ -74,6 +75,20 @@ pub fn of_put(answer: Result<u64, WatchError>) -> Result<u64, Refusal>
     match answer {
         Ok(size) => Ok(size),
         Err(error) => Err(of_watch(error)),
+    }
+}
+
+/// How it is told that a view is not mapped.
+pub fn of_mapping(error: MappingError) -> Refusal
+    ensures { result ≡ refusal_of_mapping error }
+{
+    match error {
+        MappingError::Kind => Refusal::Kind,
+        MappingError::Range(count) => Refusal::Range(count),
+        MappingError::Limit => Refusal::Limit,
+        MappingError::Keys(row) => Refusal::Keys(row),
+        MappingError::InUse => Refusal::InUse,
+        MappingError::Memory => Refusal::Memory,
     }
 }
 

@@ -28,6 +28,7 @@ use cmd_text::{Command, Refusal, Reply, Space, read_command};
 use following::Following;
 use host_io::Host;
 use lines::Flow;
+use mappings::{By, Mappings};
 use mk_value::{Memory, Text};
 use questions::{Cursors, Snapshots};
 use std::alloc::Global;
@@ -35,14 +36,15 @@ use std::marker::Model;
 use storage::Store;
 use viewers::Viewer;
 
-/// A session: a store, whose views its lines edit and whose commits they make, the snapshots and cursors beside its views, and the
-/// watches of its views, which keep the positions of their rows.
+/// A session: a store, whose views its lines edit and whose commits they make, the snapshots and cursors beside its views, the
+/// watches of its views, which keep the positions of their rows, and the views whose rows are kept by key.
 #[derive(Drop)]
 pub struct Session {
     pub(crate) store: Store,
     pub(crate) snapshots: Snapshots,
     pub(crate) cursors: Cursors,
     pub(crate) watches: Following,
+    pub(crate) mappings: Mappings,
     pub(crate) alloc: Global,
 }
 
@@ -55,6 +57,7 @@ pub struct Viewers<'a, V: Viewer> {
 impl Model for Session {
     ghost use Rattle.std.specs.Coded.{codes};
     ghost use Rattle.following.specs.Keeping.{AreKept, followed};
+    ghost use Rattle.mappings.specs.Keeping.{AreKept as AreMapped, mapped};
     ghost use Rattle.questions.specs.Cursors.{placed_code};
     ghost use Rattle.questions.specs.Kept.{kept_code};
     ghost use Rattle.relations.specs.Criteria.{interval_code};
@@ -65,13 +68,13 @@ impl Model for Session {
 
     ghost coded = { Prim.hlevel (codes, stored_code, kept_code, placed_code, interval_code) };
 
-    ghost view = { λ s. record { store = s.store; snapshots = s.snapshots; cursors = s.cursors; watches = followed s.watches } };
+    ghost view = { λ s. record { store = s.store; snapshots = s.snapshots; cursors = s.cursors; watches = followed s.watches; mappings = mapped s.mappings } };
 
-    ghost invariant = { λ s. AreKept s.store.views s.watches };
+    ghost invariant = { λ s. AreKept s.store.views s.watches × AreMapped s.store.views s.mappings };
 }
 
 impl Session {
-    /// A session over a store, with neither snapshots, cursors nor watches.
+    /// A session over a store, with neither snapshots, cursors, watches nor mappings.
     pub fn over(alloc: Global, store: Store) -> Session
         ensures { result ≡ world_over store }
     {
@@ -80,6 +83,7 @@ impl Session {
             snapshots: Snapshots::new(alloc),
             cursors: Cursors::new(alloc),
             watches: Following::new(alloc),
+            mappings: Mappings::new(alloc),
             alloc,
         }
     }
@@ -144,13 +148,11 @@ impl Session {
             Command::Getas(name, schema) => replies::text(self.getas(name, schema)),
             Command::Drop(name) => replies::done(self.drop_view(name)),
             Command::Struct => replies::lines(self.structures()),
-            Command::Add(path, literals) => replies::count(self.add(path, literals)),
+            Command::Add(path, literals) => self.answer_add(path, literals),
             Command::Insert(path, place, copies, literals) => {
-                replies::count(self.insert(path, *place, *copies, literals))
+                self.answer_insert(path, *place, *copies, literals)
             }
-            Command::Set(path, row, prop, literal) => {
-                replies::done(self.set(path, *row, prop, literal))
-            }
+            Command::Set(path, row, prop, literal) => { self.answer_set(path, *row, prop, literal) }
             Command::Remove(path, place, rows) => replies::count(self.remove(path, *place, *rows)),
             Command::Size(expr) => self.size(viewers, expr),
             Command::Show(expr) => self.rows(viewers, expr),
@@ -161,6 +163,9 @@ impl Session {
             Command::Undup(name) => replies::done(self.give_up(name)),
             Command::Watch(name, expr) => replies::count(self.watch(name, expr)),
             Command::Unwatch(name) => replies::done(self.unwatch(name)),
+            Command::Hash(name, keys) => replies::done(self.map(By::Hash, name, *keys)),
+            Command::Ordered(name, keys) => replies::done(self.map(By::Order, name, *keys)),
+            Command::Unmap(name) => replies::done(self.unmap(name)),
             Command::Cursor(name, target) => self.set_cursor(name, target),
             Command::Uncursor(name) => replies::done(self.remove_cursor(name)),
             Command::Next(name) => self.next(name),
@@ -171,7 +176,6 @@ impl Session {
             Command::Space => replies::taken(self.taken()),
             Command::Quit => Reply::Quit,
             Command::Commit(_) | Command::Reopen | Command::Revert => unreachable!(),
-            Command::Hash(..) | Command::Ordered(..) | Command::Unmap(_) => unreachable!(),
         }
     }
 
@@ -182,6 +186,7 @@ impl Session {
         self.store.rollback();
         self.cursors.clear();
         self.watches.clear();
+        self.mappings.clear();
         replies::rolled_back(self.store.number())
     }
 

@@ -51,7 +51,7 @@ impl Session {
         }
     }
 
-    /// Opens the file anew. Where the session is shut, what was pending is settled first. No cursor and no watch stands on any more.
+    /// Opens the file anew. Where the session is shut, what was pending is settled first. No cursor, watch or mapping stands on any more.
     pub(crate) fn reopen<H: Host>(&mut self, host: &mut H) -> Reply
         requires ready { H.tells → IsSteady (state_of self.old (H.outside host.old)) }
         ensures carried { (viewers : List Meaning) → Carried H.tells viewers commands.Reopen (state_of self.old (H.outside host.old)) (reply_bytes result) (state_of self.new (H.outside host.new)) }
@@ -66,10 +66,11 @@ impl Session {
         };
         self.cursors.clear();
         self.watches.clear();
+        self.mappings.clear();
         replies::reopened(number)
     }
 
-    /// Brings the views of the commit before back. No cursor and no watch stands on any more.
+    /// Brings the views of the commit before back. No cursor, watch or mapping stands on any more.
     pub(crate) fn revert<H: Host>(&mut self, host: &mut H) -> Reply
         requires open { is_shut self.old.store ≡ false }
         requires ready { H.tells → IsSteady (state_of self.old (H.outside host.old)) }
@@ -88,6 +89,7 @@ impl Session {
         };
         self.cursors.clear();
         self.watches.clear();
+        self.mappings.clear();
         replies::reverted(number)
     }
 }

@@ -1,6 +1,7 @@
 //! Giving views structures, and dropping views.
 ghost use Rattle.std.specs.Prelude.{◌≡◌, ◌⊎◌, ◌<◌, ◌≤◌, [], false, length, IfErr, IfOk, IsSome, None, OnErr, OnOk};
 ghost use Rattle.following.specs.Watches.{is_watched};
+ghost use Rattle.mappings.specs.Mapped.{is_mapped};
 ghost use Rattle.restructure.specs.Restructuring.{restructured};
 ghost use Rattle.struct_text.specs.Spelling.{spelling};
 ghost use Rattle.mk_value.specs.Limits.{max_structure, max_views};
@@ -51,7 +52,7 @@ impl Session {
     ///
     /// # Errors
     ///
-    /// `Limit` where there are as many views as there may be, and none of the name; `InUse` where a cursor or a watch stands on the view, and its
+    /// `Limit` where there are as many views as there may be, and none of the name; `InUse` where a cursor, a watch or a mapping names the view, and its
     /// structure would change. `Memory`.
     fn declare(&mut self, name: &Name, schema: &Schema) -> Result<(), Refusal>
         requires { structure_length name.now schema.now ≤ max_structure }
@@ -74,12 +75,13 @@ impl Session {
         self.put_view(name, table)
     }
 
-    /// Whether a cursor or a watch stands on the view of a name.
+    /// Whether a cursor or a watch stands on the view of a name, or it has a mapping.
     fn is_view_used(&self, name: &Name) -> bool
         ensures { result ≡ is_used self.now name.now }
     {
         has_cursor_on(self.cursors.as_slice(), Standing::View, name)
             || self.watches.is_watched(name)
+            || self.mappings.is_mapped(name)
     }
 
     /// Adds a view without rows last.
@@ -97,12 +99,13 @@ impl Session {
         self.put_view(name, table)
     }
 
-    /// Replaces the view of a name, which nothing watches, in place, or adds it last.
+    /// Replaces the view of a name, which nothing watches or maps, in place, or adds it last.
     fn put_view(&mut self, name: &Name, table: Table) -> Result<(), Refusal>
         requires room { IsSome (table_of self.old.store.views name.now) ⊎ (length self.old.store.views < max_views) }
         requires short { structure_length name.now table.schema ≤ max_structure }
         requires rests { MayReplace table (table_of self.old.store.views name.now) }
         requires unwatched { is_watched self.old.watches name.now ≡ false }
+        requires unmapped { is_mapped self.old.mappings name.now ≡ false }
         ensures memory { IfErr result (λ e. e ≡ Refusal.Memory) }
         ensures ok { OnOk result (self.new ≡ with_tables self.old (with_view self.old.store.views name.now table)) }
         ensures err { OnErr result (self.new ≡ self.old) }
@@ -114,7 +117,7 @@ impl Session {
     ///
     /// # Errors
     ///
-    /// `NoName` where there is none; `InUse` where a cursor or a watch stands on it.
+    /// `NoName` where there is none; `InUse` where a cursor, a watch or a mapping names it.
     pub(crate) fn drop_view(&mut self, name: &Name) -> Result<(), Refusal>
         ensures due { AnswersDue (drop_due self.old name.now) result }
         ensures ok { OnOk result (self.new ≡ with_tables self.old (without_view self.old.store.views name.now)) }

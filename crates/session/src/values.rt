@@ -2,11 +2,12 @@
 ghost use Rattle.std.specs.Prelude.{◌≡◌, ◌≤◌, [], ◌∷◌, ◌++◌, length, All, IfErr, IfOk, None, OnOk, true};
 ghost use Rattle.std.specs.Result.{result_err};
 ghost use Rattle.mk_value.specs.Conversions.{IsProper, becomes};
-ghost use Rattle.mk_value.specs.Data.{IsOf};
+ghost use Rattle.mk_value.specs.Data.{IsOf, IsRowOf};
 ghost use Rattle.mk_value.specs.Heading.{find};
 ghost use Rattle.mk_value.specs.Kinds.{domain_of};
 ghost use Rattle.mk_value.specs.LiteralValues.{literal_of};
 ghost use Rattle.mk_value.specs.Values.{datum_of};
+ghost use Rattle.tables.specs.Rows.{completed};
 ghost use Rattle.view_store.specs.Fitting.{are_of};
 ghost use Rattle.session.specs.Fitting.{all_fit, all_short, fits, is_short};
 ghost use Rattle.session.specs.Refusals.{AnswersDue, literal_refusal, literals_refusal, unless};
@@ -15,7 +16,7 @@ ghost use Rattle.session.specs.Values.{domain_named, values_for};
 use crate::refusals::of_memory;
 use cmd_text::Refusal;
 use mk_value::{
-    FitError, Kind, Literal, Literals, Name, Row, Schema, Value, literal_fits, to_value,
+    FitError, Kind, Literal, Literals, Name, Row, Schema, Value, default_of, literal_fits, to_value,
 };
 use std::alloc::Global;
 
@@ -84,6 +85,37 @@ pub fn make_row(alloc: Global, literals: &Literals, schema: &Schema) -> Result<R
         append(&mut row, value)?;
     }
     Ok(row)
+}
+
+/// The row of the values that literals become, with defaults behind them.
+///
+/// # Errors
+///
+/// As of `make_row`.
+pub fn make_whole_row(alloc: Global, literals: &Literals, schema: &Schema) -> Result<Row, Refusal>
+    requires few { length literals.now ≤ length schema.now }
+    requires fit { all_fit literals.now schema.now ≡ true }
+    requires proper { All IsProper literals.now }
+    ensures value { IfOk result (λ row. row ≡ completed schema.now (values_for schema.now literals.now)) }
+    ensures whole { IfOk result (λ row. IsRowOf row schema.now) }
+    ensures due { AnswersDue (unless (all_short literals.now) Refusal.Limit) result }
+{
+    let mut row = make_row(alloc, literals, schema)?;
+    complete(alloc, &mut row, schema)?;
+    Ok(row)
+}
+
+/// Appends the defaults of the properties that a row has no values for.
+fn complete(alloc: Global, row: &mut Row, schema: &Schema) -> Result<(), Refusal>
+    ensures ok { OnOk result (row.new ≡ completed schema.now row.old) }
+    ensures memory { IfErr result (λ e. e ≡ Refusal.Memory) }
+{
+    let props = schema.as_slice();
+    for at in row.len()..props.len() {
+        let prop = &props[at];
+        append(row, default_of(alloc, &prop.kind))?;
+    }
+    Ok(())
 }
 
 /// Appends a value to a row.

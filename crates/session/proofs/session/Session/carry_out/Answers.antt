@@ -36,3 +36,18 @@ returns-in-Watch g c =
     subst (λ (x : Command). Answered viewers x c.args.self.now c.count-in-Watch.result c.watch.new.self) (sym c.in-Watch.is)
     (watch_answered viewers c.args.self.now c.watch.new.self c.in-Watch.name c.in-Watch.expr c.watch.result c.count-in-Watch.result c.watch.ensures.due c.watch.ensures.size c.watch.ensures.ok c.watch.ensures.err
     c.count-in-Watch.ensures.value c.count-in-Watch.ensures.short)
+
+pub returns-in-Add : goal.returns-in-Add
+returns-in-Add g c =
+    let viewers = map g.V.Viewer.meaning c.args.viewers.now in
+    subst (λ (x : Command). Answered viewers x c.args.self.now c.answer_add.result c.answer_add.new.self) (sym c.in-Add.is) (c.answer_add.ensures viewers)
+
+pub returns-in-Insert : goal.returns-in-Insert
+returns-in-Insert g c =
+    let viewers = map g.V.Viewer.meaning c.args.viewers.now in
+    subst (λ (x : Command). Answered viewers x c.args.self.now c.answer_insert.result c.answer_insert.new.self) (sym c.in-Insert.is) (c.answer_insert.ensures viewers)
+
+pub returns-in-Set : goal.returns-in-Set
+returns-in-Set g c =
+    let viewers = map g.V.Viewer.meaning c.args.viewers.now in
+    subst (λ (x : Command). Answered viewers x c.args.self.now c.answer_set.result c.answer_set.new.self) (sym c.in-Set.is) (c.answer_set.ensures viewers)

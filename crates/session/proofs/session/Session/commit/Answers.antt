@@ -6,11 +6,14 @@ use Rattle.storage.specs.Stored.{Stored, committed, failed, is_shut}
 use Rattle.view_store.proofs.Editing.{by_answer}
 use Rattle.following.specs.Keeping.{AreKept}
 use Rattle.following.proofs.Holding.{kept_where_same}
+use Rattle.mappings.specs.Keeping.{AreKept as AreMapped}
+use Rattle.mappings.proofs.Holding.{kept_where_same as mapped_where_same}
 use Rattle.session.proofs.Watched.{commit_same}
 use Rattle.session.specs.Carried.{Carried}
 use Rattle.session.specs.Going.{GoesOn}
 use Rattle.session.specs.Planning.{IsPlannedNext}
 use Rattle.following.specs.Keeping.{followed}
+use Rattle.mappings.specs.Keeping.{mapped}
 use Rattle.session.specs.World.{World, with_store}
 use Rattle.session.proofs.OnDisk.{commit_failed, commit_goes, commit_goes_wrong, commit_made}
 use Rattle.session.proofs.session.Session.commit.Goals.{in-Ok-carry, in-Err-carry}
@@ -20,7 +23,7 @@ pub returns-clause-carried : goal.returns-clause-carried
 returns-clause-carried g c = λ viewers.
     let from = g.H.Disk.outside c.args.host.now in
     let to = g.H.Disk.outside c.carry.new.disk in
-    let inside : World = record { store = c.self.inside.store; snapshots = c.self.inside.snapshots; cursors = c.self.inside.cursors; watches = followed c.self.inside.watches } in
+    let inside : World = record { store = c.self.inside.store; snapshots = c.self.inside.snapshots; cursors = c.self.inside.cursors; watches = followed c.self.inside.watches; mappings = mapped c.self.inside.mappings } in
     let new : World = with_store inside c.carry.new.self in
     let note = c.args.note.now in
     let reply = reply_bytes c.match-carry.result in
@@ -42,7 +45,7 @@ pub returns-clause-goes : goal.returns-clause-goes
 returns-clause-goes g c = λ tells.
     let from = g.H.Disk.outside c.args.host.now in
     let to = g.H.Disk.outside c.carry.new.disk in
-    let inside : World = record { store = c.self.inside.store; snapshots = c.self.inside.snapshots; cursors = c.self.inside.cursors; watches = followed c.self.inside.watches } in
+    let inside : World = record { store = c.self.inside.store; snapshots = c.self.inside.snapshots; cursors = c.self.inside.cursors; watches = followed c.self.inside.watches; mappings = mapped c.self.inside.mappings } in
     let new : World = with_store inside c.carry.new.self in
     let note = c.args.note.now in
     let unshut : is_shut inside.store ≡ false = subst (λ (w : World). is_shut w.store ≡ false) (sym c.self.view_is) c.requires.«open» in
@@ -63,6 +66,8 @@ invariant_of-self g c =
     let note = c.args.note.now in
     let next = c.in-Ok.plan.next in
     let planned : IsPlannedNext store note c.in-Ok.plan = subst (λ (w : World). IsPlannedNext w.store note c.in-Ok.plan) (sym c.self.view_is) c.in-Ok.ensures.planned in
-    by_answer (λ (s : Stored). AreKept s.views c.self.inside.watches) c.carry.result c.carry.new.self (failed store next) (committed store next) c.carry.ensures.ok c.carry.ensures.err
-    (kept_where_same store.views next.views c.self.inside.watches (commit_same store note c.in-Ok.plan planned.next) c.self.invariant)
+    by_answer (λ (s : Stored). AreKept s.views c.self.inside.watches × AreMapped s.views c.self.inside.mappings) c.carry.result c.carry.new.self (failed store next) (committed store next) c.carry.ensures.ok c.carry.ensures.err (
+      kept_where_same store.views next.views c.self.inside.watches (commit_same store note c.in-Ok.plan planned.next) c.self.invariant.0,
+      mapped_where_same store.views next.views c.self.inside.mappings (commit_same store note c.in-Ok.plan planned.next) c.self.invariant.1,
+    )
     c.self.invariant

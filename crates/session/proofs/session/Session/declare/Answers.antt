@@ -4,6 +4,7 @@ use Rattle.view_store.specs.Views.{table_of, with_view}
 use Rattle.view_store.proofs.Editing.{IfOk-then}
 use Rattle.session.specs.Naming.{declare_due, is_view_used}
 use Rattle.following.specs.Keeping.{followed}
+use Rattle.mappings.specs.Keeping.{mapped}
 use Rattle.session.specs.World.{World, with_tables}
 use Rattle.session.proofs.Structured.{declare-in_use, structured-other}
 use Rattle.session.proofs.session.Session.declare.Goals as goal
@@ -20,7 +21,7 @@ pub returns-then-is_view_used-clause-due : goal.returns-then-is_view_used-clause
 returns-then-is_view_used-clause-due c =
     let name = c.args.name.now in
     let schema = c.args.schema.now in
-    let inside : World = record { store = c.self.inside.store; snapshots = c.self.inside.snapshots; cursors = c.self.inside.cursors; watches = followed c.self.inside.watches } in
+    let inside : World = record { store = c.self.inside.store; snapshots = c.self.inside.snapshots; cursors = c.self.inside.cursors; watches = followed c.self.inside.watches; mappings = mapped c.self.inside.mappings } in
     let found = ap (λ v. table_of v name) (sym c.views.ensures) ∙ c.in-Some.ensures in
     let stands = ap (λ (w : World). is_view_used w name) c.self.view_is ∙ sym c.is_view_used.ensures ∙ c.if-is_view_used.true in
     inl (ap (λ (w : World). declare_due w name schema) (sym c.self.view_is)

@@ -6,6 +6,7 @@ use Rattle.view_store.specs.Views.{edited_views}
 use Rattle.view_store.proofs.Editing.{OnOk-then}
 use Rattle.session.specs.Commands.{events_at}
 use Rattle.session.specs.World.{World}
+use Rattle.session.proofs.KeyedKept.{keeps_apart}
 use Rattle.session.proofs.LinesOn.{line_to}
 use Rattle.session.proofs.Watched.{unwatched_line}
 use Rattle.session.proofs.session.Session.insert_rows.Goals as goal
@@ -21,3 +22,7 @@ returns-then-not-is_watched-clause-ok c =
 pub follow-requires-clause-line : goal.follow-requires-clause-line
 follow-requires-clause-line c =
     line_to c.args.self.now.store.views c.in_ok-views.views c.args.path.now (Edit.insert c.args.place c.args.row.now c.args.copies) c.in_ok-views.ensures.ok c.requires.due
+
+pub follow-requires-clause-keys : goal.follow-requires-clause-keys
+follow-requires-clause-keys c =
+    keeps_apart c.args.self.now.mappings c.args.self.now.store.views c.in_ok-views.views c.args.path.now (Edit.insert c.args.place c.args.row.now c.args.copies) c.in_ok-views.ensures.ok c.requires.apart c.requires.due

@@ -1,6 +1,7 @@
 use Rattle.std.proofs.Common.{◌≡◌, ℕ, Some, ap, inl, sym, subst, ◌∙◌}
 use Rattle.expr_text.specs.Meanings.{query_of}
 use Rattle.following.specs.Keeping.{followed}
+use Rattle.mappings.specs.Keeping.{mapped}
 use Rattle.following.specs.Watches.{source_of}
 use Rattle.view_store.specs.Views.{table_of}
 use Rattle.questions.specs.Operations.{operand, operation}
@@ -36,7 +37,7 @@ returns-clause-due c =
     let q = query_of c.args.expr.now in
     let t = c.in-Some.table.now in
     let found = ap (table_under c.args.self.now) (sym c.operand-source.ensures) ∙ c.in-Some.ensures in
-    let inside : World = record { store = c.self.inside.store; snapshots = c.self.inside.snapshots; cursors = c.self.inside.cursors; watches = followed c.self.inside.watches } in
+    let inside : World = record { store = c.self.inside.store; snapshots = c.self.inside.snapshots; cursors = c.self.inside.cursors; watches = followed c.self.inside.watches; mappings = mapped c.self.inside.mappings } in
     let there = subst (λ (w : World). table_under w (operand q) ≡ Some t) (sym c.self.view_is) found in
     let put = ap (λ v. table_of v (source_of inside.watches c.operand-source.result.now).view) c.views.ensures ∙ ap (λ n. table_under inside n) c.operand-source.ensures ∙ there in
     subst (λ r. AnswersDue (watch_due c.args.self.now c.args.name.now q) r) (sym c.of_put.ensures)
@@ -51,7 +52,7 @@ returns-clause-size c =
     let q = query_of c.args.expr.now in
     let t = c.in-Some.table.now in
     let found = ap (table_under c.args.self.now) (sym c.operand-source.ensures) ∙ c.in-Some.ensures in
-    let inside : World = record { store = c.self.inside.store; snapshots = c.self.inside.snapshots; cursors = c.self.inside.cursors; watches = followed c.self.inside.watches } in
+    let inside : World = record { store = c.self.inside.store; snapshots = c.self.inside.snapshots; cursors = c.self.inside.cursors; watches = followed c.self.inside.watches; mappings = mapped c.self.inside.mappings } in
     let there = subst (λ (w : World). table_under w (operand q) ≡ Some t) (sym c.self.view_is) found in
     let put = ap (λ v. table_of v (source_of inside.watches c.operand-source.result.now).view) c.views.ensures ∙ ap (λ n. table_under inside n) c.operand-source.ensures ∙ there in
     subst (λ r. IfOk r (λ size. size ≡ watch_size c.args.self.now q)) (sym c.of_put.ensures)
@@ -64,7 +65,7 @@ returns-clause-ok c =
     let q = query_of c.args.expr.now in
     let t = c.in-Some.table.now in
     let found = ap (table_under c.args.self.now) (sym c.operand-source.ensures) ∙ c.in-Some.ensures in
-    let inside : World = record { store = c.self.inside.store; snapshots = c.self.inside.snapshots; cursors = c.self.inside.cursors; watches = followed c.self.inside.watches } in
+    let inside : World = record { store = c.self.inside.store; snapshots = c.self.inside.snapshots; cursors = c.self.inside.cursors; watches = followed c.self.inside.watches; mappings = mapped c.self.inside.mappings } in
     let there = subst (λ (w : World). table_under w (operand q) ≡ Some t) (sym c.self.view_is) found in
     let put = ap (λ v. table_of v (source_of inside.watches c.operand-source.result.now).view) c.views.ensures ∙ ap (λ n. table_under inside n) c.operand-source.ensures ∙ there in
     let new : World = record inside { watches = followed c.put.new.self } in
