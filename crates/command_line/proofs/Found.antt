@@ -1,8 +1,8 @@
 -- What was found for a name, by its row.
-use Rattle.std.proofs.Common.{◌≡◌, ◌∙◌, List, ℕ, Option, Some, None, refl, sym, ap}
+use Rattle.std.proofs.Common.{◌≡◌, ◌∙◌, List, ℕ, true, false, Option, Some, None, refl, sym, ap}
 use Rattle.std.specs.Borrow.{Bor}
 use Rattle.std.specs.Option.{option_and_then, option_map}
-use Rattle.std.specs.Prelude.{find}
+use Rattle.std.specs.Prelude.{find, is_some}
 use Rattle.std.specs.Str.{bytes_eq}
 use Rattle.clap.proofs.WalkLemmas.{find_row, first_value-rows}
 use Rattle.clap.specs.Facts.{Entry}
@@ -33,3 +33,17 @@ module _ (found : Found) (name : List ℕ) (text : Option (Bor (List ℕ))) (is 
 
   pub text_found : (s : Bor (List ℕ)) → text ≡ Some s → first_of name (rows_of found) ≡ Some s.now
   text_found s some = by_row ∙ ap (option_map (λ s. s.now)) some
+
+  pub some_found : is_some text ≡ true → is_some (first_of name (rows_of found)) ≡ true
+  some_found some = ap is_some by_row ∙ (go text ∙ some)
+    where
+      go : (t : Option (Bor (List ℕ))) → is_some (option_map (λ s. s.now) t) ≡ is_some t
+      go None = refl
+      go (Some s) = refl
+
+  pub not_found : is_some text ≡ false → first_of name (rows_of found) ≡ None
+  not_found none = none_found (go text none)
+    where
+      go : (t : Option (Bor (List ℕ))) → is_some t ≡ false → t ≡ None
+      go None none = refl
+      go (Some s) none = cc

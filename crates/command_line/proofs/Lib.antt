@@ -3,3 +3,4 @@ pub mod Found
 pub mod Readings
 pub mod OneJob
 pub mod Lone
+pub mod Tasks

@@ -74,9 +74,11 @@ module _ (first : ℕ) (rest : List ℕ) (plain : first ≢ 45) where
     };
     cap = record { means = served.cap; least = omega (arith, served.cap); most = omega (arith, served.cap) };
     options = record {
-      alone = λ given. absurd (false≢true given);
-      apart = λ given. absurd (false≢true given);
-      used = served.mode;
+      used = record {
+        alone = λ given. absurd (false≢true given);
+        apart = λ given. absurd (false≢true given);
+        used = served.mode;
+      };
       done = served.task;
     };
   })

@@ -1,5 +1,5 @@
 -- What the options and the file ask for that were found in words: the tests that the words have to pass, and the job.
-use Rattle.std.specs.Prelude.{◌≡◌, ◌≢◌, ℕ, ◌≤◌, ◌||◌, Bool, true, false, if◌then◌else◌, List, [], Option, Some, None, codes, decimal, find, option_and_then}
+use Rattle.std.specs.Prelude.{◌≡◌, ◌≢◌, ℕ, ◌≤◌, ◌<◌, ◌^◌, ◌||◌, Bool, true, false, if◌then◌else◌, List, [], Option, Some, None, codes, decimal, find, option_and_then}
 use Rattle.std.specs.Str.{bytes_eq}
 use Rattle.clap.specs.Matches.{found_of}
 use Rattle.clap.specs.Walk.{Row, first_of, rows_of}
@@ -8,7 +8,7 @@ use Rattle.clap.specs.declared.parser.matches.ValueSource.{ValueSource}
 use Rattle.clap.specs.declared.parser.matches.ValueSource.TheVariants.{CommandLine, DefaultValue}
 use Rattle.command_line.specs.declared.job.Job.{Job}
 use Rattle.command_line.specs.declared.job.Task.{Task}
-use Rattle.command_line.specs.declared.job.Task.TheVariants.{Serve, Check}
+use Rattle.command_line.specs.declared.job.Task.TheVariants.{Serve, Check, Sample}
 use Rattle.storage.specs.declared.mode.Mode.{Mode}
 use Rattle.storage.specs.declared.mode.Mode.TheVariants.{Write, Extend, Read}
 
@@ -51,16 +51,44 @@ pub record IsCap (rows : List Row) (cap : ℕ) : Type 0 where
 abbrev pub mode_of : Bool → Bool → Bool → Mode
 mode_of extends reads checks = if extends then Extend else (if reads || checks then Read else Write)
 
-abbrev pub task_of : Bool → Task
-task_of checks = if checks then Check else Serve
-
--- `--check` is given with no other option, and `--read` and `--extend` are not given together
-pub record IsUse (rows : List Row) (mode : Mode) (task : Task) : Type 0 where
+-- `--check` goes with none of `--cap`, `--extend` and `--read`, and `--read` not with `--extend`
+pub record IsMode (rows : List Row) (mode : Mode) : Type 0 where
   pub alone : is_given (codes "check") rows ≡ true
       → (is_given (codes "cap") rows ≡ false) × (is_given (codes "extend") rows ≡ false) × (is_given (codes "read") rows ≡ false)
   pub apart : is_given (codes "extend") rows ≡ true → is_given (codes "read") rows ≡ false
   pub used : mode ≡ mode_of (is_given (codes "extend") rows) (is_given (codes "read") rows) (is_given (codes "check") rows)
-  pub done : task ≡ task_of (is_given (codes "check") rows)
+
+abbrev pub most_edits : ℕ
+most_edits = 1000000
+
+-- the number of a sample and its count are spelled by decimal digits, with no sign and no leading zero
+pub record MeansSample (number count : List ℕ) (task : Task) : Type 0 where
+  pub made_by : ℕ
+  pub edits : ℕ
+  pub spelled : number ≡ decimal made_by
+  pub small : made_by < 2 ^ 64
+  pub counted : count ≡ decimal edits
+  pub most : edits ≤ most_edits
+  pub done : task ≡ Sample made_by edits
+
+abbrev pub task_of : Bool → Task
+task_of checks = if checks then Check else Serve
+
+-- What is done, by the values of `--sample` and `--count`: they are given together or not at all, and neither with `--read` nor with `--check`.
+abbrev pub MeansTask : List Row → Option (List ℕ) → Option (List ℕ) → Task → Type 0
+MeansTask rows None None task = task ≡ task_of (is_given (codes "check") rows)
+MeansTask rows (Some number) (Some count) task =
+    MeansSample number count task × (is_given (codes "read") rows ≡ false) × (is_given (codes "check") rows ≡ false)
+MeansTask rows (Some number) None task = ⊥
+MeansTask rows None (Some count) task = ⊥
+
+abbrev pub IsTask : List Row → Task → Type 0
+IsTask rows task = MeansTask rows (first_of (codes "sample") rows) (first_of (codes "count") rows) task
+
+-- the options go together
+pub record IsUse (rows : List Row) (mode : Mode) (task : Task) : Type 0 where
+  pub used : IsMode rows mode
+  pub done : IsTask rows task
 
 -- what was found asks for this job
 pub record Asks (rows : List Row) (job : Job) : Type 0 where

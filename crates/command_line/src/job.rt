@@ -21,4 +21,11 @@ pub enum Task {
     Serve,
     /// The store is looked at as a whole, and a report on it is said.
     Check,
+    /// The lines of a sample are answered in place of the input's, over a store that is made.
+    Sample {
+        /// The number that makes the sample.
+        number: u64,
+        /// How many edits it has: at most 1000000.
+        count: u32,
+    },
 }

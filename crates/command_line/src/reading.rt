@@ -1,8 +1,9 @@
-ghost use Rattle.std.specs.Prelude.{◌≡◌, ℕ, List, Err, IfOk, IsErr, IfSome, IfNone};
-ghost use Rattle.command_line.specs.Asking.{Asks, IsCap, IsFile, IsUse, found_rows, is_given};
+ghost use Rattle.std.specs.Prelude.{◌≡◌, ℕ, List, Err, None, IfOk, IsErr, IfSome, IfNone, codes};
+ghost use Rattle.clap.specs.Walk.{first_of};
+ghost use Rattle.command_line.specs.Asking.{Asks, IsCap, IsFile, IsMode, IsTask, IsUse, MeansSample, MeansTask, found_rows, is_given};
 ghost use Rattle.command_line.specs.Words.{AsksFor, AsksForSome, texts_of};
 
-use crate::command::{CAP, CHECK, EXTEND, FILE, READ, command};
+use crate::command::{CAP, CHECK, COUNT, EXTEND, FILE, READ, SAMPLE, command};
 use crate::error::WordsError;
 use crate::job::{Job, Task};
 use crate::number::number_of;
@@ -17,6 +18,9 @@ const LEAST_CAP: u64 = 208;
 
 /// The greatest cap, which is also the one that is meant where none is given.
 const MOST_CAP: u64 = 2_147_483_632;
+
+/// The most edits of a sample.
+const MOST_EDITS: u64 = 1_000_000;
 
 /// The job that the words ask for, of which the first is the program's own name.
 ///
@@ -83,15 +87,71 @@ fn use_of(matches: &ArgMatches<'_>) -> Option<(Mode, Task)>
     ensures some { IfSome result (λ found. IsUse (found_rows matches.now) found.0 found.1) }
     ensures none { IfNone result ((mode : Mode) (task : Task) → IsUse (found_rows matches.now) mode task → ⊥) }
 {
+    let mode = mode_of(matches)?;
+    let task = task_of(matches)?;
+    Some((mode, task))
+}
+
+/// How the store is used.
+fn mode_of(matches: &ArgMatches<'_>) -> Option<Mode>
+    ensures some { IfSome result (IsMode (found_rows matches.now)) }
+    ensures none { IfNone result ((mode : Mode) → IsMode (found_rows matches.now) mode → ⊥) }
+{
     let extends = is_given(matches, EXTEND);
     let reads = is_given(matches, READ);
     match (is_given(matches, CHECK), extends, reads) {
-        (true, false, false) if !is_given(matches, CAP) => Some((Mode::Read, Task::Check)),
-        (false, true, false) => Some((Mode::Extend, Task::Serve)),
-        (false, false, true) => Some((Mode::Read, Task::Serve)),
-        (false, false, false) => Some((Mode::Write, Task::Serve)),
+        (true, false, false) if !is_given(matches, CAP) => Some(Mode::Read),
+        (false, true, false) => Some(Mode::Extend),
+        (false, false, true) => Some(Mode::Read),
+        (false, false, false) => Some(Mode::Write),
         _ => None,
     }
+}
+
+/// What is done with the store.
+fn task_of(matches: &ArgMatches<'_>) -> Option<Task>
+    ensures some { IfSome result (IsTask (found_rows matches.now)) }
+    ensures none { IfNone result ((task : Task) → IsTask (found_rows matches.now) task → ⊥) }
+{
+    let Some(number) = matches.get_str(SAMPLE) else {
+        return task_of_no_sample(matches);
+    };
+    let count = matches.get_str(COUNT)?;
+    if is_given(matches, READ) || is_given(matches, CHECK) {
+        return None;
+    }
+    sample_of(number, count)
+}
+
+/// What is done with the store where no number of a sample is given.
+fn task_of_no_sample(matches: &ArgMatches<'_>) -> Option<Task>
+    ensures some { IfSome result (MeansTask (found_rows matches.now) None (first_of (codes "count") (found_rows matches.now))) }
+    ensures none { IfNone result ((task : Task) → MeansTask (found_rows matches.now) None (first_of (codes "count") (found_rows matches.now)) task → ⊥) }
+{
+    if matches.get_str(COUNT).is_some() {
+        return None;
+    }
+    if is_given(matches, CHECK) {
+        Some(Task::Check)
+    } else {
+        Some(Task::Serve)
+    }
+}
+
+/// The sample of a number, with so many edits.
+fn sample_of(number: &str, count: &str) -> Option<Task>
+    ensures some { IfSome result (MeansSample number.now count.now) }
+    ensures none { IfNone result ((task : Task) → MeansSample number.now count.now task → ⊥) }
+{
+    let number = number_of(number)?;
+    let count = number_of(count)?;
+    if count > MOST_EDITS {
+        return None;
+    }
+    Some(Task::Sample {
+        number,
+        count: count as u32,
+    })
 }
 
 /// Whether the words give this, be it an option or the file.

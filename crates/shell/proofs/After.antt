@@ -9,8 +9,9 @@ use Rattle.storage.specs.declared.mode.Mode.{Mode}
 use Rattle.storage.specs.declared.mode.Mode.TheVariants.{Read}
 use Rattle.viewers.specs.Meanings.{Meaning}
 use Rattle.shell.specs.Faults.{IsFault}
-use Rattle.shell.specs.Ran.{Answers, Checks, Opens, RanChecking, RanServing, RefusesFile}
+use Rattle.shell.specs.Ran.{Answers, Checks, Opens, RanChecking, RanSampling, RanServing, RefusesFile, Samples}
 use Rattle.shell.specs.Said.{IsSilent, check_line, fault_line}
+use Rattle.shell.specs.declared.fault.FileFault.TheVariants.{NotEmpty}
 use Rattle.shell.specs.declared.status.Status.{Status}
 use Rattle.shell.specs.declared.status.Status.TheVariants.{Done, Usage, Refused, TakeFault, SayFault, Memory, TooMuch, DiskFault}
 use Rattle.shell.proofs.Saying.{part_after, says_only-after}
@@ -59,6 +60,30 @@ module _ (old looked new : Outside) (looks : Looks old looked) (says : looked.sa
     reports = subst (λ (bytes : List ℕ). Reports bytes c.report) same_seen c.reports;
     says = (c.says.0, part_after (check_line c.report) c.says.0 old looked new looks c.says.1, c.says.2);
   }
+
+module _ (old looked new : Outside) (looks : Looks old looked) (viewers : List Meaning) (number edits : ℕ) (mode : Mode) (cap : ℕ) where
+  samples_after : looked.say_faults ≡ old.say_faults → (status : Status) → Samples viewers number edits mode cap status looked new → Samples viewers number edits mode cap status old new
+  samples_after says status s = record {
+    empty = sym (ap (λ (m : Moment). m.disk.seen) looks.still.now) ∙ s.empty;
+    opened = s.opened;
+    world = s.world;
+    starts = record {
+      opens = opens_after old looked new looks says s.opened s.starts.opens;
+      starts = subst (λ (bytes : List ℕ). StartsAs mode cap bytes (state_of s.world s.opened)) (ap (λ (m : Moment). m.disk.seen) looks.still.now) s.starts.starts;
+    };
+    sampled = s.sampled;
+  }
+
+  pub ran_sampling_after : (status : Status) → looked.say_faults ≡ old.say_faults → RanSampling viewers number edits mode cap status looked new → RanSampling viewers number edits mode cap status old new
+  ran_sampling_after Usage says ran = ran
+  ran_sampling_after Refused says ran =
+      (λ none. ran.0 (ap (λ (m : Moment). m.disk.seen) looks.still.now ∙ none), says_only-after (fault_line NotEmpty) old looked new looks says ran.1)
+  ran_sampling_after Memory says ran = silent_after old looked new looks says ran
+  ran_sampling_after DiskFault says ran = opens_after old looked new looks says new ran
+  ran_sampling_after Done says ran = samples_after says Done ran
+  ran_sampling_after TakeFault says ran = ran
+  ran_sampling_after TooMuch says ran = ran
+  ran_sampling_after SayFault says ran = samples_after says SayFault ran
 
 pub ran_serving_after : (viewers : List Meaning) (mode : Mode) (cap : ℕ) (status : Status) (old looked new : Outside) → Looks old looked → looked.say_faults ≡ old.say_faults → RanServing viewers mode cap status looked new → RanServing viewers mode cap status old new
 ran_serving_after viewers mode cap Usage old looked new looks says ran = ran

@@ -4,7 +4,7 @@ use Rattle.command_line.specs.Asking.{IsSameJob}
 use Rattle.command_line.specs.Words.{AsksFor}
 use Rattle.command_line.specs.declared.job.Job.{Job}
 use Rattle.command_line.specs.declared.job.Task.{Task}
-use Rattle.command_line.specs.declared.job.Task.TheVariants.{Serve, Check}
+use Rattle.command_line.specs.declared.job.Task.TheVariants.{Serve, Check, Sample}
 use Rattle.host_io.specs.Calls.{Rose}
 use Rattle.host_io.specs.Outside.{Outside}
 use Rattle.lines.specs.Lines.{max_budget}
@@ -19,13 +19,14 @@ use Rattle.viewers.specs.Meanings.{Meaning}
 use Rattle.shell.specs.Faults.{IsFault}
 use Rattle.shell.specs.Ran.{GoesWell, MayOpen, Ran, RanAs}
 use Rattle.shell.specs.declared.fault.FileFault.{FileFault}
-use Rattle.shell.specs.declared.fault.FileFault.TheVariants.{Empty, NotAStore, Damaged}
+use Rattle.shell.specs.declared.fault.FileFault.TheVariants.{Empty, NotEmpty, NotAStore, Damaged}
 use Rattle.shell.specs.declared.status.Status.{Status}
 use Rattle.shell.specs.declared.status.Status.TheVariants.{Done, Usage, Refused, TakeFault, SayFault, Memory, TooMuch, DiskFault}
 
 -- a file that stands for a commit has no fault
 stands_well : (mode : Mode) (file : List ℕ) (c : Commit) (fault : FileFault) → StandsFor file c → IsFault mode file fault → ⊥
 stands_well mode file c Empty stands cause = let long = stands.3.headed.long in let none = ap length cause.1 in absurd (omega (arith, long, none))
+stands_well mode file c NotEmpty stands cause = cause
 stands_well mode file c NotAStore stands cause = elim (no_cause file c opening.NotAStore stands cause.1) [
   | inl e ↦ let f : ◌≡◌ {A = OpenError} opening.NotAStore opening.Failed = e in cc
   | inr e ↦ let f : ◌≡◌ {A = OpenError} opening.NotAStore opening.Memory = e in cc
@@ -37,17 +38,20 @@ stands_well mode file c (Damaged place) stands cause = elim (no_cause file c (op
 
 empty_well : (mode : Mode) (file : List ℕ) (fault : FileFault) → file ≡ [] → mode ≢ Read → IsFault mode file fault → ⊥
 empty_well mode file Empty none writes cause = writes cause.0
+empty_well mode file NotEmpty none writes cause = cause
 empty_well mode file NotAStore none writes cause = cause.0 none
 empty_well mode file (Damaged place) none writes cause = cause.0 none
 
 opens_well : (viewers : List Meaning) (task : Task) (mode : Mode) (cap : ℕ) (old new : Outside) → MayOpen task mode old.now.disk.seen → RanAs viewers task mode cap Refused old new → ⊥
 opens_well viewers Serve mode cap old new (inl empty) (fault, cause, says) = empty_well mode old.now.disk.seen fault empty.0 empty.1 cause
 opens_well viewers Serve mode cap old new (inr stands) (fault, cause, says) = stands_well mode old.now.disk.seen stands.0 fault stands.1 cause
+opens_well viewers (Sample number edits) mode cap old new empty ran = ran.0 empty
 opens_well viewers Check mode cap old new stands (fault, cause, says) = stands_well Read old.now.disk.seen stands.0 fault stands.1 cause
 
 -- the budget was not passed
 within_budget : (viewers : List Meaning) (task : Task) (mode : Mode) (cap : ℕ) (old new : Outside) → length old.input ≤ max_budget → RanAs viewers task mode cap TooMuch old new → ⊥
 within_budget viewers Check mode cap old new short ran = ran
+within_budget viewers (Sample number edits) mode cap old new short ran = ran
 within_budget viewers Serve mode cap old new short ran =
     let from = ran.ran in
     let serves = from.serves in
@@ -76,6 +80,7 @@ completes viewers words TooMuch old new one ran takes says disk well = absurd (w
 silent : (viewers : List Meaning) (task : Task) (words : List (List ℕ)) (mode : Mode) (cap : ℕ) (old new : Outside) → RanAs viewers task mode cap Memory old new → Ran viewers words Memory old new
 silent viewers Serve words mode cap old new ran = ran
 silent viewers Check words mode cap old new ran = ran
+silent viewers (Sample number edits) words mode cap old new ran = ran
 
 -- what came of a job, by its status
 pub ran_job : (viewers : List Meaning) (words : List (List ℕ)) (job : Job) (status : Status) (old new : Outside) → AsksFor words job → status ≢ Usage → RanAs viewers job.task job.mode job.cap status old new → Ran viewers words status old new

@@ -1,3 +1,6 @@
 pub mod After
 pub mod Completing
+pub mod InSilence
+pub mod Outcomes
+pub mod Quitting
 pub mod Saying

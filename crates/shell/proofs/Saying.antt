@@ -14,16 +14,15 @@ use Rattle.session.specs.World.{World}
 use Rattle.session.specs.declared.starting.StartError.{StartError}
 use Rattle.session.specs.declared.starting.StartError.TheVariants as error
 use Rattle.storage.specs.declared.mode.Mode.{Mode}
-use Rattle.storage.specs.declared.space.Report.{Report}
 use Rattle.viewers.specs.Meanings.{Meaning}
 use Rattle.shell.specs.Faults.{IsFault, fault_of}
-use Rattle.shell.specs.Said.{IsSilent, SaysPart, SaysOnly, check_line, fault_line, greeting_line}
+use Rattle.shell.specs.Said.{IsSilent, SaysPart, SaysOnly, fault_line, greeting_line}
 use Rattle.shell.specs.declared.fault.FileFault.{FileFault}
 use Rattle.shell.specs.declared.fault.FileFault.TheVariants.{Empty, NotAStore, Damaged}
 use Rattle.shell.specs.Statuses.{status_of}
 use Rattle.shell.specs.declared.status.Status.{Status}
 use Rattle.shell.specs.declared.status.Status.TheVariants as status
-use Rattle.shell.specs.Ran.{GreetsInPart, IsServed, Opens, RanChecking, RanFrom, RanServing, RefusesFile, SaysReport, ServesAs, ServesFrom, Starts}
+use Rattle.shell.specs.Ran.{GreetsInPart, IsServed, Opens, RanChecking, RanFrom, RanServing, RefusesFile, SaysLine, ServesAs, ServesFrom, Starts}
 
 -- what was said of a line is a front of it
 pub says_part : {T E : Type 0} (line : List ℕ) (old new : Outside) (result : Result T E)
@@ -168,10 +167,10 @@ unchecked error.Empty s old new is looks = absurd (let f : ◌≡◌ {A = Result
 unchecked error.NotAStore s old new is looks = absurd (let f : ◌≡◌ {A = Result FileFault Status} (Ok NotAStore) (Err s) = is in cc)
 unchecked (error.Damaged place) s old new is looks = absurd (let f : ◌≡◌ {A = Result FileFault Status} (Ok (Damaged place)) (Err s) = is in cc)
 
--- a report that the output did not take whole
-pub unsaid_report : {E : Type 0} (report : Report) (old new : Outside) (error : E) → SaysAll {T = Unit {0}} (check_line report) old new (Err error) → SaysReport report status.SayFault old new
-unsaid_report report old new error says = (
-  take says.part (check_line report),
-  says_part (check_line report) old new (Err error) says,
-  omega (arith, length-take-le says.part (check_line report) says.within, says.err),
+-- a line that the output did not take whole
+pub unsaid_line : {E : Type 0} (line : List ℕ) (old new : Outside) (error : E) → SaysAll {T = Unit {0}} line old new (Err error) → SaysLine line status.SayFault old new
+unsaid_line line old new error says = (
+  take says.part line,
+  says_part line old new (Err error) says,
+  omega (arith, length-take-le says.part line says.within, says.err),
 )

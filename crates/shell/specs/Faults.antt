@@ -6,7 +6,7 @@ use Rattle.session.specs.declared.starting.StartError.TheVariants as start_error
 use Rattle.storage.specs.declared.mode.Mode.{Mode}
 use Rattle.storage.specs.declared.mode.Mode.TheVariants.{Read}
 use Rattle.shell.specs.declared.fault.FileFault.{FileFault}
-use Rattle.shell.specs.declared.fault.FileFault.TheVariants.{Empty, NotAStore, Damaged}
+use Rattle.shell.specs.declared.fault.FileFault.TheVariants.{Empty, NotEmpty, NotAStore, Damaged}
 use Rattle.shell.specs.declared.status.Status.{Status}
 use Rattle.shell.specs.declared.status.Status.TheVariants as status
 
@@ -18,8 +18,10 @@ fault_of (start_error.Damaged place) = Ok (Damaged place)
 fault_of start_error.Failed = Err status.DiskFault
 fault_of start_error.Memory = Err status.Memory
 
--- the bytes of the file are why: it is empty and only read, or it is not empty and stands for no commit
+-- The bytes of the file are why it is not opened: it is empty and only read, or it is not empty and stands for no commit. A file that is
+-- not empty is refused where a sample is made in it, and that is said of a sample alone.
 abbrev pub IsFault : Mode → List ℕ → FileFault → Type 0
 IsFault mode file Empty = (mode ≡ Read) × (file ≡ [])
+IsFault mode file NotEmpty = ⊥
 IsFault mode file NotAStore = (file ≢ []) × IsNoStore file
 IsFault mode file (Damaged place) = (file ≢ []) × IsDamagedAt file place

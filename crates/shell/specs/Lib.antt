@@ -1,4 +1,5 @@
 pub mod Faults
 pub mod Ran
 pub mod Said
+pub mod Sampled
 pub mod Statuses

@@ -3,15 +3,18 @@ use Rattle.std.specs.Prelude.{◌≡◌, ◌≢◌, ℕ, ◌<◌, ◌≤◌, Lis
 use Rattle.command_line.specs.Words.{AsksFor, AsksForSome}
 use Rattle.command_line.specs.declared.job.Job.{Job}
 use Rattle.command_line.specs.declared.job.Task.{Task}
-use Rattle.command_line.specs.declared.job.Task.TheVariants.{Serve, Check}
+use Rattle.command_line.specs.declared.job.Task.TheVariants.{Serve, Check, Sample}
 use Rattle.host_io.specs.Calls.{Rose, StandsStill}
-use Rattle.host_io.specs.Outside.{Outside}
+use Rattle.host_io.specs.Outside.{Left, Outside, moment}
 use Rattle.lines.specs.declared.serving.End.{End}
 use Rattle.lines.specs.declared.serving.End.TheVariants.{Done as all_done, TakeFault as take_fault, SayFault as say_fault, TooMuch as too_much}
 use Rattle.lines.specs.Lines.{max_budget}
+use Rattle.lines.specs.Machine.{State}
 use Rattle.lines.specs.Served.{Serves, state_of}
 use Rattle.recovery.specs.Commits.{Commit}
 use Rattle.recovery.specs.Standing.{StandsFor}
+use Rattle.sample.specs.Lines.{sample_lines, sample_size}
+use Rattle.session.specs.Disk.{IsAllowed}
 use Rattle.session.specs.Starting.{StartsAs}
 use Rattle.session.specs.Step.{machine}
 use Rattle.session.specs.World.{World}
@@ -21,8 +24,10 @@ use Rattle.storage.specs.declared.mode.Mode.TheVariants.{Read}
 use Rattle.storage.specs.declared.space.Report.{Report}
 use Rattle.viewers.specs.Meanings.{Meaning}
 use Rattle.shell.specs.Faults.{IsFault}
-use Rattle.shell.specs.Said.{IsSilent, SaysOnly, SaysPart, check_line, fault_line, greeting_line, usage_line}
+use Rattle.shell.specs.Said.{IsSilent, SaysOnly, SaysPart, check_line, fault_line, greeting_line, sample_line, usage_line}
+use Rattle.shell.specs.Sampled.{AcceptsAll, RefusesOne}
 use Rattle.shell.specs.declared.fault.FileFault.{FileFault}
+use Rattle.shell.specs.declared.fault.FileFault.TheVariants.{NotEmpty}
 use Rattle.shell.specs.declared.status.Status.{Status}
 use Rattle.shell.specs.declared.status.Status.TheVariants.{Done, Usage, Refused, TakeFault, SayFault, Memory, TooMuch, DiskFault}
 
@@ -70,11 +75,15 @@ pub record Answers (viewers : List Meaning) (mode : Mode) (cap : ℕ) (status : 
   pub starts : Starts mode cap old opened world
   pub ran : RanFrom viewers world status opened new
 
+-- the line that a run ends with was said, or a front of it where the output failed
+abbrev pub SaysLine : List ℕ → Status → Outside → Outside → Type 0
+SaysLine line Done old new = SaysPart line line old new
+SaysLine line SayFault old new = (said : List ℕ) × SaysPart line said old new × (length said < length line)
+SaysLine line _ old new = ⊥
+
 -- a report was said, or a front of it where the output failed
 abbrev pub SaysReport : Report → Status → Outside → Outside → Type 0
-SaysReport report Done old new = SaysPart (check_line report) (check_line report) old new
-SaysReport report SayFault old new = (said : List ℕ) × SaysPart (check_line report) said old new × (length said < length (check_line report))
-SaysReport report _ old new = ⊥
+SaysReport report status old new = SaysLine (check_line report) status old new
 
 -- the file was looked at as a whole, and a report on it was said
 pub record Checks (status : Status) (old new : Outside) : Type 0 where
@@ -119,9 +128,47 @@ RanChecking TakeFault old new = ⊥
 RanChecking TooMuch old new = ⊥
 RanChecking SayFault old new = Checks SayFault old new
 
+-- the line that is said of a sample: that all its lines were answered, or the reply to the first that was refused
+abbrev pub IsSampleLine : List Meaning → ℕ → ℕ → State World → State World → List ℕ → Type 0
+IsSampleLine viewers number edits old last line =
+    (AcceptsAll (machine viewers) old last (sample_lines number edits) × (line ≡ sample_line edits (sample_size number edits) last.world.store.kept.number))
+    ⊎ RefusesOne (machine viewers) old last (sample_lines number edits) line
+
+-- The lines of a sample were answered in silence, up to the first that was refused, and then one line was said of them. From the last answer
+-- on, while that line was said and after it, each image that a crash would have left is one that the last world allows.
+pub record SamplesFrom (viewers : List Meaning) (number edits : ℕ) (world : World) (status : Status) (old new : Outside) : Type 0 where
+  pub answered : Outside
+  pub last : World
+  pub line : List ℕ
+  pub outcome : IsSampleLine viewers number edits (state_of world old) (state_of last answered) line
+  pub silent : answered.now.said ≡ old.now.said
+  pub untaken : answered.input ≡ old.input
+  pub says : SaysLine line status answered new
+  pub crash : (image : List ℕ) (n : ℕ) → Left (moment answered) new image n → IsAllowed (state_of last answered) image
+
+-- a store was made in the empty file, and the lines of the sample were answered over it
+pub record Samples (viewers : List Meaning) (number edits : ℕ) (mode : Mode) (cap : ℕ) (status : Status) (old new : Outside) : Type 0 where
+  pub empty : old.now.disk.seen ≡ []
+  pub opened : Outside
+  pub world : World
+  pub starts : Starts mode cap old opened world
+  pub sampled : SamplesFrom viewers number edits world status opened new
+
+-- a run that makes a store of the lines of a sample, in an empty file and in no other
+abbrev pub RanSampling : List Meaning → ℕ → ℕ → Mode → ℕ → Status → Outside → Outside → Type 0
+RanSampling viewers number edits mode cap Usage old new = ⊥
+RanSampling viewers number edits mode cap Refused old new = (old.now.disk.seen ≢ []) × SaysOnly (fault_line NotEmpty) old new
+RanSampling viewers number edits mode cap Memory old new = IsSilent old new
+RanSampling viewers number edits mode cap DiskFault old new = Opens old new
+RanSampling viewers number edits mode cap Done old new = Samples viewers number edits mode cap Done old new
+RanSampling viewers number edits mode cap TakeFault old new = ⊥
+RanSampling viewers number edits mode cap TooMuch old new = ⊥
+RanSampling viewers number edits mode cap SayFault old new = Samples viewers number edits mode cap SayFault old new
+
 abbrev pub RanAs : List Meaning → Task → Mode → ℕ → Status → Outside → Outside → Type 0
 RanAs viewers Serve mode cap status old new = RanServing viewers mode cap status old new
 RanAs viewers Check mode cap status old new = RanChecking status old new
+RanAs viewers (Sample number edits) mode cap status old new = RanSampling viewers number edits mode cap status old new
 
 -- the words ask for a job, and this is what came of it
 pub record RanFor (viewers : List Meaning) (words : List (List ℕ)) (status : Status) (old new : Outside) : Type 0 where
@@ -140,10 +187,18 @@ Ran viewers words TakeFault old new = RanFor viewers words TakeFault old new
 Ran viewers words TooMuch old new = RanFor viewers words TooMuch old new
 Ran viewers words SayFault old new = RanFor viewers words SayFault old new
 
--- a file with which nothing is wrong: one that stands for a commit, or to serve lines from an empty one that may be written
+-- A file with which nothing is wrong: one that stands for a commit, or to serve lines from an empty one that may be written. A sample is
+-- made in an empty one.
 abbrev pub MayOpen : Task → Mode → List ℕ → Type 0
 MayOpen Serve mode file = ((file ≡ []) × (mode ≢ Read)) ⊎ ((c : Commit) × StandsFor file c)
 MayOpen Check mode file = (c : Commit) × StandsFor file c
+MayOpen (Sample number edits) mode file = file ≡ []
+
+-- a sample is made in a store that may be written
+abbrev pub IsWritten : Task → Mode → Type 0
+IsWritten Serve mode = Unit {0}
+IsWritten Check mode = Unit {0}
+IsWritten (Sample number edits) mode = mode ≢ Read
 
 -- A run in which nothing can go wrong but memory: the words are right, the file may be opened, no call fails, and no more bytes come
 -- than may be taken.

@@ -5,7 +5,7 @@ use Rattle.host_io.specs.Calls.{Rose}
 use Rattle.lines.specs.Lines.{newline}
 use Rattle.storage.specs.declared.space.Report.{Report}
 use Rattle.shell.specs.declared.fault.FileFault.{FileFault}
-use Rattle.shell.specs.declared.fault.FileFault.TheVariants.{Empty, NotAStore, Damaged}
+use Rattle.shell.specs.declared.fault.FileFault.TheVariants.{Empty, NotEmpty, NotAStore, Damaged}
 
 abbrev pub usage_line : List ℕ
 usage_line = codes "usage mkshell [--cap N] [--extend] [--read] [--check] [--sample X --count N] FILE" ++ newline ∷ []
@@ -13,6 +13,7 @@ usage_line = codes "usage mkshell [--cap N] [--extend] [--read] [--check] [--sam
 -- why a file is not served
 abbrev pub fault_line : FileFault → List ℕ
 fault_line Empty = codes "refused empty" ++ newline ∷ []
+fault_line NotEmpty = codes "refused notempty" ++ newline ∷ []
 fault_line NotAStore = codes "refused notastore" ++ newline ∷ []
 fault_line (Damaged place) = codes "refused damaged " ++ (decimal place ++ newline ∷ [])
 
@@ -28,6 +29,10 @@ spaced (number ∷ numbers) = codes " " ++ (decimal number ++ spaced numbers)
 -- what a file was found to have: the number of its commit, its end, the bytes in use, its views and its blocks
 abbrev pub check_line : Report → List ℕ
 check_line r = codes "ok check" ++ (spaced (r.space.number ∷ r.space.end ∷ r.space.used ∷ r.views ∷ r.blocks ∷ []) ++ newline ∷ [])
+
+-- a sample whose lines were all answered: its edits, the rows of its view, and the number of the last commit
+abbrev pub sample_line : ℕ → ℕ → ℕ → List ℕ
+sample_line edits size number = codes "ok sample" ++ (spaced (edits ∷ size ∷ number ∷ []) ++ newline ∷ [])
 
 -- this front of a line was said and nothing else; nothing was taken, and the disk is as it was
 pub record SaysPart (line front : List ℕ) (old new : Outside) : Type 0 where

@@ -9,12 +9,12 @@ ghost use Rattle.shell.specs.Ran.{RanChecking, SaysReport};
 ghost use Rattle.storage.specs.Spaces.{Reports};
 ghost use Rattle.storage.specs.declared.mode.Mode.TheVariants as modes;
 
+use crate::ending::say_line;
 use crate::fault::fault_of;
 use crate::own_lines::write_report;
 use crate::refusing::refuse;
 use crate::status::Status;
 use host_io::Host;
-use lines::say_all;
 use mk_value::Text;
 use session::StartError;
 use std::alloc::Global;
@@ -76,8 +76,5 @@ fn say_report<H: Host>(report: &Report, out: &mut Text, host: &mut H) -> Status
     ensures status { (result ≡ Status.Done) ⊎ (result ≡ Status.SayFault) }
 {
     write_report(report, out);
-    match say_all(host, out.as_str().as_bytes()) {
-        Ok(()) => Status::Done,
-        Err(_) => Status::SayFault,
-    }
+    say_line(out, host)
 }

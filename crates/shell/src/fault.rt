@@ -9,6 +9,8 @@ use session::StartError;
 pub enum FileFault {
     /// It is empty, and it is only read.
     Empty,
+    /// It is not empty, and a sample is made in an empty one.
+    NotEmpty,
     /// It is no store.
     NotAStore,
     /// It is damaged at this byte.

@@ -1,7 +1,7 @@
 //! The lines that the program says by itself. Each fits the room of a reply.
 ghost use Rattle.std.specs.Prelude.{◌≡◌, ◌≤◌, ◌+◌, ◌++◌, ◌∷◌, [], codes, decimal, length};
 ghost use Rattle.lines.specs.Lines.{newline};
-ghost use Rattle.shell.specs.Said.{check_line, fault_line, greeting_line, spaced};
+ghost use Rattle.shell.specs.Said.{check_line, fault_line, greeting_line, sample_line, spaced};
 
 use crate::fault::FileFault;
 use mk_value::Text;
@@ -28,6 +28,7 @@ pub(crate) fn write_fault(fault: FileFault, out: &mut Text)
 {
     match fault {
         FileFault::Empty => append("refused empty\n", out),
+        FileFault::NotEmpty => append("refused notempty\n", out),
         FileFault::NotAStore => append("refused notastore\n", out),
         FileFault::Damaged(place) => write_damage(place, out),
     }
@@ -54,6 +55,18 @@ pub(crate) fn write_report(report: &Report, out: &mut Text)
     append_spaced(space.used, out);
     append_spaced(report.views as u64, out);
     append_spaced(report.blocks, out);
+    append("\n", out);
+}
+
+/// Appends that all lines of a sample were answered.
+pub(crate) fn write_sample(edits: u32, size: u64, number: u64, out: &mut Text)
+    requires { MAX_OWN_LINE ≤ out.old.spare }
+    ensures bytes { out.new.bytes ≡ out.old.bytes ++ sample_line edits size number }
+{
+    append("ok sample", out);
+    append_spaced(u64::from(edits), out);
+    append_spaced(size, out);
+    append_spaced(number, out);
     append("\n", out);
 }
 

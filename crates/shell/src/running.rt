@@ -7,7 +7,7 @@ ghost use Rattle.lines.specs.Rooms.{IsClear};
 ghost use Rattle.lines.specs.Served.{state_of};
 ghost use Rattle.lines.specs.Spoken.{SaysAll};
 ghost use Rattle.session.specs.Disk.{IsSteady};
-ghost use Rattle.shell.specs.Ran.{GoesWell, IsServed, Ran, RanAs, RanFrom, RanServing};
+ghost use Rattle.shell.specs.Ran.{GoesWell, IsServed, IsWritten, Ran, RanAs, RanFrom, RanServing};
 ghost use Rattle.shell.specs.Said.{greeting_line};
 
 use crate::checking::check_file;
@@ -15,6 +15,7 @@ use crate::fault::fault_of;
 use crate::own_lines::write_greeting;
 use crate::refusing::refuse;
 use crate::rooms::Rooms;
+use crate::sampling::{Asked, sample_file};
 use crate::serving::serve;
 use crate::status::Status;
 use command_line::{Job, Task, WordsError, read_words};
@@ -33,7 +34,7 @@ const USAGE: &str =
 /// Runs the program. `words` are its own name, options and the name of a file, which is made where it is absent and may be written. The
 /// store of the file is opened, or made where the file is empty; its number is said, and the lines of the input are answered one by
 /// one; their expressions may ask the viewers, of which the first of a name is asked. With `--check` the file is looked at as a whole, and a report is said. A file that is neither empty nor a store is refused, and
-/// left as it is.
+/// left as it is. With `--sample` a store is made in an empty file, the lines of a sample are answered in place of the input's, and one line is said of them; a file that is not empty is refused, and left as it is.
 ///
 /// All memory that serving takes for itself is taken before the file is attached.
 pub fn run<H: Host, V: Viewer>(alloc: Global, words: &[&str], viewers: &[V], host: &mut H) -> Status
@@ -68,6 +69,7 @@ pub fn run<H: Host, V: Viewer>(alloc: Global, words: &[&str], viewers: &[V], hos
 fn run_job<H: Host, V: Viewer>(alloc: Global, job: &Job, viewers: &[V], host: &mut H) -> Status
     requires settled { H.tells → IsSettled (H.outside host.old).now.disk }
     requires capped { job.now.cap < 2 ^ 63 }
+    requires written { IsWritten job.now.task job.now.mode }
     ensures ran { H.tells → RanAs (map V.meaning viewers.now) job.now.task job.now.mode job.now.cap result (H.outside host.old) (H.outside host.new) }
     ensures right { result ≢ Status.Usage }
     ensures take_fault { result ≡ Status.TakeFault → Rose (H.outside host.old).take_faults (H.outside host.new).take_faults }
@@ -83,6 +85,15 @@ fn run_job<H: Host, V: Viewer>(alloc: Global, job: &Job, viewers: &[V], host: &m
     match job.task {
         Task::Serve => serve_file(alloc, job.mode, job.cap, viewers, &mut rooms, host),
         Task::Check => check_file(alloc, &mut rooms.reply, host),
+        Task::Sample { number, count } => {
+            let asked = Asked {
+                number,
+                edits: count,
+                mode: job.mode,
+                cap: job.cap,
+            };
+            sample_file(alloc, asked, viewers, &mut rooms.reply, host)
+        }
     }
 }
 

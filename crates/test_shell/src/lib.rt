@@ -13,6 +13,8 @@ mod long_lines;
 #[cfg(test)]
 mod running;
 #[cfg(test)]
+mod sampling;
+#[cfg(test)]
 mod serving;
 #[cfg(test)]
 mod unviewed;

@@ -56,7 +56,9 @@ const CAPPED_SAID: &[u8] =
     b"ok mkshell 0\nok c[v:I]\nok 64\nok commit 1\nok\nok commit 2\nok\nok commit 3\nok\nok commit 4\nok\nok commit 5\n\
 ok 4064\nerr 10 full 800 608\nok 0\nok commit 6\n";
 
-const CASES: [Case; 21] = [
+const SAMPLE: &[&str] = &["mkshell", "--sample", "1", "--count", "0", "f"];
+
+const CASES: [Case; 28] = [
     (
         RIGHT,
         b"",
@@ -125,6 +127,41 @@ const CASES: [Case; 21] = [
     // The greeting is said by call 4, and the input is taken by call 5.
     (RIGHT, b"", QUIT, 4, 0, Status::SayFault, b""),
     (RIGHT, b"", QUIT, 5, 0, Status::TakeFault, b"ok mkshell 0\n"),
+    // A sample takes no input, and is made in an empty file. Its file is attached by call 0, measured by calls 1 and 2, made by calls 3 and 4,
+    // and committed from call 5 on. Where the cap forbids the commit, call 5 says so.
+    (
+        SAMPLE,
+        b"",
+        QUIT,
+        NEVER,
+        0,
+        Status::Done,
+        b"ok sample 0 0 1\n",
+    ),
+    (
+        SAMPLE,
+        b"\x00",
+        QUIT,
+        NEVER,
+        0,
+        Status::Refused,
+        b"refused notempty\n",
+    ),
+    (SAMPLE, b"", QUIT, 1, 0, Status::DiskFault, b""),
+    (SAMPLE, b"", QUIT, 2, 0, Status::DiskFault, b""),
+    (SAMPLE, b"", QUIT, 4, 0, Status::DiskFault, b""),
+    (SAMPLE, b"", QUIT, 5, 0, Status::Done, b"err 9 disk\n"),
+    (
+        &[
+            "mkshell", "--cap", "208", "--sample", "1", "--count", "0", "f",
+        ],
+        b"",
+        QUIT,
+        5,
+        0,
+        Status::SayFault,
+        b"",
+    ),
     // The same lines, however they are cut.
     (RIGHT, b"", CUT, NEVER, 1, Status::Done, SAID),
     (RIGHT, b"", CUT, NEVER, 2, Status::Done, SAID),

@@ -11,7 +11,7 @@ type Asked = (&'static [&'static str], &'static str, Mode, u64, Task);
 /// The cap that is meant where none is given.
 const MOST: u64 = 2_147_483_632;
 
-const ASKED: [Asked; 24] = [
+const ASKED: [Asked; 27] = [
     (&["f"], "f", Mode::Write, MOST, Task::Serve),
     (&["--extend", "f"], "f", Mode::Extend, MOST, Task::Serve),
     (&["--read", "f"], "f", Mode::Read, MOST, Task::Serve),
@@ -46,6 +46,39 @@ const ASKED: [Asked; 24] = [
     (&["f", "--extend"], "f", Mode::Extend, MOST, Task::Serve),
     (&["f", "--cap", "300"], "f", Mode::Write, 300, Task::Serve),
     (&["f", "--check"], "f", Mode::Read, MOST, Task::Check),
+    // A sample, up to its bounds and with the options that it goes with.
+    (
+        &["--sample", "0", "--count", "0", "f"],
+        "f",
+        Mode::Write,
+        MOST,
+        Task::Sample {
+            number: 0,
+            count: 0,
+        },
+    ),
+    (
+        &["--count=1000000", "f", "--sample=18446744073709551615"],
+        "f",
+        Mode::Write,
+        MOST,
+        Task::Sample {
+            number: 18_446_744_073_709_551_615,
+            count: 1_000_000,
+        },
+    ),
+    (
+        &[
+            "--extend", "--cap", "300", "--sample", "7", "--count", "2000", "f",
+        ],
+        "f",
+        Mode::Extend,
+        300,
+        Task::Sample {
+            number: 7,
+            count: 2000,
+        },
+    ),
     // What stands behind `--` is no option.
     (&["--", "f"], "f", Mode::Write, MOST, Task::Serve),
     (&["--", "--read"], "--read", Mode::Write, MOST, Task::Serve),
@@ -69,7 +102,7 @@ const ASKED: [Asked; 24] = [
 ];
 
 /// Words behind the program's own name that ask for nothing.
-const ASK_NOTHING: [&[&str]; 52] = [
+const ASK_NOTHING: [&[&str]; 61] = [
     // No file, an empty name, and two files.
     &[],
     &["--read"],
@@ -121,12 +154,22 @@ const ASK_NOTHING: [&[&str]; 52] = [
     &["--check", "--extend", "f"],
     &["--check", "--cap", "300", "f"],
     &["--check", "--cap", "2147483632", "f"],
+    // A sample without its count, with `--read` or `--check`, and out of bounds.
+    &["--sample", "1", "f"],
+    &["--count", "1", "f"],
+    &["--sample", "1", "--count", "1", "--read", "f"],
+    &["--check", "--sample", "1", "--count", "1", "f"],
+    &["--check", "--count", "1", "f"],
+    &["--sample", "18446744073709551616", "--count", "1", "f"],
+    &["--sample", "1", "--count", "1000001", "f"],
+    &["--sample", "-1", "--count", "1", "f"],
+    &["--sample", "1", "--count", "01", "f"],
+    &["--sample", "1", "--sample", "1", "--count", "1", "f"],
     // Help, the version, and options that are not there.
     &["--help", "f"],
     &["-h"],
     &["--version", "f"],
     &["-V"],
-    &["--sample", "1", "--count", "1", "f"],
     &["--rea", "f"],
     &["--READ", "f"],
     &["-read", "f"],

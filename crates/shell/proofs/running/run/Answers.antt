@@ -1,8 +1,9 @@
 -- The lines that are said in place of serving, and a run in which nothing goes wrong.
-use Rattle.std.proofs.Common.{map, ap, Err}
+use Rattle.std.proofs.Common.{map, ap, refl, Err}
 use Rattle.command_line.specs.Words.{texts_of}
 use Rattle.shell.specs.Said.{usage_line}
 use Rattle.shell.proofs.Completing.{completes, ran_job}
+use Rattle.shell.proofs.Outcomes.{written}
 use Rattle.shell.proofs.Saying.{says_only}
 use Rattle.shell.proofs.running.run.Goals as goal
 
@@ -25,3 +26,6 @@ pub returns-in-Ok-clause-ran : goal.returns-in-Ok-clause-ran
 returns-in-Ok-clause-ran g c = λ tells.
     ran_job (map g.V.Viewer.meaning c.args.viewers.now) (texts_of c.args.words.now) c.in-Ok.job c.run_job.result (g.H.Disk.outside c.args.host.now) (g.H.Disk.outside c.run_job.new.host) c.in-Ok.ensures.ok
     c.run_job.ensures.right (c.run_job.ensures.ran tells)
+
+pub run_job-requires-clause-written : goal.run_job-requires-clause-written
+run_job-requires-clause-written g c = written (texts_of c.args.words.now) c.in-Ok.job c.in-Ok.job.task refl c.in-Ok.ensures.ok

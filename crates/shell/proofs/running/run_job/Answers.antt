@@ -1,7 +1,7 @@
 use Rattle.std.proofs.Common.{map, sym, subst}
 use Rattle.command_line.specs.declared.job.Task.{Task}
-use Rattle.shell.specs.Ran.{RanAs}
-use Rattle.shell.proofs.After.{ran_checking_after, ran_serving_after}
+use Rattle.shell.specs.Ran.{IsWritten, RanAs}
+use Rattle.shell.proofs.After.{ran_checking_after, ran_sampling_after, ran_serving_after}
 use Rattle.shell.proofs.running.run_job.Goals as goal
 
 pub returns-in-Serve-clause-ran : goal.returns-in-Serve-clause-ran
@@ -11,9 +11,21 @@ returns-in-Serve-clause-ran g c = λ tells.
     subst (λ (t : Task). RanAs (map g.V.Viewer.meaning c.args.viewers.now) t c.args.job.now.mode c.args.job.now.cap c.serve_file.result old new) (sym c.in-Serve.is)
     (ran_serving_after (map g.V.Viewer.meaning c.args.viewers.now) c.args.job.now.mode c.args.job.now.cap c.serve_file.result old (g.H.Disk.outside c.attach.new.host) new (c.attach.ensures.same tells) c.attach.ensures.counts.says (c.serve_file.ensures.ran tells))
 
-pub returns-clause-ran : goal.returns-clause-ran
-returns-clause-ran g c = λ tells.
+pub returns-in-Check-clause-ran : goal.returns-in-Check-clause-ran
+returns-in-Check-clause-ran g c = λ tells.
     let old = g.H.Disk.outside c.args.host.now in
     let new = g.H.Disk.outside c.check_file.new.host in
     subst (λ (t : Task). RanAs (map g.V.Viewer.meaning c.args.viewers.now) t c.args.job.now.mode c.args.job.now.cap c.check_file.result old new) (sym c.in-Check.is)
     (ran_checking_after c.check_file.result old (g.H.Disk.outside c.attach.new.host) new (c.attach.ensures.same tells) c.attach.ensures.counts.says (c.check_file.ensures.ran tells))
+
+pub sample_file-requires-clause-writes : goal.sample_file-requires-clause-writes
+sample_file-requires-clause-writes g c = subst (λ (t : Task). IsWritten t c.args.job.now.mode) c.in-Sample.is c.requires.written
+
+pub returns-clause-ran : goal.returns-clause-ran
+returns-clause-ran g c = λ tells.
+    let old = g.H.Disk.outside c.args.host.now in
+    let new = g.H.Disk.outside c.sample_file.new.host in
+    let viewers = map g.V.Viewer.meaning c.args.viewers.now in
+    subst (λ (t : Task). RanAs viewers t c.args.job.now.mode c.args.job.now.cap c.sample_file.result old new) (sym c.in-Sample.is)
+    (ran_sampling_after old (g.H.Disk.outside c.attach.new.host) new (c.attach.ensures.same tells) viewers c.in-Sample.number c.in-Sample.count c.args.job.now.mode c.args.job.now.cap c.sample_file.result
+    c.attach.ensures.counts.says (c.sample_file.ensures.ran tells))

@@ -1,0 +1,4 @@
+pub mod Edits
+pub mod Lines
+pub mod Numbers
+pub mod Stages

@@ -1,0 +1,58 @@
+use Rattle.std.proofs.Common.{◌≤◌, length, refl, sym, ap, ◌∙◌, subst, arith}
+use Rattle.std.proofs.lemmas.Result.{err_from_is_err_and}
+use Rattle.lines.specs.Lines.{max_line}
+use Rattle.sample.specs.Lines.{Left}
+use Rattle.shell.proofs.InSilence.{Reaches, reaches_more, reaches_none, refuses_one}
+use Rattle.shell.proofs.answering.answer_all.Goals as goal
+
+pub lines-init : goal.lines-init
+lines-init g c = record {
+  line = c.requires.line;
+  clear = c.requires.out;
+  ready = c.requires.ready;
+  so_far = λ tells. reaches_none (g.S.Session.machine c.args.context.now) c.args.session.now (g.H.Disk.outside c.args.host.now) c.args.sample.now.lines;
+  size = refl;
+  say_faults = refl;
+}
+
+pub lines-preserved : goal.lines-preserved
+lines-preserved g c =
+    let machine = g.S.Session.machine c.args.context.now in
+    let begin = g.H.Disk.outside c.args.host.now in
+    let old = g.H.Disk.outside c.lines.host in
+    let step = c.next_line.ensures.some c.lines-test.true in
+    let line = c.next_line.new.line.bytes in
+    let few : length line ≤ max_line = omega (arith, c.next_line.ensures.short) in
+    record {
+      line = record { empty = c.clear.ensures.empty; spare = omega (arith, c.clear.ensures.spare, c.next_line.ensures.room) };
+      clear = record { empty = c.clear-in-lines.ensures.empty; spare = omega (arith, c.clear-in-lines.ensures.spare, c.answer_one.ensures.room) };
+      ready = c.answer_one.ensures.ready;
+      so_far = λ tells.
+          reaches_more machine c.args.session.now begin c.lines.session c.answer_one.new.session old (g.H.Disk.outside c.answer_one.new.host) c.args.sample.now.lines
+          c.next_line.new.self.lines line c.answer_one.new.out.bytes few (c.answer_one.ensures.answers tells)
+          (subst (λ (left : Left). Reaches machine c.args.session.now begin c.lines.session old c.args.sample.now.lines left.lines) step (c.lines.invariant.so_far tells))
+          (c.requires.goes_on.goes_on line (c.next_line.ensures.begins c.lines-test.true)) c.in_ok-answer_one.ensures.refused;
+      size = sym (ap (λ (left : Left). left.size) step) ∙ c.lines.invariant.size;
+      say_faults = c.answer_one.ensures.say_faults ∙ c.lines.invariant.say_faults;
+    }
+
+pub returns-in_err-answer_one-clause-comes : goal.returns-in_err-answer_one-clause-comes
+returns-in_err-answer_one-clause-comes g c =
+    let machine = g.S.Session.machine c.args.context.now in
+    let begin = g.H.Disk.outside c.args.host.now in
+    let old = g.H.Disk.outside c.lines.host in
+    let step = c.next_line.ensures.some c.lines-test.true in
+    let line = c.next_line.new.line.bytes in
+    let few : length line ≤ max_line = omega (arith, c.next_line.ensures.short) in
+    let p = err_from_is_err_and c.from_residual.result c.from_residual.ensures.1 in
+    rw p.1 (λ tells.
+    let so = c.lines.invariant.so_far tells in
+    let answers = c.answer_one.ensures.answers tells in
+    record {
+      comes = refuses_one machine c.args.session.now begin c.lines.session c.answer_one.new.session old (g.H.Disk.outside c.answer_one.new.host) c.args.sample.now.lines
+          c.next_line.new.self.lines line c.answer_one.new.out.bytes few answers
+          (subst (λ (left : Left). Reaches machine c.args.session.now begin c.lines.session old c.args.sample.now.lines left.lines) step so)
+          c.in_err-answer_one.ensures.refused;
+      said = answers.said ∙ so.said;
+      input = answers.input ∙ so.input;
+    })
