@@ -1,5 +1,6 @@
 pub mod Apart
 pub mod Cells
+pub mod Chunks
 pub mod ColumnWith
 pub mod ColumnwiseHomes
 pub mod Defaults

@@ -148,6 +148,9 @@ of_parts-parts_of (views ts) = refl
 abbrev pub tables_code : Coded (List StoredTable)
 tables_code = coded_list stored_code
 
+abbrev pub chunks_code : Coded (List (List StoredTable))
+chunks_code = coded_list tables_code
+
 abbrev pub column_code : Coded StoredColumn
 column_code =
     code_by (Numbers ⊎ (Strings ⊎ List StoredTable)) (coded⊎ numbers_code (coded⊎ strings_code tables_code)) parts_of of_parts of_parts-parts_of

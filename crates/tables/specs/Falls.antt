@@ -1,5 +1,5 @@
 -- Each table inside another is smaller, so that going down into them ends.
-use Rattle.std.specs.Prelude.{◌≡◌, ℕ, ◌+◌, ◌*◌, ◌≤◌, List, [], ◌∷◌, map, All, refl}
+use Rattle.std.specs.Prelude.{◌≡◌, ℕ, ◌+◌, ◌*◌, ◌≤◌, List, [], ◌∷◌, ◌++◌, map, All, refl}
 use Rattle.std.specs.List.{AllZip}
 use Rattle.std.proofs.Common.{arith, ap, ◌∙◌}
 use Rattle.std.proofs.lemmas.List.Elements.{All-head, All-tail}
@@ -7,18 +7,24 @@ use denote.Param.Weighed.{most}
 use Rattle.mk_value.specs.Heading.{Domain, Heading, no_attributes, attribute, Attribute, attributes_of, domain_weight, heading_weight, attributes_weight}
 use Rattle.tables.specs.Tables.{StoredTable}
 use Rattle.tables.specs.Columns.{StoredColumn, integers, texts, views, IsTableOf, IsColumnOf, AreColumnsOf}
-use Rattle.tables.specs.Sizes.{shared_size, list_size, tables_size, column_size, columns_size}
+use Rattle.segments.specs.Joined.{joined}
+use Rattle.tables.specs.Sizes.{shared_size, list_size, chunk_size, spine_size, growing_size, tables_size, column_size, columns_size}
 use Rattle.tables.specs.Stored.{stored_of}
-use Rattle.tables.specs.Lists.{tables_of}
+use Rattle.tables.specs.Lists.{head_tables, tables_of}
 use Rattle.tables.specs.declared.cols.Col.{Col}
 use Rattle.tables.specs.declared.cols.Col.TheVariants.{Ints, Blobs, Views}
+use Rattle.tables.specs.declared.growing.Head.{Head}
+use Rattle.tables.specs.declared.growing.Head.TheVariants.{Empty, Chunks}
 use Rattle.tables.specs.declared.tables.Kind.{Kind}
-use Rattle.tables.specs.declared.tables.Kind.TheVariants.{Empty, Many, Own}
-use Rattle.tables.specs.declared.cols.Cols.TheDeep.{deep-Col, deep-Cols, deep-Kind, deep-Shared, deep-Table, deep-TableList, deep-Tables}
+use Rattle.tables.specs.declared.tables.Kind.TheVariants.{One, Growing}
+use Rattle.tables.specs.declared.chunk.Chunk.TheDeep.{deep-Chunk, deep-Col, deep-Cols, deep-Growing, deep-Head, deep-Kind, deep-Shared, deep-Spine, deep-Table, deep-TableList, deep-Tables}
+use Rattle.tables.specs.declared.chunk.Chunk.TheInside as chunk
 use Rattle.tables.specs.declared.cols.Cols.TheInside as cols
+use Rattle.tables.specs.declared.growing.Growing.TheInside as growing
 use Rattle.tables.specs.declared.shared.Shared.TheInside as shared
+use Rattle.tables.specs.declared.spine.Spine.TheInside as spine
 use Rattle.tables.specs.declared.table.Table.TheInside as table
-use Rattle.tables.specs.declared.tables.TableList.TheInside as list
+use Rattle.tables.specs.declared.chunk.TableList.TheInside as list
 use Rattle.tables.specs.declared.tables.Tables.TheInside as tables
 
 column_bound : (c : Col) → deep-Col c ≤ column_size (stored_of c)
@@ -43,10 +49,40 @@ most-shared (t ∷ rest) = omega (arith, most-shared rest)
 pub list_falls : (a : list.Inside) → deep-TableList a ≤ list_size a.items.items
 list_falls a = omega (arith, most-shared a.items.items)
 
+pub chunk_falls : (a : chunk.Inside) → deep-Chunk a ≤ chunk_size a.list.value
+chunk_falls a = omega arith
+
+most-chunks : (chunks : List (List StoredTable)) → most (λ ts. chunk_size ts + 1) chunks ≤ spine_size chunks
+most-chunks [] = omega arith
+most-chunks (c ∷ rest) = omega (arith, most-chunks rest)
+
+pub spine_falls : (a : spine.Inside) → deep-Spine a ≤ spine_size a.chunks.items
+spine_falls a = omega (arith, most-chunks a.chunks.items)
+
+list_size-left : (xs ys : List StoredTable) → list_size xs ≤ list_size (xs ++ ys)
+list_size-left [] ys = omega arith
+list_size-left (x ∷ xs) ys = omega (arith, list_size-left xs ys)
+
+list_size-right : (xs ys : List StoredTable) → list_size ys ≤ list_size (xs ++ ys)
+list_size-right [] ys = omega arith
+list_size-right (x ∷ xs) ys = omega (arith, list_size-right xs ys)
+
+-- the chunks together are as deep as the deepest of them
+spine_bound : (chunks : List (List StoredTable)) → spine_size chunks ≤ list_size (joined chunks) + 2
+spine_bound [] = omega arith
+spine_bound (c ∷ rest) = omega (arith, list_size-left c (joined rest), list_size-right c (joined rest), spine_bound rest)
+
+head_bound : (h : Head) → deep-Head h ≤ growing_size (head_tables h)
+head_bound Empty = omega arith
+head_bound (Chunks spine) = omega (arith, spine_bound spine.value)
+
+pub growing_falls : (a : growing.Inside) → deep-Growing a ≤ growing_size (head_tables a.head ++ a.last)
+growing_falls a =
+    omega (arith, head_bound a.head, list_size-left (head_tables a.head) a.last, list_size-right (head_tables a.head) a.last)
+
 kind_bound : (k : Kind) → deep-Kind k ≤ tables_size (tables_of k)
-kind_bound (Empty alloc) = omega arith
-kind_bound (Many list) = omega arith
-kind_bound (Own list) = omega arith
+kind_bound (One chunk) = omega arith
+kind_bound (Growing growing) = omega arith
 
 pub tables_fall : (a : tables.Inside) → deep-Tables a ≤ tables_size (tables_of a.kind)
 tables_fall a = omega (arith, kind_bound a.kind)

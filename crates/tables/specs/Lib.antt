@@ -12,5 +12,6 @@ pub mod Rests
 pub mod Rows
 pub mod Shapes
 pub mod Sizes
+pub mod Spine
 pub mod Stored
 pub mod Tables

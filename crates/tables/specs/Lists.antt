@@ -1,10 +1,17 @@
--- A list of shared tables, or none.
+-- The tables that the parts of a list hold.
 use Rattle.std.specs.Prelude.{List, []}
+use Rattle.segments.specs.Joined.{joined}
 use Rattle.tables.specs.Tables.{StoredTable}
+use Rattle.tables.specs.declared.growing.Head.{Head}
+use Rattle.tables.specs.declared.growing.Head.TheVariants.{Empty, Chunks}
 use Rattle.tables.specs.declared.tables.Kind.{Kind}
-use Rattle.tables.specs.declared.tables.Kind.TheVariants.{Empty, Many, Own}
+use Rattle.tables.specs.declared.tables.Kind.TheVariants.{One, Growing}
+
+-- those before the last chunk
+abbrev pub head_tables : Head → List StoredTable
+head_tables Empty = []
+head_tables (Chunks spine) = joined spine.value
 
 abbrev pub tables_of : Kind → List StoredTable
-tables_of (Empty alloc) = []
-tables_of (Many list) = list.value
-tables_of (Own list) = list
+tables_of (One chunk) = chunk
+tables_of (Growing growing) = growing

@@ -15,8 +15,18 @@ shared_size t = table_size t + 1
 abbrev pub list_size : List StoredTable → ℕ
 list_size ts = most (λ t. table_size t + 2) ts
 
+-- of a chunk, of the chunks of a spine, and of a list that is a spine and a chunk behind it
+abbrev pub chunk_size : List StoredTable → ℕ
+chunk_size ts = list_size ts + 1
+
+abbrev pub spine_size : List (List StoredTable) → ℕ
+spine_size chunks = most (λ ts. chunk_size ts + 1) chunks
+
+abbrev pub growing_size : List StoredTable → ℕ
+growing_size ts = list_size ts + 3
+
 abbrev pub tables_size : List StoredTable → ℕ
-tables_size ts = list_size ts + 1
+tables_size ts = growing_size ts + 1
 
 abbrev pub column_size : StoredColumn → ℕ
 column_size (integers c) = 0

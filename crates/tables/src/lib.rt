@@ -5,10 +5,13 @@
 #![tactic(auto)]
 
 mod build;
+mod chunk;
 mod cols;
 mod column;
+mod growing;
 mod prepared;
 mod shared;
+mod spine;
 mod table;
 mod tables;
 

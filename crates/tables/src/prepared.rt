@@ -9,7 +9,8 @@ ghost use Rattle.tables.specs.Prepared.{AreReady, ArePushed, HasRoomForNumber, H
 
 use crate::build::inner_of_rows;
 use crate::cols::Col;
-use crate::tables::{TableList, Tables};
+use crate::growing::{Growing, Longer};
+use crate::tables::Tables;
 use mk_value::{Kind, Memory, Prop, Rows, Value};
 use std::alloc::Global;
 use std::mem::replace;
@@ -20,7 +21,7 @@ pub(crate) enum PreparedColumn {
     Ints(int_col::PreparedPush),
     Blobs(bytes_col::PreparedPush),
     /// The list of the tables, which has the one more already.
-    Listed(TableList),
+    Listed(Longer),
     /// The tables, and the same with one more.
     Views(Tables, Tables),
 }
@@ -33,7 +34,7 @@ impl PreparedColumn {
         match self {
             PreparedColumn::Ints(push) => Col::Ints(push.finish()),
             PreparedColumn::Blobs(push) => Col::Blobs(push.finish()),
-            PreparedColumn::Listed(list) => Col::Views(Tables::of_list(list)),
+            PreparedColumn::Listed(list) => Col::Views(Tables::of_list(list.finish())),
             PreparedColumn::Views(_tables, longer) => Col::Views(longer),
         }
     }
@@ -45,10 +46,7 @@ impl PreparedColumn {
         match self {
             PreparedColumn::Ints(push) => Col::Ints(push.cancel()),
             PreparedColumn::Blobs(push) => Col::Blobs(push.cancel()),
-            PreparedColumn::Listed(mut list) => {
-                list.pop();
-                Col::Views(Tables::of_list(list))
-            }
+            PreparedColumn::Listed(list) => Col::Views(Tables::of_list(list.cancel())),
             PreparedColumn::Views(tables, _longer) => Col::Views(tables),
         }
     }
@@ -168,7 +166,7 @@ fn prepare_table(
 /// Puts the table of these rows into a list.
 fn put_in_list(
     alloc: Global,
-    mut list: TableList,
+    list: Growing,
     kind: &Kind,
     inner: &Rows,
     rows: usize,
@@ -178,9 +176,9 @@ fn put_in_list(
     ensures ok { IfOk result (IsReadyFor rows (domain_of kind.now) (datum_of (Value.V inner.now)) (views list)) }
     ensures err { IfErr result (λ same. stored_of same ≡ views list) }
 {
-    match add_table(alloc, &mut list, kind, inner) {
-        Ok(()) => Ok(PreparedColumn::Listed(list)),
-        Err(Memory) => Err(Col::Views(Tables::of_list(list))),
+    match with_table(alloc, list, kind, inner) {
+        Ok(longer) => Ok(PreparedColumn::Listed(longer)),
+        Err(list) => Err(Col::Views(Tables::of_list(list))),
     }
 }
 
@@ -208,17 +206,24 @@ fn longer(alloc: Global, tables: &Tables, kind: &Kind, rows: &Rows) -> Result<Ta
     requires { IsOf (datum_of (Value.V rows.now)) (domain_of kind.now) }
     ensures { IfOk result (IsLonger (domain_of kind.now) rows.now tables.now) }
 {
-    let mut list = tables.to_list()?;
-    add_table(alloc, &mut list, kind, rows)?;
-    Ok(Tables::of_list(list))
+    match with_table(alloc, tables.to_list()?, kind, rows) {
+        Ok(longer) => Ok(Tables::of_list(longer.finish())),
+        Err(_) => Err(Memory),
+    }
 }
 
-/// Puts the table of these rows behind those of a list.
-fn add_table(alloc: Global, list: &mut TableList, kind: &Kind, rows: &Rows) -> Result<(), Memory>
+/// A list, and behind its tables the table of these rows.
+///
+/// # Errors
+///
+/// The list as it was, for want of memory.
+fn with_table(alloc: Global, list: Growing, kind: &Kind, rows: &Rows) -> Result<Longer, Growing>
     requires { IsOf (datum_of (Value.V rows.now)) (domain_of kind.now) }
-    ensures ok { OnOk result (IsLonger (domain_of kind.now) rows.now list.old list.new) }
-    ensures err { OnErr result (list.new ≡ list.old) }
+    ensures ok { IfOk result (IsLonger (domain_of kind.now) rows.now list) }
+    ensures err { IfErr result (λ same. same ≡ list) }
 {
-    let table = inner_of_rows(alloc, kind, rows)?;
-    list.push(table)
+    match inner_of_rows(alloc, kind, rows) {
+        Ok(table) => list.with(table),
+        Err(Memory) => Err(list),
+    }
 }

@@ -1,5 +1,5 @@
 use Rattle.std.proofs.Common.{◌≡◌, ◌++◌, replicate}
-use Rattle.tables.proofs.tables.push_copies.Given as goal
+use Rattle.tables.proofs.chunk.push_copies.Given as goal
 
 -- the copies so far stand behind the tables that were there
 abbrev pub invariant-loop : goal.invariant-loop
