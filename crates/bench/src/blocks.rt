@@ -1,11 +1,10 @@
 //! Times the blocks of columns: their bytes written whole and in pieces, and columns made of them, in megabytes a second.
 
-use crate::columns::random_integers;
+use crate::columns::{SPREADS, Spread, samples};
 use anyhow::{Result, ensure};
 use bit_pack::Width;
 use bytes_col::{BytesCol, Memos};
-use int_col::IntCol;
-use mk_value::Memory;
+use int_col::{IntCol, PackedBytes};
 use std::alloc::Global;
 use std::rt::Clock;
 use std::time::Instant;
@@ -21,93 +20,138 @@ const TEXT: i64 = 20;
 /// How many bytes are written at a time.
 const PIECE: usize = 4_096;
 
+/// The column of these values.
+fn column_of(alloc: Global, values: &[i64]) -> Result<IntCol> {
+    ensure!(values.len() <= INTEGERS, "too many values");
+    Ok(IntCol::from_values(alloc, values, None)?)
+}
+
+/// A column of integers of a width.
+fn integers(alloc: Global, spread: Spread) -> Result<IntCol> {
+    column_of(alloc, &samples(alloc, spread, INTEGERS)?)
+}
+
+/// Room for so many bytes.
+fn room(alloc: Global, len: usize) -> Result<Vec<u8>> {
+    Ok(vec![in alloc; 0u8; len]?)
+}
+
+/// Writes as many of the bytes that are left as the room takes, and gives the first of them. Where none is left there is none.
+fn write_piece(rest: &mut PackedBytes<'_>, room: &mut [u8]) -> Option<u8> {
+    let len = rest.len().min(room.len());
+    if len == 0 {
+        return None;
+    }
+    rest.fill(&mut room[..len]);
+    Some(room[0])
+}
+
 /// Writes the packed bytes of a column, as many at a time as the room takes, and gives the sum of the first ones.
 fn write_packed(column: &IntCol, room: &mut [u8]) -> u64 {
     let mut rest = column.packed();
     let mut sum = 0u64;
     for _piece in 0..INTEGERS {
-        let len = rest.len().min(room.len());
-        if len == 0 {
+        let Some(first) = write_piece(&mut rest, room) else {
             break;
-        }
-        rest.fill(&mut room[..len]);
-        sum = sum.wrapping_add(u64::from(room[0]));
+        };
+        sum = sum.wrapping_add(u64::from(first));
     }
     sum
 }
 
-/// Room for so many bytes.
-fn room(alloc: Global, len: usize) -> Result<Vec<u8>, Memory> {
-    let mut room = Vec::with_capacity(alloc, len)?;
-    for _byte in 0..len {
-        room.push(0)?;
-    }
-    Ok(room)
-}
-
 /// Prints the megabytes a second since `start`.
 fn print_speed<R: Clock + Print>(rt: &R, what: &str, start: &Instant, bytes: usize) -> Result<()> {
-    let megabytes = f64::from(u32::try_from(bytes)?) / 1e6;
+    let megabytes = f64::from(u32::try_from(bytes).unwrap_or(u32::MAX)) / 1e6;
     let speed = megabytes / start.elapsed(rt)?.as_secs_f64();
     print!(rt; " {what} {speed:.0}")?;
     Ok(())
 }
 
-/// Times a column of integers of the width, and prints a line.
-fn time_integers<R: Clock + Print + AllocGlobal>(rt: &R, width: Width) -> Result<()> {
-    let values = random_integers(rt.alloc(), width, INTEGERS)?;
-    ensure!(values.len() <= INTEGERS, "too many values");
-    let column = IntCol::from_values(rt.alloc(), &values, None)?;
-    drop(values);
-    print!(rt; "{} bits:", width.bits())?;
-    let bytes = column.packed().len();
-    let mut whole = room(rt.alloc(), bytes)?;
+/// Times the packed bytes of a column written as many at a time as the room takes. The sum keeps what was written.
+fn time_writing<R: Clock + Print>(
+    rt: &R,
+    what: &str,
+    column: &IntCol,
+    room: &mut [u8],
+) -> Result<()> {
     let start = Instant::now(rt)?;
-    let first = write_packed(&column, &mut whole);
-    print_speed(rt, "whole", &start, bytes)?;
-    let mut piece = room(rt.alloc(), PIECE)?;
-    let start = Instant::now(rt)?;
-    let sum = write_packed(&column, &mut piece);
-    print_speed(rt, "in_pieces", &start, bytes)?;
-    time_packed(rt, column.width(), &whole)?;
-    println!(rt; " ({})", first.wrapping_add(sum))?;
+    let sum = write_packed(column, room);
+    print_speed(rt, what, &start, column.packed().len())?;
+    print!(rt; " ({sum})")?;
     Ok(())
 }
 
-/// Times a column made of packed bytes.
-fn time_packed<R: Clock + Print + AllocGlobal>(rt: &R, width: Width, bytes: &[u8]) -> Result<()> {
+/// Times the packed bytes of a column of integers, and prints a line.
+fn time_integers<R: Clock + Print + AllocGlobal>(rt: &R, spread: Spread) -> Result<()> {
+    print!(rt; "{} bits:", spread.bits)?;
+    let column = integers(rt.alloc(), spread)?;
+    time_room(rt, "in_pieces", &column, PIECE)?;
+    let bytes = time_room(rt, "whole", &column, column.packed().len())?;
+    time_packed(rt, &column, &bytes)
+}
+
+/// Times the packed bytes of a column written into room for so many bytes, and gives what was written last.
+fn time_room<R: Clock + Print + AllocGlobal>(
+    rt: &R,
+    what: &str,
+    column: &IntCol,
+    len: usize,
+) -> Result<Vec<u8>> {
+    let mut room = room(rt.alloc(), len)?;
+    time_writing(rt, what, column, &mut room)?;
+    Ok(room)
+}
+
+/// The column of so many packed integers.
+fn unpacked(alloc: Global, width: Width, bytes: &[u8]) -> Result<IntCol> {
+    Ok(IntCol::from_packed(alloc, width, INTEGERS, bytes, None)?)
+}
+
+/// Times a column made of the packed bytes of another, and ends the line.
+fn time_packed<R: Clock + Print + AllocGlobal>(
+    rt: &R,
+    column: &IntCol,
+    bytes: &[u8],
+) -> Result<()> {
     let start = Instant::now(rt)?;
-    let column = IntCol::from_packed(rt.alloc(), width, INTEGERS, bytes, None)?;
+    let copy = unpacked(rt.alloc(), column.width(), bytes)?;
     print_speed(rt, "from_packed", &start, bytes.len())?;
-    print!(rt; " {}", column.len())?;
+    println!(rt; " ({})", copy.len())?;
     Ok(())
 }
 
 /// Times a column of texts made of its blocks, and prints a line.
 fn time_texts<R: Clock + Print + AllocGlobal>(rt: &R) -> Result<()> {
-    let mut values = Vec::with_capacity(rt.alloc(), TEXTS)?;
-    for _text in 0..TEXTS {
-        values.push(TEXT)?;
-    }
-    ensure!(values.len() <= INTEGERS, "too many values");
-    let sizes = IntCol::from_values(rt.alloc(), &values, None)?;
+    let sizes = text_sizes(rt.alloc())?;
     let short = room(rt.alloc(), TEXTS * TEXT as usize)?;
-    let memos = Memos::new(rt.alloc());
     print!(rt; "{TEXT} bytes:")?;
+    time_blocks(rt, &sizes, &short)
+}
+
+/// How long each text is.
+fn text_sizes(alloc: Global) -> Result<IntCol> {
+    column_of(alloc, &vec![in alloc; TEXT; TEXTS]?)
+}
+
+/// The column of texts of these sizes and bytes.
+fn from_blocks(alloc: Global, sizes: &IntCol, short: &[u8]) -> Result<BytesCol> {
+    let memos = Memos::new(alloc);
+    Ok(BytesCol::from_blocks(alloc, sizes, short, &memos, None)?)
+}
+
+/// Times a column made of the sizes of its texts and of their bytes, and ends the line.
+fn time_blocks<R: Clock + Print + AllocGlobal>(rt: &R, sizes: &IntCol, short: &[u8]) -> Result<()> {
     let start = Instant::now(rt)?;
-    let column = BytesCol::from_blocks(rt.alloc(), &sizes, &short, &memos, None)?;
+    let column = from_blocks(rt.alloc(), sizes, short)?;
     print_speed(rt, "from_blocks", &start, short.len())?;
     println!(rt; " ({})", column.len())?;
     Ok(())
 }
 
-/// The widths that are timed.
-static WIDTHS: [Width; 5] = [Width::W1, Width::W8, Width::W16, Width::W32, Width::W64];
-
 /// Times the blocks of columns of integers at each width, and of texts.
 pub fn measure_all<R: Clock + Print + AllocGlobal>(rt: &R) -> Result<()> {
-    for width in &WIDTHS {
-        time_integers(rt, *width)?;
+    for spread in &SPREADS {
+        time_integers(rt, *spread)?;
     }
     time_texts(rt)
 }

@@ -4,11 +4,12 @@ mod integers;
 pub mod random;
 mod texts;
 
+use self::integers::Integers;
+pub use self::integers::{SPREADS, Spread, samples};
+use self::texts::Texts;
+use crate::clock::nanoseconds_each;
 use anyhow::Result;
-use bit_pack::Width;
-use bytes_col::BytesCol;
-use int_col::IntCol;
-pub use integers::samples as random_integers;
+use mk_value::Memory;
 use std::rt::Clock;
 use std::time::Instant;
 
@@ -21,164 +22,152 @@ const MEMOS: u32 = 131_072;
 /// How many edits in the middle, or of a shared column, are timed.
 const EDITS: u32 = 1_000;
 
-/// Prints what was timed, and the nanoseconds a call since `start`.
-fn print_time<R: Clock + Print>(rt: &R, what: &str, start: &Instant, calls: u32) -> Result<()> {
-    let ns = start.elapsed(rt)?.as_secs_f64() * 1e9 / f64::from(calls);
-    print!(rt; " {what} {ns:.1}")?;
-    Ok(())
+/// How the values of a column are read.
+#[derive(Clone, Copy)]
+pub enum Reading {
+    /// In order.
+    Order,
+    /// As many as there are, at random places.
+    Random,
+    /// Compared at random places.
+    Compare,
 }
 
-/// Times the calls of a column of integers of the width, and prints a line. The sum keeps what was read.
-fn time_integers<R: Clock + Print + AllocGlobal>(rt: &R, width: Width) -> Result<()> {
-    print!(rt; "{} bits:", width.bits())?;
-    let values = integers::samples(rt.alloc(), width, COUNT as usize)?;
-    let start = Instant::now(rt)?;
-    let mut column = integers::append_all(rt.alloc(), &values)?;
-    print_time(rt, "append", &start, COUNT)?;
-    let read = time_integer_reads(rt, &column)?;
-    time_integer_edits(rt, &mut column, &values)?;
-    let sum = read.wrapping_add(integers::sum_in_order(&column));
-    println!(rt; " ({sum})")?;
-    Ok(())
+/// What is done to all values of a column one after another, or to so many as edits are timed.
+#[derive(Clone, Copy)]
+pub enum Edit {
+    /// Put in at the end.
+    Append,
+    /// Set in order.
+    Set,
+    /// Set at random places.
+    SetRandom,
+    /// Set in order, to a text that is longer.
+    SetLonger,
+    /// Put in, in the middle.
+    Insert,
+    /// Taken out of the middle.
+    Remove,
+    /// Set at random places, each beside a copy of the column, which goes after it.
+    Shared,
 }
 
-/// Times what reads a column of integers, and gives the sum of what was read.
-fn time_integer_reads<R: Clock + Print>(rt: &R, column: &IntCol) -> Result<i64> {
-    let start = Instant::now(rt)?;
-    let in_order = integers::sum_in_order(column);
-    print_time(rt, "order", &start, COUNT)?;
-    let start = Instant::now(rt)?;
-    let at_random = integers::sum_at_random(column, COUNT as usize);
-    print_time(rt, "random", &start, COUNT)?;
-    Ok(in_order.wrapping_add(at_random))
+#[derive(Clone, Copy)]
+enum Step {
+    Read(Reading),
+    Edit(Edit),
 }
 
-/// Times what edits a column of integers.
-fn time_integer_edits<R: Clock + Print>(rt: &R, column: &mut IntCol, values: &[i64]) -> Result<()> {
-    time_integer_sets(rt, column, values)?;
-    time_integer_moves(rt, column, values)?;
-    let start = Instant::now(rt)?;
-    integers::set_where_shared(column, values, EDITS as usize)?;
-    print_time(rt, "shared", &start, EDITS)
+/// A column that is timed.
+pub trait Timed {
+    /// What is read, added up, so that it is read indeed.
+    fn read(&self, how: Reading) -> Result<u64, Memory>;
+
+    fn edit(&mut self, edit: Edit) -> Result<(), Memory>;
 }
 
-/// Times what sets values of a column of integers that nothing shares.
-fn time_integer_sets<R: Clock + Print>(rt: &R, column: &mut IntCol, values: &[i64]) -> Result<()> {
-    let start = Instant::now(rt)?;
-    integers::set_in_order(column, values)?;
-    print_time(rt, "set", &start, COUNT)?;
-    let start = Instant::now(rt)?;
-    integers::set_at_random(column, values)?;
-    print_time(rt, "set_random", &start, COUNT)
+/// What is timed, and how many calls a step takes where it does not go over all values.
+static OF_INTEGERS: [(&str, Step, Option<u32>); 8] = [
+    ("append", Step::Edit(Edit::Append), None),
+    ("order", Step::Read(Reading::Order), None),
+    ("random", Step::Read(Reading::Random), None),
+    ("set", Step::Edit(Edit::Set), None),
+    ("set_random", Step::Edit(Edit::SetRandom), None),
+    ("insert", Step::Edit(Edit::Insert), Some(EDITS)),
+    ("remove", Step::Edit(Edit::Remove), Some(EDITS)),
+    ("shared", Step::Edit(Edit::Shared), Some(EDITS)),
+];
+
+static OF_TEXTS: [(&str, Step, Option<u32>); 10] = [
+    ("append", Step::Edit(Edit::Append), None),
+    ("order", Step::Read(Reading::Order), None),
+    ("random", Step::Read(Reading::Random), None),
+    ("compare", Step::Read(Reading::Compare), None),
+    ("set", Step::Edit(Edit::Set), None),
+    ("set_random", Step::Edit(Edit::SetRandom), None),
+    ("set_longer", Step::Edit(Edit::SetLonger), None),
+    ("insert", Step::Edit(Edit::Insert), Some(EDITS)),
+    ("remove", Step::Edit(Edit::Remove), Some(EDITS)),
+    ("shared", Step::Edit(Edit::Shared), Some(EDITS)),
+];
+
+/// Carries out a step, and gives what it reads, added up.
+fn carry_out<C: Timed>(column: &mut C, step: Step) -> Result<u64, Memory> {
+    match step {
+        Step::Read(how) => column.read(how),
+        Step::Edit(edit) => {
+            column.edit(edit)?;
+            Ok(0)
+        }
+    }
 }
 
-/// Times what puts values into a column of integers and takes them out.
-fn time_integer_moves<R: Clock + Print>(rt: &R, column: &mut IntCol, values: &[i64]) -> Result<()> {
-    let start = Instant::now(rt)?;
-    integers::insert_in_the_middle(column, values, EDITS as usize)?;
-    print_time(rt, "insert", &start, EDITS)?;
-    let start = Instant::now(rt)?;
-    integers::remove_in_the_middle(column, EDITS as usize)?;
-    print_time(rt, "remove", &start, EDITS)
-}
-
-/// Times the calls of a column of so many copies of a text, and prints a line. The sum keeps what was read.
-fn time_texts<R: Clock + Print + AllocGlobal>(
+/// Carries out a step, prints the nanoseconds a call, and gives what was read, added up.
+fn time_step<R: Clock + Print, C: Timed>(
     rt: &R,
-    text: &[u8],
-    longer: &[u8],
-    count: u32,
-) -> Result<()> {
-    print!(rt; "{} bytes:", text.len())?;
-    let start = Instant::now(rt)?;
-    let mut column = texts::append_all(rt.alloc(), text, count as usize)?;
-    print_time(rt, "append", &start, count)?;
-    let sum = time_text_reads(rt, &column, text, count)?;
-    time_text_edits(rt, &mut column, text, longer, count)?;
-    println!(rt; " ({sum})")?;
-    Ok(())
-}
-
-/// Times what reads a column of texts, and gives the sum of what was read.
-fn time_text_reads<R: Clock + Print>(
-    rt: &R,
-    column: &BytesCol,
-    text: &[u8],
-    count: u32,
+    column: &mut C,
+    what: &str,
+    step: Step,
+    calls: u32,
 ) -> Result<u64> {
     let start = Instant::now(rt)?;
-    let in_order = texts::sum_in_order(column)?;
-    print_time(rt, "order", &start, count)?;
-    let start = Instant::now(rt)?;
-    let at_random = texts::sum_at_random(column, count as usize)?;
-    print_time(rt, "random", &start, count)?;
-    let start = Instant::now(rt)?;
-    let equal = texts::count_equal(column, text, count as usize);
-    print_time(rt, "compare", &start, count)?;
-    Ok(in_order.wrapping_add(at_random).wrapping_add(equal))
+    let sum = carry_out(column, step)?;
+    let ns = nanoseconds_each(rt, &start, calls)?;
+    print!(rt; " {what} {ns:.1}")?;
+    Ok(sum)
 }
 
-/// Times what edits a column of texts, with a text that is one byte longer at last.
-fn time_text_edits<R: Clock + Print>(
+/// Times the steps of a column that is empty and gets so many values, and ends the line.
+fn time_steps<R: Clock + Print, C: Timed>(
     rt: &R,
-    column: &mut BytesCol,
-    text: &[u8],
-    longer: &[u8],
+    column: &mut C,
+    steps: &[(&str, Step, Option<u32>)],
     count: u32,
 ) -> Result<()> {
-    time_text_sets(rt, column, text, count)?;
-    let start = Instant::now(rt)?;
-    texts::set_in_order(column, longer)?;
-    print_time(rt, "set_longer", &start, count)?;
-    time_text_moves(rt, column, text)?;
-    let start = Instant::now(rt)?;
-    texts::set_where_shared(column, text, EDITS as usize)?;
-    print_time(rt, "shared", &start, EDITS)
+    let mut sum = 0u64;
+    for (what, step, calls) in steps {
+        let read = time_step(rt, column, what, *step, calls.unwrap_or(count))?;
+        sum = sum.wrapping_add(read);
+    }
+    println!(rt; " ({sum})")?;
+    Ok(())
 }
 
-/// Times what sets texts of a column that nothing shares, to one as long.
-fn time_text_sets<R: Clock + Print>(
-    rt: &R,
-    column: &mut BytesCol,
-    text: &[u8],
-    count: u32,
-) -> Result<()> {
-    let start = Instant::now(rt)?;
-    texts::set_in_order(column, text)?;
-    print_time(rt, "set", &start, count)?;
-    let start = Instant::now(rt)?;
-    texts::set_at_random(column, text, count as usize)?;
-    print_time(rt, "set_random", &start, count)
+/// Times the calls of a column of these integers.
+fn time_values<R: Clock + Print + AllocGlobal>(rt: &R, values: &[i64]) -> Result<()> {
+    let mut column = Integers::new(rt.alloc(), values)?;
+    time_steps(rt, &mut column, &OF_INTEGERS, COUNT)
 }
 
-/// Times what puts texts into a column and takes them out.
-fn time_text_moves<R: Clock + Print>(rt: &R, column: &mut BytesCol, text: &[u8]) -> Result<()> {
-    let start = Instant::now(rt)?;
-    texts::insert_in_the_middle(column, text, EDITS as usize)?;
-    print_time(rt, "insert", &start, EDITS)?;
-    let start = Instant::now(rt)?;
-    texts::remove_in_the_middle(column, EDITS as usize)?;
-    print_time(rt, "remove", &start, EDITS)
+/// Times the calls of a column of integers, and prints a line.
+fn time_integers<R: Clock + Print + AllocGlobal>(rt: &R, spread: Spread) -> Result<()> {
+    print!(rt; "{} bits:", spread.bits)?;
+    time_values(rt, &samples(rt.alloc(), spread, COUNT as usize)?)
 }
 
-/// The widths that are timed.
-static WIDTHS: [Width; 7] = [
-    Width::W1,
-    Width::W2,
-    Width::W4,
-    Width::W8,
-    Width::W16,
-    Width::W32,
-    Width::W64,
-];
+/// Times the calls of a column of so many copies of a text, which is all but the last byte of a longer one.
+fn time_copies<R: Clock + Print + AllocGlobal>(rt: &R, longer: &[u8], count: u32) -> Result<()> {
+    let mut column = Texts::new(rt.alloc(), longer, count as usize)?;
+    time_steps(rt, &mut column, &OF_TEXTS, count)
+}
+
+/// Times the calls of a column of texts of so many bytes, and prints a line.
+fn time_texts<R: Clock + Print + AllocGlobal>(rt: &R, len: usize, count: u32) -> Result<()> {
+    print!(rt; "{len} bytes:")?;
+    let longer = vec![in rt.alloc(); b'x'; len.saturating_add(1)]?;
+    time_copies(rt, &longer, count)
+}
+
+/// The lengths of texts that are timed, and how many there are.
+static LENGTHS: [(usize, u32); 3] = [(5, COUNT), (100, COUNT), (600, MEMOS)];
 
 /// Times all calls, at each width and at three lengths of texts.
 pub fn measure_all<R: Clock + Print + AllocGlobal>(rt: &R) -> Result<()> {
-    for width in &WIDTHS {
-        time_integers(rt, *width)?;
+    for spread in &SPREADS {
+        time_integers(rt, *spread)?;
     }
-    time_texts(rt, &[b'x'; 5], &[b'x'; 6], COUNT)?;
-    time_texts(rt, &[b'x'; 100], &[b'x'; 101], COUNT)?;
-    time_texts(rt, &[b'x'; 600], &[b'x'; 601], MEMOS)?;
+    for (len, count) in &LENGTHS {
+        time_texts(rt, *len, *count)?;
+    }
     Ok(())
 }

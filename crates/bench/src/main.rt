@@ -1,13 +1,15 @@
 //! Times what the store is made of, in nanoseconds a call, a row or an event.
 //!
 //! `bench columns` times columns of integers and of texts, `bench blocks` their bytes, `bench nested` edits inside a row, `bench operators`
-//! the operators, and `bench watches` what follows the events of a table. Without a word the operators go over a few rows, and what they answer is printed without times.
+//! the operators, `bench pairs none`, `size` and `rows` a join of sixteen million pairs, and `bench watches` what follows the events of a table. Without a word the operators go over a few rows, and what they answer is printed without times.
 #![tactic(auto)]
 
 mod blocks;
+mod clock;
 mod columns;
 mod nested;
 mod operators;
+mod structures;
 mod watches;
 
 use anyhow::{Result, bail};
@@ -21,7 +23,11 @@ fn main(rt: HostRuntime) -> Result<()> {
         Some("columns") => columns::measure_all(&rt),
         Some("nested") => nested::measure_all(&rt),
         Some("operators") => operators::measure_all(&rt),
+        Some("pairs") => operators::list_pairs(
+            &rt,
+            words.get(2).map_or("none", |word| word.as_str()),
+        ),
         Some("watches") => watches::measure_all(&rt),
-        Some(_) => bail!("the words are blocks, columns, nested, operators or watches"),
+        Some(_) => bail!("the words are blocks, columns, nested, operators, pairs or watches"),
     }
 }

@@ -1,38 +1,39 @@
 //! Times rows put into a view inside the middle row of a long one, while another copy of all is held.
 
-use anyhow::{Result, bail};
-use mk_value::{Name, Path, Row, Step, Value};
+use crate::clock::nanoseconds_each;
+use crate::structures::{name, structure};
+use anyhow::{Result, ensure};
+use mk_value::{MAX_ROWS, Path, Row, Step, Value};
 use std::alloc::Global;
 use std::rt::Clock;
 use std::time::Instant;
-use struct_text::parse;
 use tables::empty_table;
 use view_store::{Root, structure_fits};
 
 /// How many rows are put in, one after another.
 const EDITS: u32 = 1_000;
 
-/// The path to the view, and to that inside its middle row.
-fn paths(alloc: Global, size: usize) -> Result<(Path, Path)> {
-    let view = Path::new(alloc, Name::of("t")?);
-    let mut inner = Path::new(alloc, Name::of("t")?);
-    let row = size as u64 / 2;
-    inner.push(Step {
-        row,
-        prop: Name::of("v")?,
-    })?;
-    Ok((view, inner))
+/// The path to the view.
+fn outer(alloc: Global) -> Result<Path> {
+    Ok(Path::new(alloc, name(b"t")?))
 }
 
-/// A view of so many rows, with a view inside each.
-fn views(alloc: Global, path: &Path, size: usize) -> Result<Root> {
-    let (name, schema) = parse(alloc, "t[k:I,v[x:I,s:S]]")?;
+/// The path to the view inside a row.
+fn inner(alloc: Global, row: u32) -> Result<Path> {
+    let mut path = outer(alloc)?;
+    path.push(Step {
+        row: u64::from(row),
+        prop: name(b"v")?,
+    })?;
+    Ok(path)
+}
+
+/// A view without rows, each of which may have a view inside.
+fn empty_view(alloc: Global) -> Result<Root> {
+    let (name, schema) = structure(alloc, "t[k:I,v[x:I,s:S]]")?;
+    ensure!(structure_fits(&name, &schema), "too long a structure");
     let mut root = Root::new(alloc);
-    if size > 16_777_216 || !structure_fits(&name, &schema) {
-        bail!("too large a view");
-    }
     root.put_view(&name, empty_table(alloc, &schema)?)?;
-    root.insert_rows(path, 0, &row(alloc)?, size)?;
     Ok(root)
 }
 
@@ -43,34 +44,53 @@ fn row(alloc: Global) -> Result<Row> {
     Ok(row)
 }
 
+/// Puts a row in so many times, at the front.
+fn put_row(root: &mut Root, path: &Path, row: &Row, count: u32) -> Result<()> {
+    let count = count as usize;
+    ensure!(count <= MAX_ROWS, "too many rows");
+    root.insert_rows(path, 0, row, count)?;
+    Ok(())
+}
+
 /// Puts rows into the view of a path, each while another copy of the views is held.
-fn put_rows(alloc: Global, root: &mut Root, path: &Path) -> Result<()> {
-    let row = row(alloc)?;
+fn put_rows(root: &mut Root, path: &Path, row: &Row) -> Result<()> {
     for _edit in 0..EDITS {
         let held = root.same()?;
-        root.insert_rows(path, 0, &row, 1)?;
+        put_row(root, path, row, 1)?;
         drop(held);
     }
     Ok(())
 }
 
+/// A view of so many rows, each with a view inside.
+fn views(alloc: Global, count: u32) -> Result<Root> {
+    let mut root = empty_view(alloc)?;
+    put_row(&mut root, &outer(alloc)?, &row(alloc)?, count)?;
+    Ok(root)
+}
+
 /// Times the edits at so many rows, and prints a line.
-fn time_edits<R: Clock + Print + AllocGlobal>(rt: &R, size: usize) -> Result<()> {
-    let (view, inner) = paths(rt.alloc(), size)?;
-    let mut root = views(rt.alloc(), &view, size)?;
+fn time_edits<R: Clock + Print + AllocGlobal>(rt: &R, count: u32) -> Result<()> {
+    let path = inner(rt.alloc(), count / 2)?;
+    let mut root = views(rt.alloc(), count)?;
+    let row = row(rt.alloc())?;
     let start = Instant::now(rt)?;
-    put_rows(rt.alloc(), &mut root, &inner)?;
-    let us = start.elapsed(rt)?.as_secs_f64() * 1e6 / f64::from(EDITS);
+    put_rows(&mut root, &path, &row)?;
+    let us = nanoseconds_each(rt, &start, EDITS)? / 1e3;
     println!(rt;
-        "{size} rows: {us:.1} us, {} rows inside",
-        root.size(&inner)?
+        "{count} rows: {us:.1} us, {} rows inside",
+        root.size(&path)?
     )?;
     Ok(())
 }
 
-/// Times the edits over a hundred thousand, a million and four million rows.
+/// How many rows a view has.
+static SIZES: [u32; 3] = [100_000, 1_000_000, 4_000_000];
+
+/// Times the edits at each size.
 pub fn measure_all<R: Clock + Print + AllocGlobal>(rt: &R) -> Result<()> {
-    time_edits(rt, 100_000)?;
-    time_edits(rt, 1_000_000)?;
-    time_edits(rt, 4_000_000)
+    for size in &SIZES {
+        time_edits(rt, *size)?;
+    }
+    Ok(())
 }

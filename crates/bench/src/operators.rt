@@ -1,13 +1,21 @@
-//! Times the operators over a million rows that are held plainly, and prints for each operator the nanoseconds a row until it has
-//! answered, those until each value of the answer was copied out too, the rows that it answers, and what their values add up to.
+//! Times the operators over a million rows in columns.
+//!
+//! For each operator it prints the nanoseconds a row until it has answered, those until each value of the answer was copied out too, the
+//! rows that it answers, and what their values add up to. For each chain of operators, and for the table alone, it prints the nanoseconds
+//! in which a number and a text are read, cell by cell in order.
 
-pub mod rows;
+mod chain;
+mod pairs;
+mod rows;
 mod task;
 mod total;
 
-use self::rows::orders;
+use self::chain::CHAINS;
+pub use self::pairs::list_pairs;
+use self::rows::{Relation, Tables, make_tables, relation};
 use self::task::{TASKS, Task};
-use self::total::total;
+use self::total::{column_total, total};
+use crate::clock::nanoseconds_each;
 use anyhow::Result;
 use mk_value::TableRead;
 use std::rt::Clock;
@@ -19,44 +27,61 @@ const MANY: u32 = 1_000_000;
 /// The rows that are gone over without a clock.
 const FEW: u32 = 10_000;
 
-/// Does a task over a few rows, and prints its name and what is answered.
-fn list<R: Print + AllocGlobal>(rt: &R, task: Task) -> Result<()> {
-    let base = orders(rt.alloc(), FEW)?;
-    let answer = task.run(rt.alloc(), base)?;
+/// Does a task, and prints its name and what is answered.
+fn list<R: Print + AllocGlobal>(rt: &R, tables: &Tables, task: Task) -> Result<()> {
+    let answer = task.run(rt.alloc(), tables)?;
     let (size, sum) = (answer.size(), total(&answer)?);
     println!(rt; "{task:?} {size} {sum}")?;
     Ok(())
 }
 
-/// Does a task over many rows, and prints its name, the times and what is answered. The table is made before.
-fn measure<R: Clock + Print + AllocGlobal>(rt: &R, task: Task) -> Result<()> {
-    let base = orders(rt.alloc(), MANY)?;
+/// Does a task, and prints its name, the times and what is answered.
+fn measure<R: Clock + Print + AllocGlobal>(rt: &R, tables: &Tables, task: Task) -> Result<()> {
     let start = Instant::now(rt)?;
-    let answer = task.run(rt.alloc(), base)?;
-    let answered = nanoseconds_a_row(rt, &start)?;
+    let answer = task.run(rt.alloc(), tables)?;
+    let answered = nanoseconds_each(rt, &start, MANY)?;
     let sum = total(&answer)?;
-    let read = nanoseconds_a_row(rt, &start)?;
-    let size = answer.size();
-    println!(rt; "{task:?} {answered:.1} {read:.1} {size} {sum}")?;
+    let read = nanoseconds_each(rt, &start, MANY)?;
+    println!(rt; "{task:?} {answered:.1} {read:.1} {} {sum}", answer.size())?;
     Ok(())
 }
 
-fn nanoseconds_a_row(rt: &impl Clock, start: &Instant) -> Result<f64> {
-    Ok(start.elapsed(rt)?.as_secs_f64() * 1e9 / f64::from(MANY))
+/// Reads the numbers and then the texts of a table, and prints the times and what the values add up to.
+fn measure_cells<R: Clock + Print>(rt: &R, what: &str, table: &Relation) -> Result<()> {
+    let start = Instant::now(rt)?;
+    let numbers = column_total(table, 0)?;
+    let number = nanoseconds_each(rt, &start, MANY)?;
+    let start = Instant::now(rt)?;
+    let texts = column_total(table, 1)?;
+    let text = nanoseconds_each(rt, &start, MANY)?;
+    println!(rt; "cells {what} {number:.2} {text:.2} {numbers} {texts}")?;
+    Ok(())
 }
 
-/// Times each task.
-pub fn measure_all<R: Clock + Print + AllocGlobal>(rt: &R) -> Result<()> {
-    for task in TASKS {
-        measure(rt, task)?;
+/// Reads cells of the table alone, and through each chain.
+fn measure_chains<R: Clock + Print + AllocGlobal>(rt: &R, tables: &Tables) -> Result<()> {
+    measure_cells(rt, "alone", &relation(&tables.orders)?)?;
+    for chain in &CHAINS {
+        let table = chain.over(rt.alloc(), relation(&tables.orders)?)?;
+        measure_cells(rt, chain.name, &table)?;
     }
     Ok(())
 }
 
+/// Times each task, and then the chains.
+pub fn measure_all<R: Clock + Print + AllocGlobal>(rt: &R) -> Result<()> {
+    let tables = make_tables(rt.alloc(), MANY)?;
+    for task in &TASKS {
+        measure(rt, &tables, *task)?;
+    }
+    measure_chains(rt, &tables)
+}
+
 /// Does each task over a few rows.
 pub fn list_all<R: Print + AllocGlobal>(rt: &R) -> Result<()> {
-    for task in TASKS {
-        list(rt, task)?;
+    let tables = make_tables(rt.alloc(), FEW)?;
+    for task in &TASKS {
+        list(rt, &tables, *task)?;
     }
     Ok(())
 }

@@ -70,43 +70,71 @@ fn time_follower<R: Clock + Print + AllocGlobal, F: Follower + Drop, L: Ledger>(
     Ok(())
 }
 
-/// Times watches by what they show, each over the one before, and prints a line.
-fn time_watches<R: Clock + Print + AllocGlobal, L: Ledger>(
+/// Watches by what they show, each over the one before.
+static CHAINS: [(&str, &[Shown]); 5] = [
+    ("selection", &[Shown::LowerAmounts]),
+    ("sorting", &[Shown::ByAmount]),
+    ("chain_of_2", &[Shown::LowerAmounts, Shown::ByNumber]),
+    (
+        "chain_of_3",
+        &[Shown::LowerAmounts, Shown::ByNumber, Shown::LowerNumbers],
+    ),
+    (
+        "chain_of_4",
+        &[
+            Shown::LowerAmounts,
+            Shown::ByNumber,
+            Shown::LowerNumbers,
+            Shown::ByAmount,
+        ],
+    ),
+];
+
+/// Times each chain of watches.
+fn time_chains<R: Clock + Print + AllocGlobal, L: Ledger>(
     rt: &R,
-    what: &str,
-    shown: &[Shown],
     size: u32,
     steps: &mut Steps<L>,
 ) -> Result<()> {
-    let table = numbers::table(rt.alloc(), size)?;
-    let chain = watch_chain(rt.alloc(), table, shown)?;
-    time_follower(rt, what, chain, Places::Anywhere, steps)
+    for (what, shown) in &CHAINS {
+        let table = numbers::table(rt.alloc(), size)?;
+        let chain = watch_chain(rt.alloc(), table, shown)?;
+        time_follower(rt, what, chain, Places::Anywhere, steps)?;
+    }
+    Ok(())
 }
 
-/// Times what follows the events of a table of so many rows, and prints a line for each.
-fn time_all<R: Clock + Print + AllocGlobal, L: Ledger>(
+/// Times counts of a key.
+fn time_counts<R: Clock + Print + AllocGlobal, L: Ledger>(
     rt: &R,
     size: u32,
     steps: &mut Steps<L>,
 ) -> Result<()> {
-    let chain = [
-        Shown::LowerAmounts,
-        Shown::ByNumber,
-        Shown::LowerNumbers,
-        Shown::ByAmount,
-    ];
-    time_watches(rt, "selection", &[Shown::LowerAmounts], size, steps)?;
-    time_watches(rt, "sorting", &[Shown::ByAmount], size, steps)?;
-    time_watches(rt, "chain_of_2", &chain[..2], size, steps)?;
-    time_watches(rt, "chain_of_3", &chain[..3], size, steps)?;
-    time_watches(rt, "chain_of_4", &chain, size, steps)?;
     let counts = count_numbers(rt.alloc(), numbers::table(rt.alloc(), size)?)?;
-    time_follower(rt, "counts", counts, Places::Anywhere, steps)?;
-    let index = index_keys(rt.alloc(), size, Keys::Scattered)?;
-    time_follower(rt, "index", index, Places::Anywhere, steps)?;
-    let index = index_keys(rt.alloc(), size, Keys::Ascending)?;
-    time_follower(rt, "index_end", index, Places::Last, steps)
+    time_follower(rt, "counts", counts, Places::Anywhere, steps)
 }
+
+/// Indexes of keys, by how the keys follow one another and where rows come and go.
+static INDEXES: [(&str, Keys, Places); 2] = [
+    ("index", Keys::Scattered, Places::Anywhere),
+    ("index_end", Keys::Ascending, Places::Last),
+];
+
+/// Times each index of keys.
+fn time_indexes<R: Clock + Print + AllocGlobal, L: Ledger>(
+    rt: &R,
+    size: u32,
+    steps: &mut Steps<L>,
+) -> Result<()> {
+    for (what, keys, places) in &INDEXES {
+        let index = index_keys(rt.alloc(), size, *keys)?;
+        time_follower(rt, what, index, *places, steps)?;
+    }
+    Ok(())
+}
+
+/// How many rows a table has.
+static SIZES: [u32; 2] = [50_000, 1_000_000];
 
 /// Times all, at each number of rows, with a counter of steps made of a blank ledger.
 fn time_each_size<R: Clock + Print + AllocGlobal, L: Ledger>(rt: &R, blank: Blank) -> Result<()>
@@ -115,8 +143,12 @@ fn time_each_size<R: Clock + Print + AllocGlobal, L: Ledger>(rt: &R, blank: Blan
     requires some { 0 < blank.parts }
 {
     let mut steps = Steps::<L>::new(blank);
-    time_all(rt, 50_000, &mut steps)?;
-    time_all(rt, 1_000_000, &mut steps)
+    for size in &SIZES {
+        time_chains(rt, *size, &mut steps)?;
+        time_counts(rt, *size, &mut steps)?;
+        time_indexes(rt, *size, &mut steps)?;
+    }
+    Ok(())
 }
 
 /// Times what follows events, over 50,000 rows and over a million.

@@ -1,63 +1,121 @@
 //! The loops over columns of integers that are timed.
-ghost use Rattle.std.specs.Prelude.{◌≡◌};
 
+use super::{EDITS, Edit, Reading, Timed};
 use crate::columns::random::Random;
-use bit_pack::Width;
 use int_col::IntCol;
-use mk_value::Memory;
+use mk_value::{MAX_ROWS, Memory};
 use std::alloc::Global;
 
-/// The most values of a column.
-const MOST: usize = 16_777_216;
-
-/// A value of the width, from the top bits of a random number.
-fn sample(width: Width, number: u64) -> i64 {
-    let signed = number.cast_signed();
-    match width {
-        Width::W0 => 0,
-        Width::W1 => (signed >> 63) & 1,
-        Width::W2 => (signed >> 62) & 3,
-        Width::W4 => (signed >> 60) & 15,
-        Width::W8 => signed >> 56,
-        Width::W16 => signed >> 48,
-        Width::W32 => signed >> 32,
-        Width::W64 => signed,
-    }
+/// The integers of a width in bits: the least of them, and how many follow one another from it on.
+#[derive(Clone, Copy)]
+pub struct Spread {
+    pub bits: u32,
+    least: i64,
+    count: u64,
 }
 
+/// The widths that are timed.
+pub static SPREADS: [Spread; 7] = [
+    Spread {
+        bits: 1,
+        least: 0,
+        count: 2,
+    },
+    Spread {
+        bits: 2,
+        least: 0,
+        count: 4,
+    },
+    Spread {
+        bits: 4,
+        least: 0,
+        count: 16,
+    },
+    Spread {
+        bits: 8,
+        least: -0x80,
+        count: 0x100,
+    },
+    Spread {
+        bits: 16,
+        least: -0x8000,
+        count: 0x1_0000,
+    },
+    Spread {
+        bits: 32,
+        least: -0x8000_0000,
+        count: 0x1_0000_0000,
+    },
+    Spread {
+        bits: 64,
+        least: i64::MIN,
+        count: u64::MAX,
+    },
+];
+
 /// So many random values of the width.
-pub fn samples(alloc: Global, width: Width, count: usize) -> Result<Vec<i64>, Memory> {
+pub fn samples(alloc: Global, spread: Spread, count: usize) -> Result<Vec<i64>, Memory> {
     let mut random = Random::new();
     let mut values = Vec::with_capacity(alloc, count)?;
+    let least = spread.least.cast_unsigned();
+    let numbers = spread.count.max(1);
     for _value in 0..count {
-        values.push(sample(width, random.next()))?;
+        let value = least.wrapping_add(random.below(numbers));
+        values.push(value.cast_signed())?;
     }
     Ok(values)
 }
 
-/// Adds a value at the end, if there is room.
-fn append(column: &mut IntCol, value: i64) -> Result<(), Memory> {
+/// A column, and the values that are put into it.
+#[derive(Drop)]
+pub struct Integers<'a> {
+    column: IntCol,
+    values: &'a [i64],
+}
+
+impl<'a> Integers<'a> {
+    /// An empty column.
+    pub fn new(alloc: Global, values: &'a [i64]) -> Result<Integers<'a>, Memory> {
+        let column = IntCol::from_values(alloc, &[], None)?;
+        Ok(Integers { column, values })
+    }
+}
+
+impl Timed for Integers<'_> {
+    fn read(&self, how: Reading) -> Result<u64, Memory> {
+        let sum = match how {
+            Reading::Order => sum_in_order(&self.column),
+            Reading::Random | Reading::Compare => sum_at_random(&self.column),
+        };
+        Ok(sum.cast_unsigned())
+    }
+
+    fn edit(&mut self, edit: Edit) -> Result<(), Memory> {
+        let values = self.values;
+        match edit {
+            Edit::Append => append_all(&mut self.column, values),
+            Edit::Set | Edit::SetLonger => set_in_order(&mut self.column, values),
+            Edit::SetRandom => set_at_random(&mut self.column, values),
+            Edit::Insert => insert_in_the_middle(&mut self.column, values),
+            Edit::Remove => remove_in_the_middle(&mut self.column),
+            Edit::Shared => set_where_shared(&mut self.column, values),
+        }
+    }
+}
+
+/// Puts a value in, if there is such a place and room.
+fn put(column: &mut IntCol, at: usize, value: i64) -> Result<(), Memory> {
     let len = column.len();
-    if len < MOST {
-        column.insert(len, value, 1)?;
+    if at <= len && len < MAX_ROWS {
+        column.insert(at, value, 1)?;
     }
     Ok(())
 }
 
-/// Inserts a value in the middle, if there is room.
-fn insert_half_way(column: &mut IntCol, value: i64) -> Result<(), Memory> {
-    let len = column.len();
-    if len < MOST {
-        column.insert(len / 2, value, 1)?;
-    }
-    Ok(())
-}
-
-/// Removes the value in the middle, if there is one.
-fn remove_half_way(column: &mut IntCol) -> Result<(), Memory> {
-    let len = column.len();
-    if len > 0 {
-        column.remove(len / 2, 1)?;
+/// Takes a value out, if there is such a place.
+fn take(column: &mut IntCol, at: usize) -> Result<(), Memory> {
+    if at < column.len() {
+        column.remove(at, 1)?;
     }
     Ok(())
 }
@@ -70,26 +128,15 @@ fn set(column: &mut IntCol, at: usize, value: i64) -> Result<(), Memory> {
     Ok(())
 }
 
-/// Sets the value at a random place, if there is one.
-fn set_somewhere(column: &mut IntCol, random: &mut Random, value: i64) -> Result<(), Memory> {
-    let len = column.len();
-    if len > 0 {
-        column.set(random.place(len), value)?;
+fn append_all(column: &mut IntCol, values: &[i64]) -> Result<(), Memory> {
+    for (at, value) in values.iter().enumerate() {
+        put(column, at, *value)?;
     }
     Ok(())
 }
 
-/// A column to which the values were added one by one.
-pub fn append_all(alloc: Global, values: &[i64]) -> Result<IntCol, Memory> {
-    let mut column = IntCol::from_values(alloc, &[], None)?;
-    for value in values {
-        append(&mut column, *value)?;
-    }
-    Ok(column)
-}
-
 /// Adds up the values in order.
-pub fn sum_in_order(column: &IntCol) -> i64 {
+fn sum_in_order(column: &IntCol) -> i64 {
     let mut sum = 0i64;
     for at in 0..column.len() {
         sum = sum.wrapping_add(column.get(at));
@@ -97,63 +144,63 @@ pub fn sum_in_order(column: &IntCol) -> i64 {
     sum
 }
 
-/// Adds up so many values at random places.
-pub fn sum_at_random(column: &IntCol, count: usize) -> i64 {
+/// Adds up as many values as there are, at random places.
+fn sum_at_random(column: &IntCol) -> i64 {
     let mut random = Random::new();
     let mut sum = 0i64;
     let len = column.len();
-    if len == 0 {
-        return sum;
-    }
-    for _value in 0..count {
+    for _value in 0..len {
         sum = sum.wrapping_add(column.get(random.place(len)));
     }
     sum
 }
 
-/// Sets the values in order.
-pub fn set_in_order(column: &mut IntCol, values: &[i64]) -> Result<(), Memory> {
+fn set_in_order(column: &mut IntCol, values: &[i64]) -> Result<(), Memory> {
     for (at, value) in values.iter().enumerate() {
         set(column, at, *value)?;
     }
     Ok(())
 }
 
-/// Sets each value at a random place.
-pub fn set_at_random(column: &mut IntCol, values: &[i64]) -> Result<(), Memory> {
+fn set_at_random(column: &mut IntCol, values: &[i64]) -> Result<(), Memory> {
     let mut random = Random::new();
     for value in values {
-        set_somewhere(column, &mut random, *value)?;
+        let at = random.place(column.len().max(1));
+        set(column, at, *value)?;
     }
     Ok(())
 }
 
-/// Inserts so many of the values in the middle.
-pub fn insert_in_the_middle(
-    column: &mut IntCol,
-    values: &[i64],
-    count: usize,
-) -> Result<(), Memory> {
-    for value in values.iter().take(count) {
-        insert_half_way(column, *value)?;
+/// Inserts values in the middle.
+fn insert_in_the_middle(column: &mut IntCol, values: &[i64]) -> Result<(), Memory> {
+    for at in 0..values.len().min(EDITS as usize) {
+        let middle = column.len() / 2;
+        put(column, middle, values[at])?;
     }
     Ok(())
 }
 
-/// Removes so many values in the middle.
-pub fn remove_in_the_middle(column: &mut IntCol, count: usize) -> Result<(), Memory> {
-    for _value in 0..count {
-        remove_half_way(column)?;
+/// Removes values in the middle.
+fn remove_in_the_middle(column: &mut IntCol) -> Result<(), Memory> {
+    for _value in 0..EDITS {
+        let middle = column.len() / 2;
+        take(column, middle)?;
     }
     Ok(())
 }
 
-/// Sets so many of the values at random places, each beside a copy of the column, which goes after it.
-pub fn set_where_shared(column: &mut IntCol, values: &[i64], count: usize) -> Result<(), Memory> {
+/// Sets values at random places, each beside a copy of the column, which goes after it.
+fn set_where_shared(column: &mut IntCol, values: &[i64]) -> Result<(), Memory> {
     let mut random = Random::new();
-    for value in values.iter().take(count) {
-        let _copy = column.same()?;
-        set_somewhere(column, &mut random, *value)?;
+    for at in 0..values.len().min(EDITS as usize) {
+        set_beside_copy(column, &mut random, values[at])?;
     }
     Ok(())
+}
+
+/// Sets a value at a random place beside a copy of the column.
+fn set_beside_copy(column: &mut IntCol, random: &mut Random, value: i64) -> Result<(), Memory> {
+    let _copy = column.same()?;
+    let at = random.place(column.len().max(1));
+    set(column, at, value)
 }

@@ -21,6 +21,14 @@ impl Random {
         self.seed
     }
 
+    /// A number below a bound, from the top bits of the next one where the bound has few.
+    pub fn below(&mut self, bound: u64) -> u64
+        requires { 0 < bound }
+    {
+        let next = self.next();
+        ((next >> 32) ^ next.wrapping_mul(0x1_0000_0000)) % bound
+    }
+
     /// A place below `len`.
     pub fn place(&mut self, len: usize) -> usize
         requires { 0 < len }

@@ -1,38 +1,70 @@
 //! The loops over columns of texts that are timed.
-ghost use Rattle.std.specs.Prelude.{◌≡◌};
 
+use super::{EDITS, Edit, Reading, Timed};
 use crate::columns::random::Random;
 use bytes_col::BytesCol;
-use mk_value::{Bytes, Memory};
+use mk_value::{Bytes, MAX_ROWS, Memory};
 use std::alloc::Global;
 use std::cmp::Ordering;
 
-/// The most values of a column.
-const MOST: usize = 16_777_216;
+/// A column, the text of which it gets so many copies, and one that is a byte longer.
+#[derive(Drop)]
+pub struct Texts<'a> {
+    column: BytesCol,
+    text: &'a [u8],
+    longer: &'a [u8],
+    count: usize,
+}
 
-/// Adds a text at the end, if there is room.
-fn append(column: &mut BytesCol, text: &[u8]) -> Result<(), Memory> {
+impl<'a> Texts<'a> {
+    /// An empty column. Its text is all but the last byte of the longer one.
+    pub fn new(alloc: Global, longer: &'a [u8], count: usize) -> Result<Texts<'a>, Memory> {
+        let column = BytesCol::from_values(alloc, &[], None)?;
+        Ok(Texts {
+            column,
+            text: &longer[..longer.len().saturating_sub(1)],
+            longer,
+            count,
+        })
+    }
+}
+
+impl Timed for Texts<'_> {
+    fn read(&self, how: Reading) -> Result<u64, Memory> {
+        match how {
+            Reading::Order => sum_in_order(&self.column),
+            Reading::Random => sum_at_random(&self.column),
+            Reading::Compare => Ok(count_equal(&self.column, self.text)),
+        }
+    }
+
+    fn edit(&mut self, edit: Edit) -> Result<(), Memory> {
+        let (text, longer, count) = (self.text, self.longer, self.count);
+        match edit {
+            Edit::Append => append_all(&mut self.column, text, count),
+            Edit::Set => set_in_order(&mut self.column, text),
+            Edit::SetRandom => set_at_random(&mut self.column, text),
+            Edit::SetLonger => set_in_order(&mut self.column, longer),
+            Edit::Insert => insert_in_the_middle(&mut self.column, text),
+            Edit::Remove => remove_in_the_middle(&mut self.column),
+            Edit::Shared => set_where_shared(&mut self.column, text),
+        }
+    }
+}
+
+/// Puts a text in, if there is such a place and room.
+fn put(column: &mut BytesCol, at: usize, text: &[u8]) -> Result<(), Memory> {
     let len = column.len();
-    if len < MOST {
-        column.insert(len, text, 1)?;
+    if at <= len && len < MAX_ROWS {
+        column.insert(at, text, 1)?;
     }
     Ok(())
 }
 
-/// Inserts a text in the middle, if there is room.
-fn insert_half_way(column: &mut BytesCol, text: &[u8]) -> Result<(), Memory> {
-    let len = column.len();
-    if len < MOST {
-        column.insert(len / 2, text, 1)?;
-    }
-    Ok(())
-}
-
-/// Removes the text in the middle, if there is one.
-fn remove_half_way(column: &mut BytesCol) -> Result<(), Memory> {
-    let len = column.len();
-    if len > 0 {
-        column.remove(len / 2, 1)?;
+/// Takes a text out, if there is such a place.
+fn take(column: &mut BytesCol, at: usize) -> Result<(), Memory> {
+    if at < column.len() {
+        column.remove(at, 1)?;
     }
     Ok(())
 }
@@ -45,22 +77,11 @@ fn set(column: &mut BytesCol, at: usize, text: &[u8]) -> Result<(), Memory> {
     Ok(())
 }
 
-/// Sets the text at a random place, if there is one.
-fn set_somewhere(column: &mut BytesCol, random: &mut Random, text: &[u8]) -> Result<(), Memory> {
-    let len = column.len();
-    if len > 0 {
-        column.set(random.place(len), text)?;
+fn append_all(column: &mut BytesCol, text: &[u8], count: usize) -> Result<(), Memory> {
+    for at in 0..count {
+        put(column, at, text)?;
     }
     Ok(())
-}
-
-/// A column to which copies of the text were added one by one.
-pub fn append_all(alloc: Global, text: &[u8], count: usize) -> Result<BytesCol, Memory> {
-    let mut column = BytesCol::from_values(alloc, &[], None)?;
-    for _text in 0..count {
-        append(&mut column, text)?;
-    }
-    Ok(column)
 }
 
 /// The last byte of a text, as a number.
@@ -69,7 +90,7 @@ fn last_byte(text: &Bytes) -> u64 {
 }
 
 /// Adds up the last bytes of copies of the values in order.
-pub fn sum_in_order(column: &BytesCol) -> Result<u64, Memory> {
+fn sum_in_order(column: &BytesCol) -> Result<u64, Memory> {
     let mut sum = 0u64;
     for at in 0..column.len() {
         sum = sum.wrapping_add(last_byte(&column.get(at)?));
@@ -77,29 +98,23 @@ pub fn sum_in_order(column: &BytesCol) -> Result<u64, Memory> {
     Ok(sum)
 }
 
-/// Adds up the last bytes of copies of so many values at random places.
-pub fn sum_at_random(column: &BytesCol, count: usize) -> Result<u64, Memory> {
+/// Adds up the last bytes of copies of as many values as there are, at random places.
+fn sum_at_random(column: &BytesCol) -> Result<u64, Memory> {
     let mut random = Random::new();
     let mut sum = 0u64;
     let len = column.len();
-    if len == 0 {
-        return Ok(sum);
-    }
-    for _text in 0..count {
+    for _text in 0..len {
         sum = sum.wrapping_add(last_byte(&column.get(random.place(len))?));
     }
     Ok(sum)
 }
 
-/// How many of so many values at random places are the text.
-pub fn count_equal(column: &BytesCol, text: &[u8], count: usize) -> u64 {
+/// How many of as many values as there are, at random places, are the text.
+fn count_equal(column: &BytesCol, text: &[u8]) -> u64 {
     let mut random = Random::new();
     let mut equal = 0u64;
     let len = column.len();
-    if len == 0 {
-        return equal;
-    }
-    for _text in 0..count {
+    for _text in 0..len {
         let order = column.cmp_with(random.place(len), text);
         equal = equal.wrapping_add(u64::from(order == Ordering::Equal));
     }
@@ -107,48 +122,53 @@ pub fn count_equal(column: &BytesCol, text: &[u8], count: usize) -> u64 {
 }
 
 /// Sets each value to the text, in order.
-pub fn set_in_order(column: &mut BytesCol, text: &[u8]) -> Result<(), Memory> {
+fn set_in_order(column: &mut BytesCol, text: &[u8]) -> Result<(), Memory> {
     for at in 0..column.len() {
         set(column, at, text)?;
     }
     Ok(())
 }
 
-/// Sets so many copies of the text at random places.
-pub fn set_at_random(column: &mut BytesCol, text: &[u8], count: usize) -> Result<(), Memory> {
+/// Sets as many copies of the text as there are values, at random places.
+fn set_at_random(column: &mut BytesCol, text: &[u8]) -> Result<(), Memory> {
     let mut random = Random::new();
-    for _text in 0..count {
-        set_somewhere(column, &mut random, text)?;
+    for _text in 0..column.len() {
+        let at = random.place(column.len().max(1));
+        set(column, at, text)?;
     }
     Ok(())
 }
 
-/// Inserts so many copies of the text in the middle, one by one.
-pub fn insert_in_the_middle(
-    column: &mut BytesCol,
-    text: &[u8],
-    count: usize,
-) -> Result<(), Memory> {
-    for _text in 0..count {
-        insert_half_way(column, text)?;
+/// Inserts copies of the text in the middle, one by one.
+fn insert_in_the_middle(column: &mut BytesCol, text: &[u8]) -> Result<(), Memory> {
+    for _text in 0..EDITS {
+        let middle = column.len() / 2;
+        put(column, middle, text)?;
     }
     Ok(())
 }
 
-/// Removes so many values in the middle, one by one.
-pub fn remove_in_the_middle(column: &mut BytesCol, count: usize) -> Result<(), Memory> {
-    for _text in 0..count {
-        remove_half_way(column)?;
+/// Removes values in the middle, one by one.
+fn remove_in_the_middle(column: &mut BytesCol) -> Result<(), Memory> {
+    for _text in 0..EDITS {
+        let middle = column.len() / 2;
+        take(column, middle)?;
     }
     Ok(())
 }
 
-/// Sets so many copies of the text at random places, each beside a copy of the column, which goes after it.
-pub fn set_where_shared(column: &mut BytesCol, text: &[u8], count: usize) -> Result<(), Memory> {
+/// Sets copies of the text at random places, each beside a copy of the column, which goes after it.
+fn set_where_shared(column: &mut BytesCol, text: &[u8]) -> Result<(), Memory> {
     let mut random = Random::new();
-    for _text in 0..count {
-        let _copy = column.same()?;
-        set_somewhere(column, &mut random, text)?;
+    for _text in 0..EDITS {
+        set_beside_copy(column, &mut random, text)?;
     }
     Ok(())
+}
+
+/// Sets the text at a random place beside a copy of the column.
+fn set_beside_copy(column: &mut BytesCol, random: &mut Random, text: &[u8]) -> Result<(), Memory> {
+    let _copy = column.same()?;
+    let at = random.place(column.len().max(1));
+    set(column, at, text)
 }

@@ -1,19 +1,45 @@
-//! The tables that operators are timed on.
-ghost use Rattle.mk_value.specs.Heading.{IsDomain};
-ghost use Rattle.mk_value.specs.Kinds.{domain_of};
+//! The tables that operators are timed on, in columns as the store has them.
 
-use anyhow::{Context, Result, ensure};
-use derived::{Derived, held};
-use mk_value::{HeldRows, Kind, Name, Prop, Props, Row, Rows, Schema, Text, Value, rows_fit};
+use crate::structures::{columns, schema};
+use anyhow::Result;
+use derived::{Derived, leaf};
+use mk_value::{Row, Rows, Same, Text, Value};
 use std::alloc::Global;
+use tables::{Shared, share};
 
-pub type Table = Derived<HeldRows>;
+/// A table as operators take and answer it.
+pub type Relation = Derived<Shared>;
 
 /// The different numbers, and the different names.
 const NUMBERS: u64 = 1_000;
 
 /// The different amounts, and how far apart the places of a row's three values are scattered from.
 const AMOUNTS: u64 = 1_000_000;
+
+/// What is asked about.
+#[derive(Drop)]
+pub struct Tables {
+    /// Rows of a number, a name and an amount.
+    pub orders: Shared,
+    /// As many such rows, of which the first half are the last of `orders`.
+    pub later: Shared,
+    /// A row for each number: the number and a label.
+    pub labels: Shared,
+}
+
+/// Tables of so many rows, and the labels.
+pub fn make_tables(alloc: Global, count: u32) -> Result<Tables> {
+    Ok(Tables {
+        orders: orders(alloc, 0, count)?,
+        later: orders(alloc, count / 2, count)?,
+        labels: labels(alloc)?,
+    })
+}
+
+/// A table, to be asked about.
+pub fn relation(table: &Shared) -> Result<Relation> {
+    Ok(leaf(table.same()?)?)
+}
 
 /// A number that looks random for each place.
 fn scattered(place: u64) -> u64 {
@@ -24,21 +50,13 @@ fn scattered(place: u64) -> u64 {
     twice >> 33
 }
 
-pub fn name(bytes: &[u8]) -> Result<Name> {
-    Name::from_bytes(bytes).context("no name")
-}
-
-/// So many rows of a number, a name and an amount.
-pub fn orders(alloc: Global, count: u32) -> Result<Table> {
-    let mut props = Props::new(alloc);
-    props.push(prop(b"number", Kind::I)?)?;
-    props.push(prop(b"name", Kind::S)?)?;
-    props.push(prop(b"amount", Kind::L)?)?;
+/// The rows of so many places, from the first on.
+fn orders(alloc: Global, first: u32, count: u32) -> Result<Shared> {
     let mut rows = Rows::new(alloc);
     for place in 0..count {
-        rows.push(order(alloc, u64::from(place))?)?;
+        rows.push(order(alloc, u64::from(first) + u64::from(place))?)?;
     }
-    table(props, rows)
+    table(alloc, "orders[number:I,name:S,amount:L]", &rows)
 }
 
 fn order(alloc: Global, place: u64) -> Result<Row> {
@@ -58,35 +76,23 @@ fn numbered_name(alloc: Global, number: u64) -> Result<Text> {
     Ok(name)
 }
 
-/// A row for each number: the number and a label.
-pub fn labels(alloc: Global) -> Result<Table> {
-    let mut props = Props::new(alloc);
-    props.push(prop(b"number", Kind::I)?)?;
-    props.push(prop(b"label", Kind::S)?)?;
+fn labels(alloc: Global) -> Result<Shared> {
     let mut rows = Rows::new(alloc);
     for number in 0..NUMBERS {
         rows.push(label(alloc, number)?)?;
     }
-    table(props, rows)
+    table(alloc, "labels[number:I,label:S]", &rows)
 }
 
 fn label(alloc: Global, number: u64) -> Result<Row> {
     let mut row = Row::new(alloc);
-    row.push(Value::I(i32::try_from(number)?))?;
+    row.push(Value::I((number % NUMBERS) as i32))?;
     row.push(Value::S(numbered_name(alloc, number)?))?;
     Ok(row)
 }
 
-fn prop(bytes: &[u8], kind: Kind) -> Result<Prop>
-    requires { IsDomain (domain_of kind) }
-{
-    let name = name(bytes)?;
-    Ok(Prop { name, kind })
-}
-
-fn table(props: Props, rows: Rows) -> Result<Table> {
-    ensure!(props.are_within_limits(), "no schema");
-    let schema = Schema::of(props);
-    ensure!(rows_fit(&rows, &schema), "no rows of the schema");
-    Ok(held(schema, rows)?)
+/// The table of rows under the schema that a text spells.
+fn table(alloc: Global, text: &str, rows: &Rows) -> Result<Shared> {
+    let table = columns(alloc, schema(alloc, text)?, rows)?;
+    Ok(share(alloc, table)?)
 }

@@ -1,11 +1,12 @@
 //! What is timed.
 ghost use Rattle.std.specs.Prelude.{◌≡◌, IfOk};
 
-use crate::operators::rows::{Table, labels, name};
+use crate::operators::rows::{Relation, Tables, relation};
+use crate::structures::name;
 use anyhow::Result;
 use derived::{Criterion, Key, project, range, select, sort};
 use grouping::{counts, group_by, unique};
-use joins::join;
+use joins::{join, union};
 use mk_value::Value;
 use std::alloc::Global;
 
@@ -16,8 +17,10 @@ pub enum Task {
     Select,
     /// The rows of amounts between two: one in ten.
     Range,
+    /// By amount upwards.
+    SortOne,
     /// By name upwards, then by amount downwards.
-    Sort,
+    SortTwo,
     /// The number of rows of each name.
     Counts,
     /// The rows of each name.
@@ -26,29 +29,36 @@ pub enum Task {
     Unique,
     /// Each row beside the one label of its number.
     Join,
+    /// The rows and as many others, of which half are the same.
+    Union,
 }
 
-pub const TASKS: [Task; 7] = [
+pub static TASKS: [Task; 9] = [
     Task::Select,
     Task::Range,
-    Task::Sort,
+    Task::SortOne,
+    Task::SortTwo,
     Task::Counts,
     Task::GroupBy,
     Task::Unique,
     Task::Join,
+    Task::Union,
 ];
 
 impl Task {
     /// The answer of the operator.
-    pub fn run(self, alloc: Global, base: Table) -> Result<Table> {
+    pub fn run(self, alloc: Global, tables: &Tables) -> Result<Relation> {
+        let orders = relation(&tables.orders)?;
         match self {
-            Task::Select => selected(alloc, base),
-            Task::Range => ranged(alloc, base),
-            Task::Sort => sorted(alloc, base),
-            Task::Counts => counted(alloc, base),
-            Task::GroupBy => grouped(alloc, base),
-            Task::Unique => distinct(alloc, base),
-            Task::Join => joined(alloc, base),
+            Task::Select => selected(alloc, orders),
+            Task::Range => ranged(alloc, orders),
+            Task::SortOne => sorted_by_one(alloc, orders),
+            Task::SortTwo => sorted_by_two(alloc, orders),
+            Task::Counts => counted(alloc, orders),
+            Task::GroupBy => grouped(alloc, orders),
+            Task::Unique => distinct(alloc, orders),
+            Task::Join => joined(alloc, orders, relation(&tables.labels)?),
+            Task::Union => united(alloc, orders, relation(&tables.later)?),
         }
     }
 }
@@ -63,44 +73,55 @@ fn numbered(number: i32) -> Result<Criterion>
     })
 }
 
-fn selected(alloc: Global, base: Table) -> Result<Table> {
-    Ok(select(alloc, base, &[numbered(500)?])?)
-}
-
-fn ranged(alloc: Global, base: Table) -> Result<Table> {
-    let amounts = Criterion {
+fn between(low: i64, high: i64) -> Result<Criterion> {
+    Ok(Criterion {
         prop: name(b"amount")?,
-        low: Value::L(400_000),
-        high: Value::L(499_999),
-    };
-    Ok(range(alloc, base, &[amounts])?)
+        low: Value::L(low),
+        high: Value::L(high),
+    })
 }
 
-fn sorted(alloc: Global, base: Table) -> Result<Table> {
-    let by_name = Key {
-        prop: name(b"name")?,
-        down: false,
-    };
-    let by_amount = Key {
-        prop: name(b"amount")?,
-        down: true,
-    };
-    Ok(sort(alloc, base, &[by_name, by_amount])?)
+pub fn key(prop: &[u8], down: bool) -> Result<Key> {
+    Ok(Key {
+        prop: name(prop)?,
+        down,
+    })
 }
 
-fn counted(alloc: Global, base: Table) -> Result<Table> {
-    Ok(counts(alloc, base, &[name(b"name")?], &name(b"orders")?)?)
+fn selected(alloc: Global, orders: Relation) -> Result<Relation> {
+    Ok(select(alloc, orders, &[numbered(500)?])?)
 }
 
-fn grouped(alloc: Global, base: Table) -> Result<Table> {
-    Ok(group_by(alloc, base, &[name(b"name")?], &name(b"orders")?)?)
+fn ranged(alloc: Global, orders: Relation) -> Result<Relation> {
+    Ok(range(alloc, orders, &[between(400_000, 499_999)?])?)
 }
 
-fn distinct(alloc: Global, base: Table) -> Result<Table> {
-    let pairs = project(alloc, base, &[name(b"number")?, name(b"name")?])?;
+fn sorted_by_one(alloc: Global, orders: Relation) -> Result<Relation> {
+    Ok(sort(alloc, orders, &[key(b"amount", false)?])?)
+}
+
+fn sorted_by_two(alloc: Global, orders: Relation) -> Result<Relation> {
+    let keys = [key(b"name", false)?, key(b"amount", true)?];
+    Ok(sort(alloc, orders, &keys)?)
+}
+
+fn counted(alloc: Global, orders: Relation) -> Result<Relation> {
+    Ok(counts(alloc, orders, &[name(b"name")?], &name(b"orders")?)?)
+}
+
+fn grouped(alloc: Global, orders: Relation) -> Result<Relation> {
+    Ok(group_by(alloc, orders, &[name(b"name")?], &name(b"orders")?)?)
+}
+
+fn distinct(alloc: Global, orders: Relation) -> Result<Relation> {
+    let pairs = project(alloc, orders, &[name(b"number")?, name(b"name")?])?;
     Ok(unique(alloc, pairs)?)
 }
 
-fn joined(alloc: Global, base: Table) -> Result<Table> {
-    Ok(join(alloc, base, labels(alloc)?, &[name(b"number")?], false)?)
+fn joined(alloc: Global, orders: Relation, labels: Relation) -> Result<Relation> {
+    Ok(join(alloc, orders, labels, &[name(b"number")?], false)?)
+}
+
+fn united(alloc: Global, orders: Relation, later: Relation) -> Result<Relation> {
+    Ok(union(alloc, orders, later)?)
 }

@@ -1,4 +1,4 @@
-//! Reading all that a table has.
+//! Reading all that a table has, or all of a column.
 ghost use Rattle.std.specs.Prelude.{◌<◌, length};
 
 use mk_value::{Memory, TableRead, Value};
@@ -19,6 +19,18 @@ fn row_total<T: TableRead>(table: &T, row: usize) -> Result<u64, Memory>
 {
     let mut sum = 0u64;
     for col in 0..table.schema().len() {
+        sum = sum.wrapping_add(weight(&table.get(row, col)?));
+    }
+    Ok(sum)
+}
+
+/// Copies each value of a column out of the table in order, and adds them up. Where there is no such column there are no values.
+pub fn column_total<T: TableRead>(table: &T, col: usize) -> Result<u64, Memory> {
+    let mut sum = 0u64;
+    if col >= table.schema().len() {
+        return Ok(sum);
+    }
+    for row in 0..table.size() {
         sum = sum.wrapping_add(weight(&table.get(row, col)?));
     }
     Ok(sum)

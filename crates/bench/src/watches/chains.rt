@@ -2,7 +2,7 @@
 
 use super::followed::{Followed, begin, put};
 use super::numbers::{AMOUNTS, NUMBERS};
-use crate::operators::rows::name;
+use crate::structures::name;
 use anyhow::Result;
 use live::{Criteria, Keys, WatchOp};
 use mk_value::Value;
@@ -27,21 +27,21 @@ impl Shown {
     /// It as what is asked of a watch.
     fn op(self, alloc: Global) -> Result<WatchOp> {
         match self {
-            Shown::LowerAmounts => lower_half(alloc, b"amount", AMOUNTS),
-            Shown::LowerNumbers => lower_half(alloc, b"number", NUMBERS),
+            Shown::LowerAmounts => up_to(alloc, b"amount", (AMOUNTS / 2) as i32),
+            Shown::LowerNumbers => up_to(alloc, b"number", (NUMBERS / 2) as i32),
             Shown::ByAmount => sorted_by(alloc, b"amount"),
             Shown::ByNumber => sorted_by(alloc, b"number"),
         }
     }
 }
 
-/// The rows with the lower half of so many values of a property.
-fn lower_half(alloc: Global, prop: &[u8], values: usize) -> Result<WatchOp> {
+/// The rows whose values of a property are at most so great.
+fn up_to(alloc: Global, prop: &[u8], greatest: i32) -> Result<WatchOp> {
     let mut criteria = Criteria::new(alloc);
     criteria.push(Criterion {
         prop: name(prop)?,
         low: Value::I(0),
-        high: Value::I(i32::try_from(values / 2)?),
+        high: Value::I(greatest),
     })?;
     Ok(WatchOp::Range(criteria))
 }

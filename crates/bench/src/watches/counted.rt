@@ -5,8 +5,9 @@ ghost use Rattle.relations.specs.Fitting.{is_view};
 ghost use Rattle.live_counts.specs.Counting.{AreCounts};
 
 use super::events::is_place;
-use super::follower::{Follower, nanoseconds_since};
+use super::follower::Follower;
 use super::numbers::edit;
+use crate::clock::nanoseconds_each;
 use anyhow::{Context, Result, ensure};
 use live::{Event, Over};
 use live_counts::LiveCounts;
@@ -66,11 +67,11 @@ impl Follower for Counted {
         counts.reserve(1)?;
         let start = Instant::now(rt)?;
         counts.before(&Over { rows: &table }, event, steps);
-        let before = nanoseconds_since(rt, &start)?;
+        let before = nanoseconds_each(rt, &start, 1)?;
         edit(&mut table, event, row)?;
         let start = Instant::now(rt)?;
         counts.after(&Over { rows: &table }, event, steps);
-        let after = nanoseconds_since(rt, &start)?;
+        let after = nanoseconds_each(rt, &start, 1)?;
         Ok((Counted { table, counts }, before + after))
     }
 }

@@ -2,8 +2,9 @@
 ghost use Rattle.live.specs.Chains.{AreNow};
 
 use super::events::is_place;
-use super::follower::{Follower, nanoseconds_since};
+use super::follower::Follower;
 use super::numbers::edit;
+use crate::clock::nanoseconds_each;
 use anyhow::{Result, ensure};
 use live::{Event, Out, Over, WatchOp, Watches};
 use mk_value::{Row, Steps, TableRead};
@@ -76,11 +77,11 @@ impl Follower for Followed {
         out.reserve(watches.count())?;
         let start = Instant::now(rt)?;
         watches.before(&Over { rows: &table }, event, steps);
-        let before = nanoseconds_since(rt, &start)?;
+        let before = nanoseconds_each(rt, &start, 1)?;
         edit(&mut table, event, row)?;
         let start = Instant::now(rt)?;
         watches.after(&Over { rows: &table }, event, &mut out, steps);
-        let after = nanoseconds_since(rt, &start)?;
+        let after = nanoseconds_each(rt, &start, 1)?;
         Ok((
             Followed {
                 table,

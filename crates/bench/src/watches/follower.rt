@@ -5,7 +5,6 @@ use live::Event;
 use mk_value::{Row, Steps};
 use std::rt::Clock;
 use std::sync::ledger::Ledger;
-use std::time::Instant;
 
 /// A table, or the keys of one, with what follows its events.
 pub trait Follower {
@@ -22,9 +21,4 @@ pub trait Follower {
     ) -> Result<(Self, f64)>
     where
         Self: Sized;
-}
-
-/// The nanoseconds since a moment.
-pub fn nanoseconds_since(rt: &impl Clock, start: &Instant) -> Result<f64> {
-    Ok(start.elapsed(rt)?.as_secs_f64() * 1e9)
 }

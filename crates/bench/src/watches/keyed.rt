@@ -2,7 +2,9 @@
 ghost use Rattle.std.specs.Prelude.{◌<◌, length, slice_set, IsTrue};
 ghost use Rattle.mapped.specs.Index.{AreKeys};
 
-use super::follower::{Follower, nanoseconds_since};
+use super::follower::Follower;
+use crate::clock::nanoseconds_each;
+use crate::structures::schema;
 use anyhow::{Result, bail, ensure};
 use live::Event;
 use mapped::HashIndex;
@@ -11,7 +13,6 @@ use std::alloc::Global;
 use std::rt::Clock;
 use std::sync::ledger::Ledger;
 use std::time::Instant;
-use struct_text::parse;
 
 /// How keys follow one another.
 #[derive(Clone, Copy)]
@@ -47,7 +48,7 @@ pub struct Keyed {
 
 /// An index of so many keys.
 pub fn index_keys(alloc: Global, count: u32, keys: Keys) -> Result<Keyed> {
-    let (_, schema) = parse(alloc, "orders[key:L]")?;
+    let schema = schema(alloc, "orders[key:L]")?;
     let mut rows = Rows::new(alloc);
     for number in 0..count {
         rows.push(keys.key(alloc, number)?)?;
@@ -69,7 +70,7 @@ fn insert<R: Clock>(rt: &R, index: &mut HashIndex, at: usize, key: Row) -> Resul
     index.reserve(1)?;
     let start = Instant::now(rt)?;
     index.follow(&mapped::Event::Insert(at), Some(key));
-    nanoseconds_since(rt, &start)
+    nanoseconds_each(rt, &start, 1)
 }
 
 /// A row goes. The nanoseconds that following took.
@@ -80,7 +81,7 @@ fn remove<R: Clock>(rt: &R, index: &mut HashIndex, at: usize) -> Result<f64> {
     index.reserve(1)?;
     let start = Instant::now(rt)?;
     index.follow(&mapped::Event::Remove(at), None);
-    nanoseconds_since(rt, &start)
+    nanoseconds_each(rt, &start, 1)
 }
 
 /// A row gets a key that no other row has. The nanoseconds that following took.
@@ -90,7 +91,7 @@ fn change<R: Clock>(rt: &R, index: &mut HashIndex, at: usize, key: Row) -> Resul
     index.reserve(1)?;
     let start = Instant::now(rt)?;
     index.follow(&mapped::Event::Change(at), Some(key));
-    nanoseconds_since(rt, &start)
+    nanoseconds_each(rt, &start, 1)
 }
 
 /// Whether no row but the one at a position has the key.

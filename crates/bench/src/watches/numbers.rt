@@ -4,12 +4,12 @@ ghost use Rattle.live.specs.Putting.{IsPlace};
 ghost use Rattle.live.specs.Watching.{IsTurn, root_turn};
 
 use crate::columns::random::Random;
+use crate::structures::{columns, schema};
 use anyhow::{Result, ensure};
 use live::Event;
-use mk_value::{MAX_ROWS, Row, Rows, TableRead, Value, row_fits, rows_fit};
+use mk_value::{MAX_ROWS, Row, Rows, TableRead, Value, row_fits};
 use std::alloc::Global;
-use struct_text::parse;
-use tables::{Table, from_rows};
+use tables::Table;
 
 /// The different numbers.
 pub const NUMBERS: usize = 1_000;
@@ -27,14 +27,12 @@ pub fn row(alloc: Global, random: &mut Random) -> Result<Row> {
 
 /// A table of so many such rows.
 pub fn table(alloc: Global, count: u32) -> Result<Table> {
-    let (_, schema) = parse(alloc, "orders[number:I,amount:I]")?;
     let mut random = Random::new();
     let mut rows = Rows::new(alloc);
     for _row in 0..count {
         rows.push(row(alloc, &mut random)?)?;
     }
-    ensure!(rows_fit(&rows, &schema), "no rows of the schema");
-    Ok(from_rows(alloc, schema, &rows)?)
+    columns(alloc, schema(alloc, "orders[number:I,amount:I]")?, &rows)
 }
 
 /// Does to a table what an event tells; the row is the one that comes.
