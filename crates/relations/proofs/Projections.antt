@@ -62,7 +62,7 @@ once_step p first name names true false h = ap (λ ns. first ∷ filter p ns) (a
 once_step p first name names false true h = ap (λ ns. first ∷ ns) (filter-append p names (name ∷ [])) ∙ ap (λ b. first ∷ (filter p names ++ cond b (name ∷ []) [])) h
 once_step p first name names false false h = ap (λ ns. first ∷ ns) (filter-append p names (name ∷ [])) ∙ ap (λ b. first ∷ (filter p names ++ cond b (name ∷ []) [])) h
 
-once_more : (names : List (List ℕ)) (name : List ℕ) → once (names ++ name ∷ []) ≡ once names ++ cond (is_among names name) [] (name ∷ [])
+pub once_more : (names : List (List ℕ)) (name : List ℕ) → once (names ++ name ∷ []) ≡ once names ++ cond (is_among names name) [] (name ∷ [])
 once_more [] name = refl
 once_more (first ∷ names) name =
     ap (λ ns. first ∷ filter (λ other. not (same_bytes first other)) ns) (once_more names name)
