@@ -15,4 +15,5 @@ pub mod Others
 pub mod Positions
 pub mod Probing
 pub mod Searched
+pub mod Shares
 pub mod WholeRows

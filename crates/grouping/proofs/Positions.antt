@@ -188,7 +188,7 @@ map_if : {X : Type 0} (b : Bool) (h : ℕ → X) (x : ℕ) (xs : List ℕ) (ys :
 map_if true h x xs ys e = ap (λ zs. h x ∷ zs) e
 map_if false h x xs ys e = e
 
-map_filter : {X : Type 0} (h : ℕ → X) (q : X → Bool) (xs : List ℕ) → map h (filter (λ i. q (h i)) xs) ≡ filter q (map h xs)
+pub map_filter : {X : Type 0} (h : ℕ → X) (q : X → Bool) (xs : List ℕ) → map h (filter (λ i. q (h i)) xs) ≡ filter q (map h xs)
 map_filter h q [] = refl
 map_filter h q (x ∷ xs) = map_if (q (h x)) h x (filter (λ i. q (h i)) xs) (filter q (map h xs)) (map_filter h q xs)
 

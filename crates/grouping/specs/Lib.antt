@@ -1,3 +1,4 @@
 pub mod Groups
 pub mod Index
+pub mod Marks
 pub mod WholeRows

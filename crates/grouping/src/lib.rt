@@ -18,6 +18,7 @@ mod index;
 mod key_index;
 mod keyed;
 mod keys;
+mod merging;
 mod partners;
 mod seen;
 mod sizes;
