@@ -1,5 +1,5 @@
 -- What an operator answered, told by an expression.
-use Rattle.std.specs.Prelude.{◌≡◌, ◌⊎◌, ℕ, List, Result, Ok, Err}
+use Rattle.std.specs.Prelude.{◌≡◌, ◌⊎◌, ℕ, Bool, true, false, List, Result, Ok, Err}
 use Rattle.mk_value.specs.Tables.{Table}
 use Rattle.relations.specs.declared.error.DerivedError.{DerivedError}
 use Rattle.relations.specs.declared.error.DerivedError.TheVariants.{Memory}
@@ -12,6 +12,11 @@ abbrev pub IsMemory : EvalError → Type 0
 IsMemory (Name name_error.Memory) = Unit {0}
 IsMemory (Op Memory size) = Unit {0}
 IsMemory _ = ⊥
+
+abbrev pub is_memory : EvalError → Bool
+is_memory (Name name_error.Memory) = true
+is_memory (Op Memory size) = true
+is_memory _ = false
 
 -- the same table, or the same refusal beside this size
 abbrev pub AsAnswered : {D : Type 0} → ℕ → Result D DerivedError → Result D EvalError → Type 0

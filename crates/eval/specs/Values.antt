@@ -61,6 +61,10 @@ abbrev pub kept : List Meaning → List ℕ → List (List ℕ) → Table → Re
 kept viewers viewer args t =
     by_viewer (viewer_of viewers viewer) viewer (λ m. at_size t (outcome (keep_due m.name m.takes args t.schema) (keep m.gives args t)))
 
+-- the number of the rows of each key
+abbrev pub counted : List (List ℕ) → List ℕ → Table → Result Table EvalError
+counted keys count t = at_size t (outcome (counts_due keys count t) (counts keys count t))
+
 -- what an operator gives of one table; an operator that does not take what stands behind the table is in no expression
 abbrev pub of_one : List Meaning → Operator → Tail → Table → Result Table EvalError
 of_one viewers operators.Select (criteria list) t =
@@ -74,7 +78,7 @@ of_one viewers operators.Rename (renamed name new) t = at_size t (outcome (renam
 of_one viewers operators.Slice (rows first limit step) t = at_size t (outcome (slice_due step) (slice first limit step t))
 of_one viewers operators.Unique nothing t = Ok (unique t)
 of_one viewers operators.GroupBy (named list name) t = at_size t (outcome (group_by_due list name t) (group_by list name t))
-of_one viewers operators.Counts (named list name) t = at_size t (outcome (counts_due list name t) (counts list name t))
+of_one viewers operators.Counts (named list name) t = counted list name t
 of_one viewers operators.JoinProp (inner name) t = at_size t (outcome (join_prop_due false name t) (join_prop false name t))
 of_one viewers operators.OuterJoinProp (inner name) t = at_size t (outcome (join_prop_due true name t) (join_prop true name t))
 of_one viewers operators.Calc (viewed_as viewer list new) t = calculated viewers viewer list new t

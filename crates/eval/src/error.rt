@@ -1,4 +1,5 @@
 ghost use Rattle.std.specs.Prelude.{◌≡◌};
+ghost use Rattle.eval.specs.Answers.{is_memory as is_of_memory};
 ghost use Rattle.eval.specs.declared.error.EvalError.TheVariants as eval_error;
 ghost use Rattle.eval.specs.declared.error.NameError.TheVariants as name_error;
 
@@ -46,6 +47,18 @@ pub enum EvalError {
     /// An operator was refused, or memory ran out; the number is the size of its first table.
     #[error("an operator was refused")]
     Op(DerivedError, u64),
+}
+
+impl EvalError {
+    /// Whether memory ran out: the expression may have a value all the same.
+    pub fn is_memory(&self) -> bool
+        ensures { result ≡ is_of_memory self.now }
+    {
+        matches!(
+            self,
+            EvalError::Name(NameError::Memory) | EvalError::Op(DerivedError::Memory, _)
+        )
+    }
 }
 
 impl From<Memory> for EvalError {

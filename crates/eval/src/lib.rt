@@ -18,3 +18,4 @@ pub use error::{EvalError, NameError};
 pub use evaluation::eval;
 pub use literals::{Asked, bounds_asked, criteria_asked};
 pub use names::Names;
+pub use on_one::{counts_by, keep_by};

@@ -8,7 +8,7 @@ ghost use Rattle.relations.specs.Refusals.{literals_due, sort_due};
 ghost use Rattle.expr_text.specs.Meanings.{query_of};
 ghost use Rattle.eval.specs.Answers.{AsAnswered, Gives, IsRefused};
 ghost use Rattle.eval.specs.Parts.{IsOverOne, given_of_one};
-ghost use Rattle.eval.specs.Values.{Evaluates, asked as asked_by, bounded as bounded_by, calculated, kept, key_of};
+ghost use Rattle.eval.specs.Values.{Evaluates, asked as asked_by, bounded as bounded_by, calculated, counted, kept, key_of};
 
 use crate::error::EvalError;
 use crate::literals::{bounds_asked, criteria_asked};
@@ -58,7 +58,7 @@ pub(crate) fn on_one<T: TableRead + Same + Drop, V: Viewer>(
         }
         Expr::Unique(_) => at_size(unique(alloc, base), size),
         Expr::GroupBy(_, keys, sub) => at_size(group_by(alloc, base, keys.as_slice(), sub), size),
-        Expr::Counts(_, keys, count) => at_size(counts(alloc, base, keys.as_slice(), count), size),
+        Expr::Counts(_, keys, count) => counts_by(alloc, base, keys.as_slice(), count),
         Expr::JoinProp(_, sub) => at_size(join_prop(alloc, base, sub, false), size),
         Expr::OuterJoinProp(_, sub) => at_size(join_prop(alloc, base, sub, true), size),
         Expr::Calc(_, viewer, args, new) => {
@@ -87,8 +87,30 @@ fn calc_by<T: TableRead + Same + Drop, V: Viewer>(
     }
 }
 
+/// For each key the number of the rows that have it.
+///
+/// # Errors
+///
+/// The refusal of `counts`, beside the size of the table. Else `Memory`.
+pub fn counts_by<T: TableRead + Same + Drop>(
+    alloc: Global,
+    base: Derived<T>,
+    keys: &[Name],
+    count: &Name,
+) -> Result<Derived<T>, EvalError>
+    requires some { 0 < length keys.now }
+    ensures { Evaluates table_of (counted keys.now count.now (table_of base)) result }
+{
+    let size = base.size();
+    at_size(counts(alloc, base, keys, count), size)
+}
+
 /// The rows for which the answer of the viewer of a name is not 0.
-fn keep_by<T: TableRead + Same + Drop, V: Viewer>(
+///
+/// # Errors
+///
+/// `Viewer` where no viewer has the name; the refusal of `keep`, beside the size of the table. Else `Memory`.
+pub fn keep_by<T: TableRead + Same + Drop, V: Viewer>(
     alloc: Global,
     base: Derived<T>,
     viewers: &[V],

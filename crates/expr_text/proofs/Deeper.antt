@@ -86,6 +86,8 @@ operated_lifts : (found : Option Operator) → operated found ≡ lift (operated
 operated_lifts (Some operators.Select) = refl
 operated_lifts (Some operators.Range) = refl
 operated_lifts (Some operators.Sort) = refl
+operated_lifts (Some operators.Counts) = refl
+operated_lifts (Some operators.Keep) = refl
 operated_lifts None = refl
 operated_lifts (Some _) = refl
 
@@ -93,6 +95,8 @@ operated_no_deep : (found : Option Operator) → operated found ≡ walk_.deep �
 operated_no_deep (Some operators.Select) e = cc
 operated_no_deep (Some operators.Range) e = cc
 operated_no_deep (Some operators.Sort) e = cc
+operated_no_deep (Some operators.Counts) e = cc
+operated_no_deep (Some operators.Keep) e = cc
 operated_no_deep None e = cc
 operated_no_deep (Some _) e = cc
 

@@ -95,6 +95,8 @@ kept_moves : (o : Operator) (form : Form) (follows : Bool) → IsKeptUp o → ta
 kept_moves operators.Select form follows kept same = let f : forms.criteria ≡ form = cc in ap operated (word_operator operators.Select) ∙ ap (λ x. push (a_sign 40 ∷ a_name ∷ form_goals x)) f
 kept_moves operators.Range form follows kept same = let f : forms.bounds ≡ form = cc in ap operated (word_operator operators.Range) ∙ ap (λ x. push (a_sign 40 ∷ a_name ∷ form_goals x)) f
 kept_moves operators.Sort form follows kept same = let f : forms.orders ≡ form = cc in ap operated (word_operator operators.Sort) ∙ ap (λ x. push (a_sign 40 ∷ a_name ∷ form_goals x)) f
+kept_moves operators.Counts form follows kept same = let f : forms.named ≡ form = cc in ap operated (word_operator operators.Counts) ∙ ap (λ x. push (a_sign 40 ∷ a_name ∷ form_goals x)) f
+kept_moves operators.Keep form follows kept same = let f : forms.viewed ≡ form = cc in ap operated (word_operator operators.Keep) ∙ ap (λ x. push (a_sign 40 ∷ a_name ∷ form_goals x)) f
 kept_moves _ form follows kept same = absurd kept
 
 operation_walks : (o : Operator) (r : Route) (t : Tail) → IsOperation (queries.one o (queries.path r) t) → (rest : List Token) (others : List Goal)
@@ -170,6 +172,8 @@ pub kept_moved : (kept : KeptUp) (t : Token) → t ≡ word (word_of (operator_o
 kept_moved kept_up.Select t e follows = ap (λ x. moved an_operation x follows) e ∙ kept_moves operators.Select forms.criteria follows tt refl
 kept_moved kept_up.Range t e follows = ap (λ x. moved an_operation x follows) e ∙ kept_moves operators.Range forms.bounds follows tt refl
 kept_moved kept_up.Sort t e follows = ap (λ x. moved an_operation x follows) e ∙ kept_moves operators.Sort forms.orders follows tt refl
+kept_moved kept_up.Counts t e follows = ap (λ x. moved an_operation x follows) e ∙ kept_moves operators.Counts forms.named follows tt refl
+kept_moved kept_up.Keep t e follows = ap (λ x. moved an_operation x follows) e ∙ kept_moves operators.Keep forms.viewed follows tt refl
 
 pub no_kept : (t : Token) → ((kept : KeptUp) → t ≡ word (word_of (operator_of kept)) → ⊥) → (follows : Bool) → moved an_operation t follows ≡ wrong
 no_kept (word letters) none follows = chosen (operator_named letters) refl
@@ -179,6 +183,8 @@ no_kept (word letters) none follows = chosen (operator_named letters) refl
     chosen (Some operators.Select) e = absurd (none kept_up.Select (ap word (operator_word letters operators.Select e)))
     chosen (Some operators.Range) e = absurd (none kept_up.Range (ap word (operator_word letters operators.Range e)))
     chosen (Some operators.Sort) e = absurd (none kept_up.Sort (ap word (operator_word letters operators.Sort e)))
+    chosen (Some operators.Counts) e = absurd (none kept_up.Counts (ap word (operator_word letters operators.Counts e)))
+    chosen (Some operators.Keep) e = absurd (none kept_up.Keep (ap word (operator_word letters operators.Keep e)))
     chosen (Some _) e = ap operated e
 no_kept (number z) none follows = refl
 no_kept (text content) none follows = refl

@@ -356,6 +356,10 @@ operated_sound letters (Some operators.Range) new ts named e m =
     operation_sound letters operators.Range forms.bounds ts (operator_word letters operators.Range named) refl tt (pushed (a_sign 40 ∷ a_name ∷ form_goals forms.bounds) new ts e m)
 operated_sound letters (Some operators.Sort) new ts named e m =
     operation_sound letters operators.Sort forms.orders ts (operator_word letters operators.Sort named) refl tt (pushed (a_sign 40 ∷ a_name ∷ form_goals forms.orders) new ts e m)
+operated_sound letters (Some operators.Counts) new ts named e m =
+    operation_sound letters operators.Counts forms.named ts (operator_word letters operators.Counts named) refl tt (pushed (a_sign 40 ∷ a_name ∷ form_goals forms.named) new ts e m)
+operated_sound letters (Some operators.Keep) new ts named e m =
+    operation_sound letters operators.Keep forms.viewed ts (operator_word letters operators.Keep named) refl tt (pushed (a_sign 40 ∷ a_name ∷ form_goals forms.viewed) new ts e m)
 operated_sound letters None new ts named e m = absurd (cc)
 operated_sound letters (Some _) new ts named e m = absurd (cc)
 

@@ -44,6 +44,8 @@ operated_no_pass : (found : Option Operator) → operated found ≡ pass → ⊥
 operated_no_pass (Some operators.Select) e = cc
 operated_no_pass (Some operators.Range) e = cc
 operated_no_pass (Some operators.Sort) e = cc
+operated_no_pass (Some operators.Counts) e = cc
+operated_no_pass (Some operators.Keep) e = cc
 operated_no_pass None e = cc
 operated_no_pass (Some _) e = cc
 

@@ -11,7 +11,7 @@ use Rattle.expr_text.specs.Operators.{form_of, one_table, takes}
 use Rattle.expr_text.specs.Queries.{Query, path, one}
 use Rattle.expr_text.specs.Spelling.{criterion_tokens, listed}
 use Rattle.expr_text.specs.declared.operator.Operator.{Operator}
-use Rattle.expr_text.specs.declared.operator.Operator.TheVariants.{Select, Range, Sort}
+use Rattle.expr_text.specs.declared.operator.Operator.TheVariants.{Select, Range, Sort, Counts, Keep}
 
 -- literals with nothing between them
 abbrev pub AreValues : List Datum → Type 0
@@ -30,6 +30,8 @@ abbrev pub IsKeptUp : Operator → Type 0
 IsKeptUp Select = Unit {0}
 IsKeptUp Range = Unit {0}
 IsKeptUp Sort = Unit {0}
+IsKeptUp Counts = Unit {0}
+IsKeptUp Keep = Unit {0}
 IsKeptUp _ = ⊥
 
 -- a name without steps

@@ -53,8 +53,12 @@ abbrev pub operator_of : KeptUp → Operator
 operator_of kept.Select = operators.Select
 operator_of kept.Range = operators.Range
 operator_of kept.Sort = operators.Sort
+operator_of kept.Counts = operators.Counts
+operator_of kept.Keep = operators.Keep
 
 abbrev pub kept_form : KeptUp → Form
 kept_form kept.Select = forms.criteria
 kept_form kept.Range = forms.bounds
 kept_form kept.Sort = forms.orders
+kept_form kept.Counts = forms.named
+kept_form kept.Keep = forms.viewed

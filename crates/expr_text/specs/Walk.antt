@@ -131,6 +131,8 @@ abbrev pub operated : Option Operator → Move
 operated (Some Select) = push (a_sign 40 ∷ a_name ∷ form_goals forms.criteria)
 operated (Some Range) = push (a_sign 40 ∷ a_name ∷ form_goals forms.bounds)
 operated (Some Sort) = push (a_sign 40 ∷ a_name ∷ form_goals forms.orders)
+operated (Some Counts) = push (a_sign 40 ∷ a_name ∷ form_goals forms.named)
+operated (Some Keep) = push (a_sign 40 ∷ a_name ∷ form_goals forms.viewed)
 operated _ = wrong
 
 -- the move of a goal at a token, which an opening parenthesis follows or not

@@ -54,7 +54,7 @@ impl<'a> Reader<'a> {
         Ok(list)
     }
 
-    /// Reads a selection, a range or a sorting of what a name stands for.
+    /// Reads a selection, a range, a sorting, counts or a filter of what a name stands for.
     pub fn operation(&mut self) -> Result<Expr, ExprError>
         ensures whole { IfOk result (λ e. IsOperation (query_of e)) }
         ensures spells { IfOk result (λ e. tokens_left self.old ≡ tokens_of (query_of e) ++ tokens_left self.new) }
@@ -67,6 +67,14 @@ impl<'a> Reader<'a> {
             KeptUp::Select => Ok(Expr::Select(base, self.criteria()?)),
             KeptUp::Range => Ok(Expr::Range(base, self.bounds()?)),
             KeptUp::Sort => Ok(Expr::Sort(base, self.orders()?)),
+            KeptUp::Counts => {
+                let (keys, count) = self.named()?;
+                Ok(Expr::Counts(base, keys, count))
+            }
+            KeptUp::Keep => {
+                let (viewer, props) = self.viewed()?;
+                Ok(Expr::Keep(base, viewer, props))
+            }
         }
     }
 

@@ -9,6 +9,8 @@ pub(crate) enum KeptUp {
     Select,
     Range,
     Sort,
+    Counts,
+    Keep,
 }
 
 impl KeptUp {
@@ -21,6 +23,8 @@ impl KeptUp {
             "select" => Some(KeptUp::Select),
             "range" => Some(KeptUp::Range),
             "sort" => Some(KeptUp::Sort),
+            "counts" => Some(KeptUp::Counts),
+            "keep" => Some(KeptUp::Keep),
             _ => None,
         }
     }

@@ -1,3 +1,4 @@
+pub mod Depths
 pub mod Finding
 pub mod Grouped
 pub mod Holding

@@ -50,7 +50,7 @@ last_rows t watches s =
     let x = shown t.schema s.op (source_rows t.rows front s.source) in
     ap (λ xs. get_or xs (length watches) []) (rows_push t.schema t.rows [] watches s) ∙ get_or_push front x [] (length watches) (rows_long t.schema t.rows [] watches)
 
-same_self : (a : List ℕ) → same_bytes a a ≡ true
+pub same_self : (a : List ℕ) → same_bytes a a ≡ true
 same_self a = (bytes_decides a a).1 refl
 
 twice : (all : List Kept) → AreWhole all → (i j : ℕ) → i < j → j < length all → (get_or all i no_kept).view ≡ (get_or all j no_kept).view → ⊥

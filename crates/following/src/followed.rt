@@ -1,11 +1,11 @@
 //! The watches of one view, by name.
-ghost use Rattle.std.specs.Prelude.{◌≡◌, ◌<◌, [], List, false, true, length, position, vec_len, None, Some, IfOk, OnOk, OnErr};
+ghost use Rattle.std.specs.Prelude.{◌≡◌, ◌<◌, ◌≤◌, ◌+◌, [], List, false, true, length, position, vec_len, None, Some, IfOk, OnOk, OnErr};
 ghost use Rattle.std.specs.List.{list_any, position_or_len};
-ghost use Rattle.std.specs.Option.{ForSome};
+ghost use Rattle.std.specs.Option.{ForSome, option_map, unwrap_or};
 ghost use Rattle.std.specs.Vec.{vec_capacity};
 ghost use Rattle.derived.specs.Layers.{table_of as table_derived};
 ghost use Rattle.followers.specs.Following.{watch_due};
-ghost use Rattle.live.specs.Chains.{AreNow, depth, source_depth};
+ghost use Rattle.live.specs.Chains.{AreInOrder, AreNow, depth, source_depth};
 ghost use Rattle.live.specs.Numbers.{over_of, place_of as place_numbered};
 ghost use Rattle.live.specs.Putting.{AnswersPut};
 ghost use Rattle.mk_value.specs.Data.{Datum};
@@ -106,6 +106,15 @@ impl Followed {
         ensures { result ≡ list_any (λ (s : Shown). stands_over (followed_of self.now).watches name.now s.source) (followed_of self.now).watches }
     {
         has_over(&self.names, &self.watches, name)
+    }
+
+    /// How many watches the first watch of the name is over the view, itself among them.
+    pub fn depth(&self, name: &Name) -> usize
+        requires there { is_among (followed_of self.now).watches name.now ≡ true }
+        requires order { AreInOrder self.now.watching.watches }
+        ensures { result ≡ source_depth (depths [] (followed_of self.now).watches) (Some (place_of (followed_of self.now).watches name.now)) }
+    {
+        depth_of(&self.watches, Some(self.place(name)))
     }
 
     /// The first watch of the name.
@@ -323,6 +332,21 @@ fn put_named<T: TableRead>(
     let number = put_watch(watches, source, op, rows, is_full)?;
     names.push_reserved(name);
     Ok(watches.len(number) as u64)
+}
+
+/// How many watches a source is over the view, itself among them.
+fn depth_of(watches: &Watches, source: Option<usize>) -> usize
+    requires order { AreInOrder watches.now.watches }
+    requires there { ForSome source (λ k. k < length watches.now.watches) }
+    ensures value { result ≡ depth watches.now.watches source }
+    ensures few { result ≤ unwrap_or (option_map (λ k. k + 1) source) 0 }
+{
+    // A machine word holds the number of all, so one more than a place too.
+    let _count = watches.count();
+    match source {
+        None => 0,
+        Some(place) => depth_of(watches, watches.source_at(place)) + 1,
+    }
 }
 
 /// The number of the watch at a place, or none for the root.

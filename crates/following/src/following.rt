@@ -11,7 +11,7 @@ ghost use Rattle.tables.specs.Tables.{StoredTable};
 ghost use Rattle.view_store.specs.Views.{NamedTable, table_of};
 ghost use Rattle.following.specs.Groups.{IsFirst};
 ghost use Rattle.following.specs.Keeping.{AreKept, AreKeptOver, ChangesRows, HaveRoom, IsWatchOf, Kept, StandsAt, followed, followed_of};
-ghost use Rattle.following.specs.Refusals.{put_due};
+ghost use Rattle.following.specs.Refusals.{depth_under, put_due};
 ghost use Rattle.following.specs.Watches.{count, followed_by, has_over, is_among, is_watch as is_name_of_watch, is_watched as is_view_watched, op_of, rows_under, source_of, watch_table, watches_of, with_watch, without_watch};
 
 use crate::followed::Followed;
@@ -134,6 +134,17 @@ impl Following {
         match find(&self.list, name) {
             Some(at) => Some(self.list[at].watched(name)),
             None => None,
+        }
+    }
+
+    /// How many watches what has this name is over its view, itself among them: none where it is no watch.
+    pub fn depth(&self, name: &Name) -> usize
+        requires { (views : List NamedTable) × AreKept views self.now }
+        ensures { result ≡ depth_under (followed self.now) (source_of (followed self.now) name.now) }
+    {
+        match find(&self.list, name) {
+            Some(at) => self.list[at].depth(name),
+            None => 0,
         }
     }
 

@@ -1,10 +1,10 @@
 use Rattle.std.proofs.Common.{◌≡◌, ℕ, List, map, false, true, sym, subst}
 use Rattle.std.specs.Prelude.{IfOk}
-use Rattle.derived.specs.Grouping.{counts, group_by}
+use Rattle.derived.specs.Grouping.{group_by}
 use Rattle.derived.specs.Joining.{join_prop}
 use Rattle.derived.specs.Layers.{table_of}
 use Rattle.derived.specs.Operators.{range, select, sort}
-use Rattle.derived.specs.Refusals.{counts_due, group_by_due, join_prop_due}
+use Rattle.derived.specs.Refusals.{group_by_due, join_prop_due}
 use Rattle.relations.specs.Answers.{AnswersDue, outcome}
 use Rattle.relations.specs.Criteria.{valued}
 use Rattle.relations.specs.Refusals.{literals_due, sort_due}
@@ -13,7 +13,7 @@ use Rattle.expr_text.specs.declared.expr.Order.{Order}
 use Rattle.expr_text.specs.Meanings.{query_of}
 use Rattle.eval.specs.Answers.{Gives}
 use Rattle.eval.specs.Parts.{given_of_one}
-use Rattle.eval.specs.Values.{Evaluates, asked, bounded, key_of}
+use Rattle.eval.specs.Values.{Evaluates, asked, bounded, counted, key_of}
 use Rattle.eval.proofs.Answered.{answered, answered_counted, answered_due, told_size}
 use Rattle.eval.proofs.on_one.on_one.Goals as goal
 
@@ -53,11 +53,8 @@ returns-in-GroupBy g c =
 pub returns-in-Counts : goal.returns-in-Counts
 returns-in-Counts g c =
     let t = table_of c.args.base in
-    let told = told_size t c.size-size.result c.counts.result c.at_size-in-Counts.result c.size-size.ensures.value c.at_size-in-Counts.ensures in
-    subst (λ x. Evaluates table_of (given_of_one (map g.V.Viewer.meaning c.args.viewers.now) (query_of x) t) c.at_size-in-Counts.result) (sym c.in-Counts.is)
-    (answered_due table_of t ((counts c.in-Counts.keys c.in-Counts.count t)) (counts_due c.in-Counts.keys c.in-Counts.count t) c.counts.result c.at_size-in-Counts.result
-    (subst (λ (keys : List (List ℕ)). AnswersDue (counts_due keys c.in-Counts.count t) c.counts.result) c.as_slice-in-Counts.ensures c.counts.ensures.due)
-    (subst (λ (keys : List (List ℕ)). IfOk c.counts.result (λ d. table_of d ≡ counts keys c.in-Counts.count t)) c.as_slice-in-Counts.ensures c.counts.ensures.ok) told)
+    subst (λ x. Evaluates table_of (given_of_one (map g.V.Viewer.meaning c.args.viewers.now) (query_of x) t) c.counts_by.result) (sym c.in-Counts.is)
+    (subst (λ (keys : List (List ℕ)). Evaluates table_of (counted keys c.in-Counts.count t) c.counts_by.result) c.as_slice-in-Counts.ensures c.counts_by.ensures)
 
 pub returns-in-JoinProp : goal.returns-in-JoinProp
 returns-in-JoinProp g c =
