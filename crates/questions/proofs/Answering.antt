@@ -6,8 +6,10 @@ use Rattle.relations.specs.declared.error.DerivedError.TheVariants as derived_er
 use Rattle.eval.specs.Answers.{IsMemory}
 use Rattle.eval.specs.declared.error.EvalError.{EvalError}
 use Rattle.eval.specs.declared.error.EvalError.TheVariants as eval_error
+use Rattle.eval.specs.declared.error.NameError.{NameError}
 use Rattle.eval.specs.declared.error.NameError.TheVariants as name_error
-use Rattle.questions.specs.Told.{told}
+use Rattle.eval.specs.Values.{at_path}
+use Rattle.questions.specs.Told.{told, told_of_name}
 use Rattle.questions.specs.declared.error.QuestionError.TheVariants.{Memory}
 
 -- want of memory is told as such
@@ -31,3 +33,6 @@ told_memory (eval_error.Op derived_error.TooDeep size) h = absurd h
 
 pub told_refusal : (due : Result Table EvalError) (e : EvalError) → IsMemory e ⊎ (due ≡ Err e) → (told e ≡ Memory) ⊎ (result_map_both (λ t. t) told due ≡ Err (told e))
 told_refusal due e h = elim h [ inl is ↦ inl (told_memory e is) | inr is ↦ inr (ap (result_map_both (λ t. t) told) is) ]
+
+pub path_told : (due : Result Table NameError) (e : NameError) → (e ≡ name_error.Memory) ⊎ (due ≡ Err e) → (told_of_name e ≡ Memory) ⊎ (result_map_both (λ t. t) told (at_path due) ≡ Err (told_of_name e))
+path_told due e h = elim h [ inl is ↦ inl (ap told_of_name is) | inr is ↦ inr (ap (λ (r : Result Table NameError). result_map_both (λ t. t) told (at_path r)) is) ]

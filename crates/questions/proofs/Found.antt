@@ -23,7 +23,7 @@ use Rattle.questions.specs.Kept.{Kept, named_snapshot, named_view, named_watch, 
 abbrev pub is_this : List ℕ → Named → Bool
 is_this name n = same_bytes n.name name
 
-find_behind : {X : Type 0} (p : X → Bool) (xs ys : List X) → find p (xs ++ ys) ≡ option_or (find p xs) (find p ys)
+pub find_behind : {X : Type 0} (p : X → Bool) (xs ys : List X) → find p (xs ++ ys) ≡ option_or (find p xs) (find p ys)
 find_behind p [] ys = refl
 find_behind p (x ∷ xs) ys = cases (p x)
     (λ e. rw e refl)
@@ -158,7 +158,7 @@ no_steps_left [] h = refl
 no_steps_left (s ∷ steps) h = absurd (let n : length (s ∷ steps) ≡ 0 = grind (arith, nat_tests) in omega (arith, n))
 
 -- no watch has the name, or steps follow it
-steps_refused : (n : Option Named) (steps : List Step) → ((m : Named) → n ≡ Some m → m.has_steps ≡ false) → (steps ≡ [] → ⊥) → seen_at n steps ≡ Err NoName
+pub steps_refused : (n : Option Named) (steps : List Step) → ((m : Named) → n ≡ Some m → m.has_steps ≡ false) → (steps ≡ [] → ⊥) → seen_at n steps ≡ Err NoName
 steps_refused None steps h some = refl
 steps_refused (Some m) [] h some = absurd (some refl)
 steps_refused (Some m) (s ∷ steps) h some = ap (λ b. cond b (table_at (s ∷ steps) m.table) (Err NoName)) (h m refl)
@@ -186,3 +186,10 @@ watch_seen views all route name t called none is_one shows_it =
     ap (λ o. seen_at o route.steps) (find_called (named_watch views all) (λ n. refl) (watch_names all) route.name (names_tell all route.name ∙ is))
     ∙ ap (λ s. seen_at (Some (named_watch views all route.name)) s) none
     ∙ ap (λ o. Ok (unwrap_or o (record { schema = []; rows = [] }))) shows
+
+-- among the first of three lists of names, where one of them has the name
+pub view_at-first : (xs ys zs : List Named) (route : Route) → is_some (find (is_this route.name) xs) ≡ true → view_at ((xs ++ ys) ++ zs) route ≡ view_at xs route
+view_at-first xs ys zs route h =
+    ap (λ o. seen_at o route.steps) (find_behind (is_this route.name) (xs ++ ys) zs
+    ∙ ap (λ o. option_or o (find (is_this route.name) zs)) (find_behind (is_this route.name) xs ys ∙ or_some (find (is_this route.name) xs) (find (is_this route.name) ys) h)
+    ∙ or_some (find (is_this route.name) xs) (find (is_this route.name) zs) h)

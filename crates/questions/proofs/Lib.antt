@@ -2,6 +2,7 @@ mod Answering
 mod Firsts
 mod Found
 mod Keys
+mod Levels
 mod RowsUnder
 mod Sizes
 mod Steps

@@ -1,8 +1,11 @@
 -- The rows of what a cursor stands on.
-use Rattle.std.proofs.Common.{◌≡◌, ◌<◌, ℕ, Bool, true, false, List, [], ◌∷◌, length, get_or, Option, Some, None, IfSome, MatchOption, refl, ap, sym, subst, ◌∙◌, arith}
+use Rattle.std.proofs.Common.{◌≡◌, ◌⊎◌, inl, inr, ◌<◌, ℕ, Bool, true, false, List, [], ◌∷◌, length, get_or, Option, Some, None, Result, Ok, Err, IfSome, MatchOption, refl, ap, sym, subst, ◌∙◌, arith}
 use Rattle.std.specs.Prelude.{find}
 use Rattle.std.specs.List.{list_any}
 use Rattle.std.specs.Option.{option_map, unwrap_or}
+use Rattle.eval.specs.Names.{Named, seen_at, table_at}
+use Rattle.eval.specs.declared.error.NameError.{NameError}
+use Rattle.eval.specs.declared.error.NameError.TheVariants.{NoName, Memory}
 use Rattle.following.specs.Keeping.{StandsAt}
 use Rattle.following.specs.Watches.{Followed, is_among, is_watch, found, place_of, shown_at, shown_in, source_in, source_of}
 use Rattle.mk_value.specs.Data.{Datum}
@@ -64,3 +67,20 @@ row_shown (Some u) t shown at row is h =
       subst (λ (x : StoredTable). at < length x.rows) same h.there,
       ap (λ (x : StoredTable). get_or x.rows at []) (sym same) ∙ h.same ∙ ap (λ o. get_or (unwrap_or (option_map (λ (t : Table). t.rows) o) []) row []) (sym h.is),
     )
+
+-- the rows of what a name without steps stands for
+pub rows_found : (o : Option Named) (t : Table) → seen_at o [] ≡ Ok t → unwrap_or (option_map (λ (n : Named). n.table.rows) o) [] ≡ t.rows
+rows_found None t h = absurd (let clash : ◌≡◌ {A = Result Table NameError} (Err NoName) (Ok t) = h in cc)
+rows_found (Some n) t h =
+    let same : record { schema = n.table.schema; rows = n.table.rows } ≡ t =
+    (let f : ◌≡◌ {A = Result Table NameError} (Ok (record { schema = n.table.schema; rows = n.table.rows })) (Ok t) = h in cc) in
+    ap (λ (t : Table). t.rows) same
+
+-- where no steps follow, all that is refused is the name
+pub no_rows_found : (o : Option Named) (e : NameError) → e ≡ NoName → (e ≡ Memory) ⊎ (seen_at o [] ≡ Err e) → unwrap_or (option_map (λ (n : Named). n.table.rows) o) [] ≡ []
+no_rows_found None e none h = refl
+no_rows_found (Some n) e none h =
+    elim h [
+      | inl memory ↦ absurd (let clash : ◌≡◌ {A = NameError} NoName Memory = cc in cc)
+      | inr is ↦ absurd (let clash : ◌≡◌ {A = Result Table NameError} (table_at [] n.table) (Err e) = is in cc)
+    ]

@@ -1,8 +1,10 @@
 -- Cursors: positions under names, each on a view, on a snapshot or on a watch.
-use Rattle.std.specs.Prelude.{◌≡◌, ℕ, zero, suc, ◌+◌, ◌-◌, Bool, true, false, ◌&&◌, if◌then◌else◌, nat_lt, List, [], ◌∷◌, find, length, slice_index_or, refl, Option, Some, None, Result, Ok, Err}
+use Rattle.std.specs.Prelude.{◌≡◌, ℕ, zero, suc, ◌+◌, ◌-◌, Bool, true, false, ◌&&◌, ◌||◌, if◌then◌else◌, nat_lt, List, [], ◌∷◌, find, length, slice_index_or, refl, Option, Some, None, Result, Ok, Err}
 use Rattle.std.specs.Coded.{Coded, code_by, coded_ℕ, coded_list, coded×}
 use Rattle.std.specs.List.{list_any}
 use Rattle.std.specs.Option.{is_some, option_map, unwrap_or}
+use Rattle.computing.specs.Computed.{Computations, computed_names, is_computed}
+use Rattle.eval.specs.Names.{Named}
 use Rattle.following.specs.Watches.{Followed, is_watch, watch_table}
 use Rattle.mk_value.specs.Data.{Datum}
 use Rattle.mk_value.specs.Literals.{row_text}
@@ -12,7 +14,8 @@ use Rattle.questions.specs.declared.cursor.Standing.{Standing}
 use Rattle.questions.specs.declared.cursor.Standing.TheVariants.{View, Snapshot, Watch}
 use Rattle.questions.specs.declared.error.QuestionError.{QuestionError}
 use Rattle.questions.specs.declared.error.QuestionError.TheVariants.{NoName, Range}
-use Rattle.questions.specs.Kept.{Kept, is_kept}
+use Rattle.viewers.specs.Meanings.{Meaning}
+use Rattle.questions.specs.Kept.{Kept, Names, is_kept, sources}
 
 -- a cursor: its name, the name of what it stands on, which of the three that is, and its position
 pub record Placed : Type 0 where
@@ -36,11 +39,11 @@ standing_by-number View = refl
 standing_by-number Snapshot = refl
 standing_by-number Watch = refl
 
--- what a name stands for: a view, where none has it a snapshot, and where none has it a watch
-abbrev pub standing_of : List NamedTable → List Kept → List Followed → List ℕ → Option Standing
-standing_of views snapshots watches name =
-    if is_some (table_of views name) then Some View
-    else (if is_kept snapshots name then Some Snapshot else (if is_watch watches name then Some Watch else None))
+-- what a name stands for: a view, where none has it a snapshot, and where none has it a watch, computed or not
+abbrev pub standing_of : Names → Computations → List ℕ → Option Standing
+standing_of n c name =
+    if is_some (table_of n.views name) then Some View
+    else (if is_kept n.snapshots name then Some Snapshot else (if is_watch n.watches name || is_computed c name then Some Watch else None))
 
 -- the rows of a view, of the first snapshot and of the first watch of a name; none where there is no such thing
 abbrev pub rows_viewed : List NamedTable → List ℕ → List (List Datum)
@@ -52,15 +55,20 @@ rows_kept snapshots name = unwrap_or (option_map (λ (s : Kept). s.table.rows) (
 abbrev pub rows_watched : List NamedTable → List Followed → List ℕ → List (List Datum)
 rows_watched views watches name = unwrap_or (option_map (λ t. t.rows) (watch_table views watches name)) []
 
+-- the rows of the first computed watch of a name
+unfoldable pub rows_computed : Names → List Meaning → Computations → List ℕ → List (List Datum)
+rows_computed n viewers c name =
+    unwrap_or (option_map (λ (m : Named). m.table.rows) (find (λ (m : Named). same_bytes m.name name) (computed_names (sources n) viewers c))) []
+
 -- the rows of what a name stands for in this way, as they are now
-abbrev pub rows_standing : List NamedTable → List Kept → List Followed → Standing → List ℕ → List (List Datum)
-rows_standing views snapshots watches View name = rows_viewed views name
-rows_standing views snapshots watches Snapshot name = rows_kept snapshots name
-rows_standing views snapshots watches Watch name = rows_watched views watches name
+abbrev pub rows_standing : Names → List Meaning → Computations → Standing → List ℕ → List (List Datum)
+rows_standing n viewers c View name = rows_viewed n.views name
+rows_standing n viewers c Snapshot name = rows_kept n.snapshots name
+rows_standing n viewers c Watch name = if is_watch n.watches name then rows_watched n.views n.watches name else rows_computed n viewers c name
 
 -- the rows of what a cursor stands on
-abbrev pub rows_under : List NamedTable → List Kept → List Followed → Placed → List (List Datum)
-rows_under views snapshots watches c = rows_standing views snapshots watches c.standing c.target
+abbrev pub rows_under : Names → List Meaning → Computations → Placed → List (List Datum)
+rows_under n viewers c cursor = rows_standing n viewers c cursor.standing cursor.target
 
 -- whether a cursor has the name, and whether one stands on the view, the snapshot or the watch of a name
 abbrev pub is_cursor : List Placed → List ℕ → Bool
@@ -103,14 +111,14 @@ previous_in rows position = if nat_lt 0 position then Ok (position - 1) else Err
 abbrev pub row_in : List (List Datum) → ℕ → Result (List ℕ) QuestionError
 row_in rows position = if nat_lt position (length rows) then Ok (row_text (slice_index_or rows position [])) else Err (Range (length rows))
 
-abbrev pub next_due : List NamedTable → List Kept → List Followed → List Placed → List ℕ → Result ℕ QuestionError
-next_due views snapshots watches cursors name = cursor_due cursors name (λ c. next_in (rows_under views snapshots watches c) c.position)
+abbrev pub next_due : Names → List Meaning → Computations → List Placed → List ℕ → Result ℕ QuestionError
+next_due n viewers c cursors name = cursor_due cursors name (λ cursor. next_in (rows_under n viewers c cursor) cursor.position)
 
-abbrev pub previous_due : List NamedTable → List Kept → List Followed → List Placed → List ℕ → Result ℕ QuestionError
-previous_due views snapshots watches cursors name = cursor_due cursors name (λ c. previous_in (rows_under views snapshots watches c) c.position)
+abbrev pub previous_due : Names → List Meaning → Computations → List Placed → List ℕ → Result ℕ QuestionError
+previous_due n viewers c cursors name = cursor_due cursors name (λ cursor. previous_in (rows_under n viewers c cursor) cursor.position)
 
-abbrev pub row_due : List NamedTable → List Kept → List Followed → List Placed → List ℕ → Result (List ℕ) QuestionError
-row_due views snapshots watches cursors name = cursor_due cursors name (λ c. row_in (rows_under views snapshots watches c) c.position)
+abbrev pub row_due : Names → List Meaning → Computations → List Placed → List ℕ → Result (List ℕ) QuestionError
+row_due n viewers c cursors name = cursor_due cursors name (λ cursor. row_in (rows_under n viewers c cursor) cursor.position)
 
 -- the cursors after one of a name was asked to move
 abbrev pub moved_to : List Placed → List ℕ → Result ℕ QuestionError → List Placed

@@ -6,9 +6,11 @@ use Rattle.std.specs.Option.{unwrap_or}
 use Rattle.mk_value.specs.Names.{same_bytes}
 use Rattle.mk_value.specs.Tables.{Table, table_code}
 use Rattle.eval.specs.Names.{Named}
+use Rattle.computing.specs.Computed.{Computations, with_computed}
 use Rattle.following.specs.Watches.{Followed, Shown, watch_table}
 use Rattle.mappings.specs.Mapped.{MappedView}
 use Rattle.tables.specs.Tables.{StoredTable}
+use Rattle.viewers.specs.Meanings.{Meaning}
 use Rattle.view_store.specs.Views.{NamedTable}
 
 -- a snapshot: its name, and the schema and the rows that it keeps
@@ -60,6 +62,18 @@ pub record Names : Type 0 where
 -- views and snapshots decide before watches
 abbrev pub known : List NamedTable → List Kept → List Followed → List Named
 known views snapshots watches = stored views snapshots ++ watched views watches
+
+-- over what computed watches may stand: views and watches, and no snapshots
+abbrev pub sources : Names → List Named
+sources n = known n.views [] n.watches
+
+-- what names stand for in an expression: those of computed watches come last
+unfoldable pub asked_names : Names → List Meaning → Computations → List Named
+asked_names n viewers c = with_computed (known n.views n.snapshots n.watches) (sources n) viewers c
+
+-- what a watch may be asked of: a view, a watch or a computed watch
+unfoldable pub source_names : Names → List Meaning → Computations → List Named
+source_names n viewers c = with_computed (sources n) (sources n) viewers c
 
 -- whether a snapshot has the name, and the snapshots without the first of it
 abbrev pub is_kept : List Kept → List ℕ → Bool

@@ -1,8 +1,10 @@
--- An operation that may be watched: a selection, a range or a sorting of what a name stands for.
-use Rattle.std.specs.Prelude.{◌≡◌, ◌⊎◌, ℕ, List, [], map, Some, Result, Ok, Err}
+-- An operation that may be watched: a selection, a range, a sorting, counts or a filter of what a name stands for.
+use Rattle.std.specs.Prelude.{◌≡◌, ◌⊎◌, ℕ, List, [], map, Option, Some, None, Result, Ok, Err}
 use Rattle.std.specs.Option.{option_map}
+use Rattle.computing.specs.declared.computed.Computation.{Computation}
+use Rattle.computing.specs.declared.computed.Computation.TheVariants.{Counts, Filter}
 use Rattle.eval.specs.Values.{asked, bounded, key_of}
-use Rattle.expr_text.specs.Arguments.{bounds, criteria, orders}
+use Rattle.expr_text.specs.Arguments.{bounds, criteria, named, orders, viewed}
 use Rattle.expr_text.specs.Queries.{Query, one, path}
 use Rattle.expr_text.specs.declared.operator.Operator.TheVariants as operators
 use Rattle.live.specs.Putting.{as_watch_error}
@@ -22,6 +24,12 @@ name_alone _ = []
 abbrev pub operand : Query → List ℕ
 operand (one operator q tail) = name_alone q
 operand _ = []
+
+-- what a computed watch would show: counts, and the rows on which a viewer's answer is not 0
+abbrev pub computed_by : Query → Option Computation
+computed_by (one operators.Counts q (named keys count)) = Some (Counts keys count)
+computed_by (one operators.Keep q (viewed viewer props)) = Some (Filter viewer props)
+computed_by _ = None
 
 -- what it shows of rows of a schema: a selection is a range whose bounds are equal
 abbrev pub operation : List Attribute → Query → WatchOp

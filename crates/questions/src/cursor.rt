@@ -1,21 +1,30 @@
 //! Cursors: positions over views, snapshots and watches.
-ghost use Rattle.std.specs.Prelude.{◌≡◌, ◌<◌, ◌↔◌, ◌++◌, ◌∷◌, [], find, length, position as place, slice_index_or, IfOk, IsTrue, MatchResult, None, Some, OnOk, OnErr};
+ghost use Rattle.std.specs.Prelude.{◌≡◌, ◌<◌, ◌↔◌, ◌++◌, ◌∷◌, [], find, length, map, position as place, slice_index_or, IfOk, IsTrue, MatchResult, None, Some, OnOk, OnErr};
 ghost use Rattle.std.specs.Option.{option_map, unwrap_or};
+ghost use Rattle.computing.specs.Computed.{computed_names};
+ghost use Rattle.eval.specs.Names.{IsSeen, Named, seen_at};
 ghost use Rattle.mk_value.specs.Literals.{row_text};
 ghost use Rattle.mk_value.specs.Names.{same_bytes};
 ghost use Rattle.questions.specs.Answers.{Answers};
-ghost use Rattle.questions.specs.Cursors.{Placed, has_cursor_on as stands_on, is_cursor as has_name, moved, moved_to, next_due, next_in, previous_due, previous_in, row_due, row_in, rows_under, rows_watched, standing_of, without_cursor};
+ghost use Rattle.questions.specs.Cursors.{Placed, has_cursor_on as stands_on, is_cursor as has_name, moved, moved_to, next_due, next_in, previous_due, previous_in, row_due, row_in, rows_computed, rows_standing, rows_under, rows_watched, standing_of, without_cursor};
+ghost use Rattle.questions.specs.Kept.{sources};
+ghost use Rattle.questions.specs.declared.cursor.Standing.TheVariants.{Watch};
 ghost use Rattle.questions.specs.declared.error.QuestionError.TheVariants as question_error;
 
 use crate::error::QuestionError;
 use crate::known::Known;
+use crate::level::is_absent;
 use crate::rows::text_of_row;
-use crate::snapshot::is_snapshot;
+use crate::scope::Scope;
+use computing::computed_table;
+use derived::Derived;
+use eval::NameError;
 use mk_value::{Memory, Name, TableRead, Text};
 use relations::copy_row;
 use std::alloc::Global;
 use std::marker::Model;
 use tables::Shared;
+use viewers::Viewer;
 
 /// What a name stands for.
 #[derive(Clone, Copy, Debug, PartialEq, Eq)]
@@ -150,18 +159,18 @@ pub fn take_out_cursor(cursors: &mut Cursors, name: &Name) -> bool
     }
 }
 
-impl<'a> Known<'a> {
+impl<V: Viewer> Scope<'_, V> {
     /// What a name stands for: a view, where none has it a snapshot, and where none has it a watch.
     pub fn standing(&self, name: &Name) -> Option<Standing>
-        ensures { result ≡ standing_of self.now.views self.now.snapshots self.now.watches name.now }
+        ensures { result ≡ standing_of self.now.names self.now.computed.now name.now }
     {
-        if self.view_of(name).is_some() {
+        if self.names.view_of(name).is_some() {
             return Some(Standing::View);
         }
-        if is_snapshot(self.snapshots, name) {
+        if self.names.is_snapshot(name) {
             return Some(Standing::Snapshot);
         }
-        if self.watches.is_watch(name) {
+        if self.names.is_watch(name) || self.computed.is_computed(name) {
             return Some(Standing::Watch);
         }
         None
@@ -171,12 +180,17 @@ impl<'a> Known<'a> {
     ///
     /// # Errors
     ///
-    /// `NoName` where there is no such cursor; `Range` where no row stands at its position.
-    pub fn next(&self, cursors: &mut Cursors, name: &Name) -> Result<u64, QuestionError>
-        ensures due { result ≡ next_due self.now.views self.now.snapshots self.now.watches cursors.old name.now }
+    /// `NoName` where there is no such cursor; `Range` where no row stands at its position. Else `Memory`.
+    pub fn next(
+        &self,
+        alloc: Global,
+        cursors: &mut Cursors,
+        name: &Name,
+    ) -> Result<u64, QuestionError>
+        ensures due { Answers (λ position. position) (next_due self.now.names (map V.meaning self.now.viewers.now) self.now.computed.now cursors.old name.now) result }
         ensures moved { cursors.new ≡ moved_to cursors.old name.now result }
     {
-        let position = self.one_further(cursor_of(cursors.as_slice(), name)?)?;
+        let position = self.one_further(alloc, cursor_of(cursors.as_slice(), name)?)?;
         cursors.move_to(name, position);
         Ok(position)
     }
@@ -185,12 +199,17 @@ impl<'a> Known<'a> {
     ///
     /// # Errors
     ///
-    /// `NoName` where there is no such cursor; `Range` where its position is 0.
-    pub fn previous(&self, cursors: &mut Cursors, name: &Name) -> Result<u64, QuestionError>
-        ensures due { result ≡ previous_due self.now.views self.now.snapshots self.now.watches cursors.old name.now }
+    /// `NoName` where there is no such cursor; `Range` where its position is 0. Else `Memory`.
+    pub fn previous(
+        &self,
+        alloc: Global,
+        cursors: &mut Cursors,
+        name: &Name,
+    ) -> Result<u64, QuestionError>
+        ensures due { Answers (λ position. position) (previous_due self.now.names (map V.meaning self.now.viewers.now) self.now.computed.now cursors.old name.now) result }
         ensures moved { cursors.new ≡ moved_to cursors.old name.now result }
     {
-        let position = self.one_back(cursor_of(cursors.as_slice(), name)?)?;
+        let position = self.one_back(alloc, cursor_of(cursors.as_slice(), name)?)?;
         cursors.move_to(name, position);
         Ok(position)
     }
@@ -201,16 +220,16 @@ impl<'a> Known<'a> {
     ///
     /// `NoName` where there is no such cursor; `Range` where no row stands at its position. Else `Memory`.
     pub fn row(&self, alloc: Global, cursors: &[Cursor], name: &Name) -> Result<Text, QuestionError>
-        ensures { Answers (λ text. text.bytes) (row_due self.now.views self.now.snapshots self.now.watches cursors.now name.now) result }
+        ensures { Answers (λ text. text.bytes) (row_due self.now.names (map V.meaning self.now.viewers.now) self.now.computed.now cursors.now name.now) result }
     {
         self.row_at(alloc, cursor_of(cursors, name)?)
     }
 
     /// The position one row further than a cursor's.
-    fn one_further(&self, cursor: &Cursor) -> Result<u64, QuestionError>
-        ensures { result ≡ next_in (rows_under self.now.views self.now.snapshots self.now.watches cursor.now) cursor.now.position }
+    fn one_further(&self, alloc: Global, cursor: &Cursor) -> Result<u64, QuestionError>
+        ensures { Answers (λ position. position) (next_in (rows_under self.now.names (map V.meaning self.now.viewers.now) self.now.computed.now cursor.now) cursor.now.position) result }
     {
-        let size = self.size_under(cursor);
+        let size = self.size_under(alloc, cursor)?;
         if cursor.position < size {
             Ok(cursor.position + 1)
         } else {
@@ -219,43 +238,106 @@ impl<'a> Known<'a> {
     }
 
     /// The position one row before a cursor's.
-    fn one_back(&self, cursor: &Cursor) -> Result<u64, QuestionError>
-        ensures { result ≡ previous_in (rows_under self.now.views self.now.snapshots self.now.watches cursor.now) cursor.now.position }
+    fn one_back(&self, alloc: Global, cursor: &Cursor) -> Result<u64, QuestionError>
+        ensures { Answers (λ position. position) (previous_in (rows_under self.now.names (map V.meaning self.now.viewers.now) self.now.computed.now cursor.now) cursor.now.position) result }
     {
         if 0 < cursor.position {
-            Ok(cursor.position - 1)
-        } else {
-            Err(QuestionError::Range(self.size_under(cursor)))
+            return Ok(cursor.position - 1);
         }
+        let size = self.size_under(alloc, cursor)?;
+        Err(QuestionError::Range(size))
     }
 
     /// The text of the row at a cursor's position.
     fn row_at(&self, alloc: Global, cursor: &Cursor) -> Result<Text, QuestionError>
-        ensures { Answers (λ text. text.bytes) (row_in (rows_under self.now.views self.now.snapshots self.now.watches cursor.now) cursor.now.position) result }
+        ensures { Answers (λ text. text.bytes) (row_in (rows_under self.now.names (map V.meaning self.now.viewers.now) self.now.computed.now cursor.now) cursor.now.position) result }
     {
         let name = &cursor.target;
         let position = cursor.position;
         match cursor.standing {
-            Standing::View => row_of(alloc, self.view_of(name), position),
-            Standing::Snapshot => row_of(alloc, self.snapshot_of(name), position),
-            Standing::Watch => self.row_watched(alloc, name, position),
+            Standing::View => row_of(alloc, self.names.view_of(name), position),
+            Standing::Snapshot => row_of(alloc, self.names.snapshot_of(name), position),
+            Standing::Watch => self.row_of_watch(alloc, name, position),
+        }
+    }
+
+    /// The text of a row of the watch of a name, computed or not.
+    fn row_of_watch(&self, alloc: Global, name: &Name, position: u64) -> Result<Text, QuestionError>
+        ensures { Answers (λ text. text.bytes) (row_in (rows_standing self.now.names (map V.meaning self.now.viewers.now) self.now.computed.now Watch name.now) position) result }
+    {
+        if self.names.is_watch(name) {
+            self.names.row_watched(alloc, name, position)
+        } else {
+            self.row_computed(alloc, name, position)
         }
     }
 
     /// The number of rows of what a cursor stands on.
-    fn size_under(&self, cursor: &Cursor) -> u64
-        ensures { result ≡ length (rows_under self.now.views self.now.snapshots self.now.watches cursor.now) }
+    fn size_under(&self, alloc: Global, cursor: &Cursor) -> Result<u64, Memory>
+        ensures { IfOk result (λ size. size ≡ length (rows_under self.now.names (map V.meaning self.now.viewers.now) self.now.computed.now cursor.now)) }
     {
         let name = &cursor.target;
         match cursor.standing {
-            Standing::View => size_of(self.view_of(name)),
-            Standing::Snapshot => size_of(self.snapshot_of(name)),
-            Standing::Watch => self.size_watched(name),
+            Standing::View => Ok(size_of(self.names.view_of(name))),
+            Standing::Snapshot => Ok(size_of(self.names.snapshot_of(name))),
+            Standing::Watch => self.size_of_watch(alloc, name),
         }
     }
 
+    /// The number of rows of the watch of a name, computed or not.
+    fn size_of_watch(&self, alloc: Global, name: &Name) -> Result<u64, Memory>
+        ensures { IfOk result (λ size. size ≡ length (rows_standing self.now.names (map V.meaning self.now.viewers.now) self.now.computed.now Watch name.now)) }
+    {
+        if self.names.is_watch(name) {
+            Ok(self.names.size_watched(name))
+        } else {
+            self.size_computed(alloc, name)
+        }
+    }
+
+    /// The number of rows of the computed watch of a name, where there is one.
+    fn size_computed(&self, alloc: Global, name: &Name) -> Result<u64, Memory>
+        ensures { IfOk result (λ size. size ≡ length (rows_computed self.now.names (map V.meaning self.now.viewers.now) self.now.computed.now name.now)) }
+    {
+        match self.computed_table(alloc, name) {
+            Ok(table) => Ok(table.size() as u64),
+            Err(NameError::NoName) => Ok(0),
+            // No steps follow the name, so nothing else is refused.
+            Err(_) => Err(Memory),
+        }
+    }
+
+    /// The text of a row of the computed watch of a name, where there is one.
+    fn row_computed(&self, alloc: Global, name: &Name, position: u64) -> Result<Text, QuestionError>
+        ensures { Answers (λ text. text.bytes) (row_in (rows_computed self.now.names (map V.meaning self.now.viewers.now) self.now.computed.now name.now) position) result }
+    {
+        match self.computed_table(alloc, name) {
+            Ok(table) => row_within(alloc, &table, position),
+            Err(NameError::NoName) => Err(QuestionError::Range(0)),
+            // As in `size_computed`.
+            Err(_) => Err(QuestionError::Memory),
+        }
+    }
+
+    /// The table of the first computed watch of a name.
+    fn computed_table(&self, alloc: Global, name: &Name) -> Result<Derived<Shared>, NameError>
+        ensures { IsSeen (seen_at (find (λ (m : Named). same_bytes m.name name.now) (computed_names (sources self.now.names) (map V.meaning self.now.viewers.now) self.now.computed.now)) []) result }
+    {
+        let sources = self.names.sources();
+        match computed_table(alloc, &sources, self.viewers, self.computed.filters(), name) {
+            Ok(table) => Ok(table),
+            Err(error) if is_absent(&error) => {
+                let filtered = self.level(alloc, &sources, &sources, self.computed.filters());
+                computed_table(alloc, &filtered, self.viewers, self.computed.counts(), name)
+            }
+            Err(error) => Err(error),
+        }
+    }
+}
+
+impl Known<'_> {
     /// The number of rows of the watch of a name, where there is one.
-    fn size_watched(&self, name: &Name) -> u64
+    pub(crate) fn size_watched(&self, name: &Name) -> u64
         ensures { result ≡ length (rows_watched self.now.views self.now.watches name.now) }
     {
         if !self.watches.is_watch(name) {
@@ -265,7 +347,12 @@ impl<'a> Known<'a> {
     }
 
     /// The text of a row of the watch of a name, where there is one.
-    fn row_watched(&self, alloc: Global, name: &Name, position: u64) -> Result<Text, QuestionError>
+    pub(crate) fn row_watched(
+        &self,
+        alloc: Global,
+        name: &Name,
+        position: u64,
+    ) -> Result<Text, QuestionError>
         ensures { Answers (λ text. text.bytes) (row_in (rows_watched self.now.views self.now.watches name.now) position) result }
     {
         let size = self.size_watched(name);
@@ -305,6 +392,13 @@ fn row_of(alloc: Global, table: Option<&Shared>, position: u64) -> Result<Text, 
     let Some(table) = table else {
         return Err(QuestionError::Range(0));
     };
+    row_within(alloc, table, position)
+}
+
+/// The text of a row of a table.
+fn row_within<T: TableRead>(alloc: Global, table: &T, position: u64) -> Result<Text, QuestionError>
+    ensures { Answers (λ text. text.bytes) (row_in (T.rows table.now) position) result }
+{
     let size = table.size() as u64;
     if position >= size {
         return Err(QuestionError::Range(size));

@@ -1,15 +1,16 @@
 //! Names that stand for tables: those of views, of snapshots and of watches.
-ghost use Rattle.std.specs.Prelude.{◌≡◌, ◌⊎◌, find, IfErr, IfOk, MatchOption, Some, None, Ok, Err, true};
+ghost use Rattle.std.specs.Prelude.{◌≡◌, ◌⊎◌, [], find, IfErr, IfOk, MatchOption, Some, None, Ok, Err, true};
 ghost use Rattle.std.specs.Option.{is_some};
 ghost use Rattle.eval.specs.Names.{IsSeen, Named, view_at};
 ghost use Rattle.eval.specs.declared.error.NameError.TheVariants as name_error;
 ghost use Rattle.following.specs.Keeping.{AreKept, followed};
+ghost use Rattle.following.specs.Watches.{is_watch as is_name_of_watch};
 ghost use Rattle.mappings.specs.Keeping.{mapped};
 ghost use Rattle.mk_value.specs.Names.{same_bytes};
 ghost use Rattle.view_store.specs.Views.{table_of as view_named};
-ghost use Rattle.questions.specs.Kept.{Kept, stored, table_of, watched};
+ghost use Rattle.questions.specs.Kept.{Kept, is_kept, stored, table_of, watched};
 
-use crate::snapshot::Snapshot;
+use crate::snapshot::{Snapshot, is_snapshot};
 use crate::walk::inner_table;
 use derived::{Derived, leaf};
 use eval::{NameError, Names};
@@ -83,11 +84,40 @@ impl<'a> Known<'a> {
         }
     }
 
+    /// The same without snapshots: over what computed watches may stand.
+    pub(crate) fn sources(&self) -> Known<'a>
+        ensures views { result.views ≡ self.now.views }
+        ensures snapshots { result.snapshots ≡ [] }
+        ensures watches { result.watches ≡ self.now.watches }
+        ensures mappings { result.mappings ≡ self.now.mappings }
+    {
+        Known {
+            views: self.views,
+            snapshots: &[],
+            watches: self.watches,
+            mappings: self.mappings,
+        }
+    }
+
     /// Whether a view or a snapshot has the name.
     pub(crate) fn is_stored(&self, name: &Name) -> bool
         ensures { result ≡ is_some (find (λ (n : Named). same_bytes n.name name.now) (stored self.now.views self.now.snapshots)) }
     {
         self.table_of(name).is_some()
+    }
+
+    /// Whether a snapshot has the name.
+    pub(crate) fn is_snapshot(&self, name: &Name) -> bool
+        ensures { result ≡ is_kept self.now.snapshots name.now }
+    {
+        is_snapshot(self.snapshots, name)
+    }
+
+    /// Whether a watch that keeps positions has the name.
+    pub(crate) fn is_watch(&self, name: &Name) -> bool
+        ensures { result ≡ is_name_of_watch self.now.watches name.now }
+    {
+        self.watches.is_watch(name)
     }
 
     /// The table to which a path leads from a view or a snapshot, shared.

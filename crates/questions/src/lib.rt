@@ -8,6 +8,7 @@
 mod cursor;
 mod error;
 mod known;
+mod level;
 mod places;
 mod rows;
 mod scope;
@@ -24,4 +25,4 @@ pub use known::Known;
 pub use places::Located;
 pub use scope::Scope;
 pub use snapshot::{MAX_SNAPSHOTS, Snapshot, Snapshots, is_snapshot, take_out_snapshot};
-pub use watching::{operand, operation};
+pub use watching::{computed_by, operand, operation};

@@ -6,7 +6,7 @@ ghost use Rattle.eval.specs.Values.{asked};
 ghost use Rattle.relations.specs.Criteria.{valued};
 ghost use Rattle.relations.specs.Refusals.{literals_due};
 ghost use Rattle.questions.specs.Answers.{Answers};
-ghost use Rattle.questions.specs.Kept.{known};
+ghost use Rattle.questions.specs.Kept.{asked_names};
 ghost use Rattle.questions.specs.Places.{Tests, find_due, locate_due, search_due};
 
 use crate::error::{QuestionError, of_operator};
@@ -40,7 +40,7 @@ impl<V: Viewer> Scope<'_, V> {
         criteria: &[Crit],
     ) -> Result<Option<u64>, QuestionError>
         requires { IsWhole (query_of expr.now) }
-        ensures { Answers (λ found. found) (find_due (known self.now.names.views self.now.names.snapshots self.now.names.watches) (map V.meaning self.now.viewers.now) (query_of expr.now) start criteria.now) result }
+        ensures { Answers (λ found. found) (find_due (asked_names self.now.names (map V.meaning self.now.viewers.now) self.now.computed.now) (map V.meaning self.now.viewers.now) (query_of expr.now) start criteria.now) result }
     {
         let table = self.value(alloc, expr)?;
         let size = table.size() as u64;
@@ -65,7 +65,7 @@ impl<V: Viewer> Scope<'_, V> {
         criteria: &[Crit],
     ) -> Result<u64, QuestionError>
         requires { IsWhole (query_of expr.now) }
-        ensures { Answers (λ position. position) (search_due (known self.now.names.views self.now.names.snapshots self.now.names.watches) self.now.names.watches self.now.names.mappings (map V.meaning self.now.viewers.now) (query_of expr.now) criteria.now) result }
+        ensures { Answers (λ position. position) (search_due (asked_names self.now.names (map V.meaning self.now.viewers.now) self.now.computed.now) self.now.names.watches self.now.names.mappings (map V.meaning self.now.viewers.now) (query_of expr.now) criteria.now) result }
     {
         let table = self.unordered(alloc, expr)?;
         let values = tested(alloc, table.schema(), criteria)?;
@@ -88,7 +88,7 @@ impl<V: Viewer> Scope<'_, V> {
         criteria: &[Crit],
     ) -> Result<Located, QuestionError>
         requires { IsWhole (query_of expr.now) }
-        ensures { Answers (λ located. located) (locate_due (known self.now.names.views self.now.names.snapshots self.now.names.watches) self.now.names.watches self.now.names.mappings (map V.meaning self.now.viewers.now) (query_of expr.now) criteria.now) result }
+        ensures { Answers (λ located. located) (locate_due (asked_names self.now.names (map V.meaning self.now.viewers.now) self.now.computed.now) self.now.names.watches self.now.names.mappings (map V.meaning self.now.viewers.now) (query_of expr.now) criteria.now) result }
     {
         let table = self.unordered(alloc, expr)?;
         let values = tested(alloc, table.schema(), criteria)?;

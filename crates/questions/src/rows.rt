@@ -11,7 +11,7 @@ ghost use Rattle.eval.specs.Parts.{IsWhole};
 ghost use Rattle.mk_value.specs.Literals.{row_text};
 ghost use Rattle.mk_value.specs.Names.{same_bytes};
 ghost use Rattle.questions.specs.Answers.{Answers, answer, contents, joining, rows_due, size_due};
-ghost use Rattle.questions.specs.Kept.{known, stored, table_of};
+ghost use Rattle.questions.specs.Kept.{asked_names, stored, table_of};
 ghost use Rattle.questions.specs.Told.{told_of_operator};
 
 use crate::error::{QuestionError, of_name, of_operator};
@@ -34,7 +34,7 @@ impl<V: Viewer> Scope<'_, V> {
     /// The first refusal of the expression. Else `Memory`.
     pub fn size(&self, alloc: Global, expr: &Expr) -> Result<u64, QuestionError>
         requires { IsWhole (query_of expr.now) }
-        ensures { Answers (λ size. size) (size_due (known self.now.names.views self.now.names.snapshots self.now.names.watches) (map V.meaning self.now.viewers.now) (query_of expr.now)) result }
+        ensures { Answers (λ size. size) (size_due (asked_names self.now.names (map V.meaning self.now.viewers.now) self.now.computed.now) (map V.meaning self.now.viewers.now) (query_of expr.now)) result }
     {
         match expr {
             Expr::GroupBy(base, keys, sub) => self.groups(alloc, base, keys.as_slice(), sub),
@@ -52,7 +52,7 @@ impl<V: Viewer> Scope<'_, V> {
     /// The number of rows, in whatever order they are.
     fn size_unordered(&self, alloc: Global, expr: &Expr) -> Result<u64, QuestionError>
         requires { IsWhole (query_of expr.now) }
-        ensures { Answers (λ size. size) (size_due (known self.now.names.views self.now.names.snapshots self.now.names.watches) (map V.meaning self.now.viewers.now) (query_of expr.now)) result }
+        ensures { Answers (λ size. size) (size_due (asked_names self.now.names (map V.meaning self.now.viewers.now) self.now.computed.now) (map V.meaning self.now.viewers.now) (query_of expr.now)) result }
     {
         Ok(self.unordered(alloc, expr)?.size() as u64)
     }
@@ -66,7 +66,7 @@ impl<V: Viewer> Scope<'_, V> {
         sub: &Name,
     ) -> Result<u64, QuestionError>
         requires { IsWhole (query_of base.now) }
-        ensures { Answers (λ size. size) (size_due (known self.now.names.views self.now.names.snapshots self.now.names.watches) (map V.meaning self.now.viewers.now) (one operators.GroupBy (query_of base.now) (named keys.now sub.now))) result }
+        ensures { Answers (λ size. size) (size_due (asked_names self.now.names (map V.meaning self.now.viewers.now) self.now.computed.now) (map V.meaning self.now.viewers.now) (one operators.GroupBy (query_of base.now) (named keys.now sub.now))) result }
     {
         let table = self.value(alloc, base)?;
         let rows = table.size() as u64;
@@ -82,7 +82,7 @@ impl<V: Viewer> Scope<'_, V> {
         count: &Name,
     ) -> Result<u64, QuestionError>
         requires { IsWhole (query_of base.now) }
-        ensures { Answers (λ size. size) (size_due (known self.now.names.views self.now.names.snapshots self.now.names.watches) (map V.meaning self.now.viewers.now) (one operators.Counts (query_of base.now) (named keys.now count.now))) result }
+        ensures { Answers (λ size. size) (size_due (asked_names self.now.names (map V.meaning self.now.viewers.now) self.now.computed.now) (map V.meaning self.now.viewers.now) (one operators.Counts (query_of base.now) (named keys.now count.now))) result }
     {
         let table = self.value(alloc, base)?;
         let rows = table.size() as u64;
@@ -101,7 +101,7 @@ impl<V: Viewer> Scope<'_, V> {
         requires first { IsWhole (query_of first.now) }
         requires second { IsWhole (query_of second.now) }
         requires some { 0 < length keys.now }
-        ensures { Answers (λ size. size) (size_due (known self.now.names.views self.now.names.snapshots self.now.names.watches) (map V.meaning self.now.viewers.now) (two (joining outer) (query_of first.now) (query_of second.now) (names keys.now))) result }
+        ensures { Answers (λ size. size) (size_due (asked_names self.now.names (map V.meaning self.now.viewers.now) self.now.computed.now) (map V.meaning self.now.viewers.now) (two (joining outer) (query_of first.now) (query_of second.now) (names keys.now))) result }
     {
         let a = self.value(alloc, first)?;
         let b = self.value(alloc, second)?;
@@ -115,7 +115,7 @@ impl<V: Viewer> Scope<'_, V> {
     /// The first refusal of the expression. Else `Memory`.
     pub fn rows(&self, alloc: Global, expr: &Expr) -> Result<Texts, QuestionError>
         requires { IsWhole (query_of expr.now) }
-        ensures { Answers contents (rows_due (known self.now.names.views self.now.names.snapshots self.now.names.watches) (map V.meaning self.now.viewers.now) (query_of expr.now)) result }
+        ensures { Answers contents (rows_due (asked_names self.now.names (map V.meaning self.now.viewers.now) self.now.computed.now) (map V.meaning self.now.viewers.now) (query_of expr.now)) result }
     {
         Ok(row_texts(alloc, &self.value(alloc, expr)?)?)
     }
@@ -128,7 +128,7 @@ impl<V: Viewer> Scope<'_, V> {
     /// The first refusal of the expression. Else `Memory`.
     pub fn table(&self, alloc: Global, expr: &Expr) -> Result<Shared, QuestionError>
         requires { IsWhole (query_of expr.now) }
-        ensures { Answers table_of (answer (known self.now.names.views self.now.names.snapshots self.now.names.watches) (map V.meaning self.now.viewers.now) (query_of expr.now)) result }
+        ensures { Answers table_of (answer (asked_names self.now.names (map V.meaning self.now.viewers.now) self.now.computed.now) (map V.meaning self.now.viewers.now) (query_of expr.now)) result }
     {
         match expr {
             Expr::Path(path) if self.names.is_stored(path.name()) => self.shared(path),
@@ -143,7 +143,7 @@ impl<V: Viewer> Scope<'_, V> {
     /// The refusal of the path. Else `Memory`.
     fn shared(&self, path: &Path) -> Result<Shared, QuestionError>
         requires { is_some (find (λ (n : Named). same_bytes n.name path.now.name) (stored self.now.names.views self.now.names.snapshots)) ≡ true }
-        ensures { Answers table_of (answer (known self.now.names.views self.now.names.snapshots self.now.names.watches) (map V.meaning self.now.viewers.now) (to_path path.now)) result }
+        ensures { Answers table_of (answer (asked_names self.now.names (map V.meaning self.now.viewers.now) self.now.computed.now) (map V.meaning self.now.viewers.now) (to_path path.now)) result }
     {
         match self.names.shared(path) {
             Ok(table) => Ok(table),

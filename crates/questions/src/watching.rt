@@ -1,5 +1,6 @@
 //! Operations that may be watched.
-ghost use Rattle.std.specs.Prelude.{◌≡◌, map};
+ghost use Rattle.std.specs.Prelude.{◌≡◌, map, true, IfOk, IfSome, None};
+ghost use Rattle.computing.specs.Computed.{has_keys};
 ghost use Rattle.eval.specs.Literals.{interval_of};
 ghost use Rattle.eval.specs.Values.{key_of};
 ghost use Rattle.expr_text.specs.InLines.{IsNameAlone, IsOperation};
@@ -7,13 +8,14 @@ ghost use Rattle.expr_text.specs.Meanings.{query_of};
 ghost use Rattle.live.specs.Putting.{as_watch_error};
 ghost use Rattle.live.specs.declared.op.WatchOp.TheVariants as shows;
 ghost use Rattle.relations.specs.Criteria.{valued};
-ghost use Rattle.questions.specs.Operations.{Shows, name_alone as name_in, operand as operand_of, operation as operation_of};
+ghost use Rattle.questions.specs.Operations.{Shows, computed_by as computation_of, name_alone as name_in, operand as operand_of, operation as operation_of};
 
 use crate::sorted::keys_given;
+use computing::Computation;
 use eval::{Asked, bounds_asked, criteria_asked};
 use expr_text::{Expr, Order};
 use live::{WatchError, WatchOp};
-use mk_value::{Name, Schema};
+use mk_value::{Memory, Name, Schema, Sequence};
 use relations::{DerivedError, check_keys, check_literals, criteria_of};
 use std::alloc::Global;
 
@@ -26,6 +28,8 @@ pub fn operand(expr: &Expr) -> &Name
         Expr::Select(source, _) => name_alone(source),
         Expr::Range(source, _) => name_alone(source),
         Expr::Sort(source, _) => name_alone(source),
+        Expr::Counts(source, _, _) => name_alone(source),
+        Expr::Keep(source, _, _) => name_alone(source),
         _ => unreachable!(),
     }
 }
@@ -41,13 +45,44 @@ fn name_alone(expr: &Expr) -> &Name
     }
 }
 
-/// What an operation shows of rows of a schema.
+/// What a computed watch would show by an operation, where it is counts or a filter.
+pub fn computed_by(alloc: Global, expr: &Expr) -> Result<Option<Computation>, Memory>
+    requires { IsOperation (query_of expr.now) }
+    ensures shows { IfOk result (λ shows. shows ≡ computation_of (query_of expr.now)) }
+    ensures keys { IfOk result (λ shows. IfSome shows (λ s. has_keys s ≡ true)) }
+{
+    match expr {
+        Expr::Counts(_, keys, count) => {
+            let keys = copies(alloc, keys.as_slice())?;
+            Ok(Some(Computation::Counts(keys, count.copy()?)))
+        }
+        Expr::Keep(_, viewer, props) => {
+            let props = copies(alloc, props.as_slice())?;
+            Ok(Some(Computation::Filter(viewer.copy()?, props)))
+        }
+        _ => Ok(None),
+    }
+}
+
+/// The same names.
+fn copies(alloc: Global, names: &[Name]) -> Result<Sequence<Name>, Memory>
+    ensures { IfOk result (λ copies. copies ≡ names.now) }
+{
+    let mut copies = Sequence::new(alloc);
+    for name in names {
+        copies.push(name.copy()?)?;
+    }
+    Ok(copies)
+}
+
+/// What a selection, a range or a sorting shows of rows of a schema.
 ///
 /// # Errors
 ///
 /// `NoProp`, `WrongKind` by its criteria or its keys. Else `Memory`.
 pub fn operation(alloc: Global, expr: &Expr, schema: &Schema) -> Result<WatchOp, WatchError>
-    requires { IsOperation (query_of expr.now) }
+    requires whole { IsOperation (query_of expr.now) }
+    requires kept { computation_of (query_of expr.now) ≡ None }
     ensures { Shows schema.now (operation_of schema.now (query_of expr.now)) result }
 {
     match expr {

@@ -1,14 +1,14 @@
 use Rattle.std.proofs.Common.{map, sym}
 use Rattle.expr_text.specs.Meanings.{query_of}
-use Rattle.questions.specs.Kept.{known}
+use Rattle.questions.specs.Kept.{asked_names}
 use Rattle.questions.proofs.Unordered.{located_is}
 use Rattle.questions.proofs.scope.Scope.locate.Goals as goal
 
 pub returns : goal.returns
 returns g c =
     let watches = c.args.self.now.names.watches in
-    let names = known c.args.self.now.names.views c.args.self.now.names.snapshots watches in
     let viewers = map g.V.Viewer.meaning c.args.self.now.viewers.now in
+    let names = asked_names c.args.self.now.names viewers c.args.self.now.computed.now in
     let q = query_of c.args.expr.now in
     let list = c.args.criteria.now in
     let t = c.in_ok-table.ensures.0 in

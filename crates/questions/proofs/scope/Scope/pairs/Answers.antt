@@ -8,7 +8,7 @@ use Rattle.expr_text.specs.Arguments.{names}
 use Rattle.expr_text.specs.Meanings.{query_of}
 use Rattle.eval.specs.Values.{at_size, of_two}
 use Rattle.questions.specs.Answers.{joining}
-use Rattle.questions.specs.Kept.{known}
+use Rattle.questions.specs.Kept.{asked_names}
 use Rattle.questions.proofs.Sizes.{size_of_two, told_as}
 use Rattle.questions.proofs.scope.Scope.pairs.Goals as goal
 
@@ -22,6 +22,6 @@ returns g c =
     let b = table_of c.in_ok-b.b in
     let keys = c.args.keys.now in
     let outer = c.args.outer in
-    size_of_two a (join outer keys a b) (known c.args.self.now.names.views c.args.self.now.names.snapshots c.args.self.now.names.watches) (map g.V.Viewer.meaning c.args.self.now.viewers.now) (query_of c.args.first.now) (query_of c.args.second.now)
+    size_of_two a (join outer keys a b) (asked_names c.args.self.now.names (map g.V.Viewer.meaning c.args.self.now.viewers.now) c.args.self.now.computed.now) (map g.V.Viewer.meaning c.args.self.now.viewers.now) (query_of c.args.first.now) (query_of c.args.second.now)
     b (joining outer) (names keys) (join_due outer keys a b) c.join_size.result c.told_size.result c.in_ok-a.ensures c.in_ok-b.ensures (joined outer keys a b) c.join_size.ensures.due c.join_size.ensures.ok
     (c.told_size.ensures ∙ ap (λ n. told_as n c.join_size.result) c.size.ensures.value)
