@@ -68,6 +68,10 @@ neither_of true b c h = absurd (false≢true (sym h))
 neither_of false true c h = absurd (false≢true (sym h))
 neither_of false false c h = (refl, h)
 
+pub first_false : (a b : Bool) → a || b ≡ false → a ≡ false
+first_false true b h = absurd (false≢true (sym h))
+first_false false b h = refl
+
 -- The view that a route names has a mapping: the route has no steps, and the view is there.
 pub record HasKeys (views : List NamedTable) (route : Route) : Type 0 where
   pub here : route.steps ≡ []

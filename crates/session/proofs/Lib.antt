@@ -1,5 +1,6 @@
 mod Answering
 pub mod Asked
+mod WatchDues
 pub mod Dues
 pub mod Fitted
 pub mod Known

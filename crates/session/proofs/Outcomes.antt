@@ -1,6 +1,11 @@
 -- What comes of a command, where the session is shut and where it is not.
 use Rattle.std.proofs.Common.{◌≡◌, ℕ, eqb, Bool, true, false, cond, ◌&&◌, List, ◌++◌, length, Option, Some, None, Result, Ok, Err, refl, ap, sym, subst, inl, inr}
 use Rattle.std.specs.Prelude.{codes, not, if◌then◌else◌}
+use Rattle.computing.specs.Computed.{without_computed}
+use Rattle.computing.specs.declared.computed.Computation.{Computation}
+use Rattle.expr_text.specs.Queries.{Query}
+use Rattle.following.specs.Watches.{is_watch, without_watch}
+use Rattle.questions.specs.Operations.{computed_by}
 use Rattle.cmd_text.specs.Replies.{lines_text, reply_bytes, reply_line}
 use Rattle.cmd_text.specs.declared.command.Command.{Command}
 use Rattle.cmd_text.specs.declared.command.Command.TheVariants as commands
@@ -29,11 +34,11 @@ use Rattle.questions.specs.Places.{find_due, locate_due, search_due}
 use Rattle.questions.specs.declared.cursor.Standing.{Standing}
 use Rattle.questions.specs.declared.error.QuestionError.{QuestionError}
 use Rattle.session.specs.Carried.{Carried, Comes, LeavesDiskBy, LeavesDiskFor}
-use Rattle.session.specs.Commands.{Outcome, Reach, add_in, gives, commits, goes_when_shut, insert_in, moved_in, off_disk, outcome_in, outcome_of, reach_of, refused, reopens, reverts, set_in, set_on, told, unless_due, with_cursor, with_snapshot}
+use Rattle.session.specs.Commands.{Outcome, Reach, add_in, gives, commits, goes_when_shut, insert_in, moved_in, off_disk, outcome_in, outcome_of, reach_of, refused, reopens, reverts, set_in, set_on, told, unless_due, unwatched, watch_in, with_cursor, with_snapshot}
 use Rattle.session.specs.Disk.{LeavesDisk}
 use Rattle.session.specs.Naming.{max_cursors, max_snapshots, new_name_due}
 use Rattle.session.specs.Questions.{located_reply, names_in, place_reply, refusal_of_question}
-use Rattle.session.specs.World.{World, with_tables}
+use Rattle.session.specs.World.{World, kept_names, with_tables}
 use Rattle.session.proofs.Ready.{SameFile}
 
 shut_or_not : (shut goes : Bool) (one two : Outcome) → (shut && not goes) ≡ false → (if shut && not goes then one else two) ≡ two
@@ -137,6 +142,18 @@ given_set None w new reply name target given = nothing_given w new (reply_bytes 
 given_set (Some standing) w new reply name target given =
     given_unless (new_name_due w name (length w.cursors) max_cursors) w (with_cursor w name target standing) new (reply_bytes (Count 0)) reply given (nothing_changed w)
 
+-- watches that come and go
+given_watch : (o : Option Computation) (viewers : List Meaning) (w new : World) (reply name : List ℕ) (q : Query) → IsGiven (watch_in o viewers w name q) reply new → SameFile w.store new.store
+given_watch None viewers w new reply name q given = given_unless _ w _ new _ reply given (nothing_changed w)
+given_watch (Some shows) viewers w new reply name q given = given_unless _ w _ new _ reply given (nothing_changed w)
+
+unwatched_same : (w : World) (name : List ℕ) → SameFile w.store (unwatched w name).store
+unwatched_same w name = either (is_watch w.watches name)
+  where
+    either : (b : Bool) → SameFile w.store (cond b (record w { watches = without_watch w.watches name }) (record w { computed = without_computed w.computed name })).store
+    either true = nothing_changed w
+    either false = nothing_changed w
+
 -- rows that come, by key or not
 given_add : (o : Option MappedView) (w new : World) (reply : List ℕ) (route : Route) (literals : List Datum) → IsGiven (add_in o w route literals) reply new → SameFile w.store new.store
 given_add None w new reply route literals given = given_unless _ w _ new _ reply given (changed_views w _)
@@ -166,22 +183,22 @@ given_same viewers (commands.Add route literals) w reply new given = given_add (
 given_same viewers (commands.Insert route place copies literals) w reply new given = given_insert (mapping_on w route) w new reply route place copies literals given
 given_same viewers (commands.Set route row prop literal) w reply new given = given_value (mapping_on w route) w new reply route row prop (literal_of literal) given
 given_same viewers (commands.Remove route place rows) w reply new given = given_unless _ w _ new _ reply given (changed_views w _)
-given_same viewers (commands.Size e) w reply new given = given_told (size_due (names_in w) viewers (query_of e)) (λ size. reply_bytes (Count size)) w new reply given
-given_same viewers (commands.Show e) w reply new given = given_told (rows_due (names_in w) viewers (query_of e)) lines_text w new reply given
+given_same viewers (commands.Size e) w reply new given = given_told (size_due (names_in w viewers) viewers (query_of e)) (λ size. reply_bytes (Count size)) w new reply given
+given_same viewers (commands.Show e) w reply new given = given_told (rows_due (names_in w viewers) viewers (query_of e)) lines_text w new reply given
 given_same viewers (commands.Find e start criteria) w reply new given =
-    given_told (find_due (names_in w) viewers (query_of e) start criteria) (λ place. reply_bytes (place_reply place)) w new reply given
+    given_told (find_due (names_in w viewers) viewers (query_of e) start criteria) (λ place. reply_bytes (place_reply place)) w new reply given
 given_same viewers (commands.Search e criteria) w reply new given =
-    given_told (search_due (names_in w) w.watches w.mappings viewers (query_of e) criteria) (λ place. reply_bytes (Count place)) w new reply given
+    given_told (search_due (names_in w viewers) w.watches w.mappings viewers (query_of e) criteria) (λ place. reply_bytes (Count place)) w new reply given
 given_same viewers (commands.Locate e criteria) w reply new given =
-    given_told (locate_due (names_in w) w.watches w.mappings viewers (query_of e) criteria) (λ at. reply_bytes (located_reply at)) w new reply given
-given_same viewers (commands.Dup name e) w reply new given = given_dup (answer (names_in w) viewers (query_of e)) w new reply name given
+    given_told (locate_due (names_in w viewers) w.watches w.mappings viewers (query_of e) criteria) (λ at. reply_bytes (located_reply at)) w new reply given
+given_same viewers (commands.Dup name e) w reply new given = given_dup (answer (names_in w viewers) viewers (query_of e)) w new reply name given
 given_same viewers (commands.Undup name) w reply new given = given_unless _ w _ new _ reply given (nothing_changed w)
-given_same viewers (commands.Cursor name target) w reply new given = given_set (standing_of w.store.views w.snapshots w.watches target) w new reply name target given
+given_same viewers (commands.Cursor name target) w reply new given = given_set (standing_of (kept_names w) w.computed target) w new reply name target given
 given_same viewers (commands.Uncursor name) w reply new given = given_unless _ w _ new _ reply given (nothing_changed w)
-given_same viewers (commands.Next name) w reply new given = given_moved (next_due w.store.views w.snapshots w.watches w.cursors name) w new reply name given
-given_same viewers (commands.Prev name) w reply new given = given_moved (previous_due w.store.views w.snapshots w.watches w.cursors name) w new reply name given
+given_same viewers (commands.Next name) w reply new given = given_moved (next_due (kept_names w) viewers w.computed w.cursors name) w new reply name given
+given_same viewers (commands.Prev name) w reply new given = given_moved (previous_due (kept_names w) viewers w.computed w.cursors name) w new reply name given
 given_same viewers (commands.Row name) w reply new given =
-    given_told (row_due w.store.views w.snapshots w.watches w.cursors name) (λ text. reply_line (codes "ok " ++ text)) w new reply given
+    given_told (row_due (kept_names w) viewers w.computed w.cursors name) (λ text. reply_line (codes "ok " ++ text)) w new reply given
 given_same viewers (commands.Commit note) w reply new given = given_or_refused _ w new (commits note) reply (λ never. never) given
 given_same viewers commands.Log w reply new given = given_left w _ new _ reply given (nothing_changed w)
 given_same viewers commands.Rollback w reply new given = given_left w _ new _ reply given (changed_views w _)
@@ -189,8 +206,8 @@ given_same viewers commands.Reopen w reply new given = absurd given
 given_same viewers commands.Revert w reply new given = given_or_refused _ w new reverts reply (λ never. never) given
 given_same viewers commands.Space w reply new given = given_left w _ new _ reply given (nothing_changed w)
 given_same viewers commands.Quit w reply new given = given_left w _ new _ reply given (nothing_changed w)
-given_same viewers (commands.Watch name e) w reply new given = given_unless _ w _ new _ reply given (nothing_changed w)
-given_same viewers (commands.Unwatch name) w reply new given = given_unless _ w _ new _ reply given (nothing_changed w)
+given_same viewers (commands.Watch name e) w reply new given = given_watch (computed_by (query_of e)) viewers w new reply name (query_of e) given
+given_same viewers (commands.Unwatch name) w reply new given = given_unless _ w _ new _ reply given (unwatched_same w name)
 given_same viewers (commands.Hash name keys) w reply new given = given_unless _ w _ new _ reply given (nothing_changed w)
 given_same viewers (commands.Ordered name keys) w reply new given = given_unless _ w _ new _ reply given (nothing_changed w)
 given_same viewers (commands.Unmap name) w reply new given = given_unless _ w _ new _ reply given (nothing_changed w)

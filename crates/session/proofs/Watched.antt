@@ -1,21 +1,23 @@
 -- The watches of views once the views are others.
-use Rattle.std.proofs.Common.{◌≡◌, ℕ, true, false, cond, suc, List, [], ◌∷◌, Option, Some, None, MatchOption, refl, ap, sym, subst, ◌∙◌, arith}
+use Rattle.std.proofs.Common.{◌≡◌, ℕ, true, false, cond, suc, List, [], ◌∷◌, length, get_or, map, Option, Some, None, MatchOption, refl, ap, sym, subst, ◌∙◌, arith}
 use Rattle.std.specs.Option.{option_map}
 use Rattle.std.specs.Prelude.{find}
 use Rattle.std.proofs.lemmas.Bool.{false≢true}
+use Rattle.std.proofs.lemmas.List.{get_or-map}
 use Rattle.commit_plan.specs.Following.{NamedRows, rows_of_views}
 use Rattle.commit_plan.specs.Plans.{Planned}
-use Rattle.following.specs.Keeping.{AreKept, ChangesRows, HaveSameRows, IsKept, IsWatchOf, Kept, followed}
+use Rattle.following.specs.Keeping.{AreKept, ChangesRows, HaveSameRows, IsKept, IsWatchOf, Kept, followed, followed_of, shown_by}
 use Rattle.following.proofs.Holding.{kept_where_others, raised_where_none}
-use Rattle.following.proofs.Shown.{watch_shows}
-use Rattle.following.specs.Watches.{is_watch}
-use Rattle.live.specs.States.{Watching}
+use Rattle.following.proofs.Shown.{found_kept, watch_shows}
+use Rattle.following.specs.Watches.{Followed, Shown, is_among, is_watch}
+use Rattle.live.specs.Numbers.{place_of as place_numbered, watch_of}
+use Rattle.live.specs.States.{WatchState, Watching}
 use Rattle.mk_value.specs.Paths.{Route}
 use Rattle.row_edits.specs.declared.edit.RowEdit.{RowEdit}
 use Rattle.view_store.specs.Edits.{Edit}
 use Rattle.view_store.specs.Views.{edited_views}
 use Rattle.view_store.proofs.Roots.{same_name}
-use Rattle.session.specs.Following.{IsLineOn, KeepsPositions}
+use Rattle.session.specs.Following.{IsLineOn, KeepsPositions, events_followed, events_in}
 use Rattle.session.specs.World.{World, with_line, with_tables}
 use Rattle.session.proofs.LinesOn.{other_edited, other_name}
 use Rattle.following.specs.Watches.{is_watched}
@@ -126,6 +128,26 @@ absent_unwatched views (k ∷ all) name h none = cases (same_bytes k.view name)
     absurd (let f : ◌≡◌ {A = Option StoredTable} (Some first.table) None = sym first.there ∙ ap (λ n. table_of views n) (same_name k.view name e) ∙ none in cc))
     (λ e. rw e (absent_unwatched views all name (λ i d p. h (suc i) d (omega (arith, p))) none))
 
+-- the counts of watches beside their names are those of the watches
+counts_beside : (names : List (List ℕ)) (watches : List WatchState) → length names ≡ length watches → map (λ (s : Shown). s.followed) (shown_by names watches) ≡ map (λ (s : WatchState). s.followed) watches
+counts_beside [] [] e = refl
+counts_beside [] (s ∷ watches) e = absurd (omega (arith, e))
+counts_beside (name ∷ names) [] e = absurd (omega (arith, e))
+counts_beside (name ∷ names) (s ∷ watches) e = ap (λ xs. s.followed ∷ xs) (counts_beside names watches (omega (arith, e)))
+
+-- how many events a watch has followed
+events_kept : (all : List Kept) (name : List ℕ) (watching : Watching) (number : ℕ) → IsWatchOf all name watching number
+    → (d : WatchState) → (watch_of watching.watches number d).followed ≡ events_followed (followed all) name
+events_kept all name watching number is d =
+    let k = is.watches in
+    let at = place_numbered watching.watches number in
+    let paired : length k.names ≡ length k.watching.watches = is.paired ∙ ap (λ (w : Watching). length w.watches) (sym is.watching_is) in
+    sym (get_or-map (λ (s : WatchState). s.followed) watching.watches at d 0 is.there)
+    ∙ ap (λ (w : Watching). get_or (map (λ (s : WatchState). s.followed) w.watches) at 0) (sym is.watching_is)
+    ∙ ap (λ (xs : List ℕ). get_or xs at 0) (sym (counts_beside k.names k.watching.watches paired))
+    ∙ ap (λ i. get_or (map (λ (s : Shown). s.followed) (followed_of k).watches) i 0) is.place
+    ∙ sym (ap (λ o. events_in o name) (found_kept all name k is.found))
+
 -- what a watch keeps
 pub keeps_positions : {R : Type 0} (w : World) (all : List Kept) (name : List ℕ) (r : Option R) (watching : R → Watching) (number : R → ℕ) → followed all ≡ w.watches → AreKept w.store.views all
     → MatchOption r (is_watch (followed all) name ≡ false) (λ x. IsWatchOf all name (watching x) (number x))
@@ -134,4 +156,4 @@ keeps_positions w all name None watching number same kept h = subst (λ ws. is_w
 keeps_positions w all name (Some x) watching number same kept h =
     let s = watch_shows w.store.views all name (watching x) (number x) kept h in
     subst (λ ws. KeepsPositions (record w { watches = ws }) name (watching x) (number x)) same
-    (record { view = s.0; shown = s.1; over = s.2; shows = s.3; keeps = s.4 })
+    (record { view = s.0; shown = s.1; over = s.2; shows = s.3; keeps = s.4; there = h.there; counts = events_kept all name (watching x) (number x) h })

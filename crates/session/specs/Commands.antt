@@ -16,7 +16,9 @@ use Rattle.cmd_text.specs.declared.refusal.Refusal.TheVariants.{LastNumber, NoNa
 use Rattle.cmd_text.specs.declared.reply.Reply.TheVariants.{Plain, Count, Quit, Refused, Rollback, Space}
 use Rattle.expr_text.specs.Meanings.{query_of}
 use Rattle.expr_text.specs.Queries.{Query}
-use Rattle.following.specs.Watches.{rows_under, source_of, watches_of, with_watch, without_watch}
+use Rattle.computing.specs.Computed.{with_watch as with_watch_computed, without_computed}
+use Rattle.computing.specs.declared.computed.Computation.{Computation}
+use Rattle.following.specs.Watches.{is_watch, rows_under, source_of, watches_of, with_watch, without_watch}
 use Rattle.followers.specs.Keyed.{home_of}
 use Rattle.live.specs.Laws.{shown}
 use Rattle.live.specs.Putting.{spelled}
@@ -25,11 +27,11 @@ use Rattle.mappings.specs.declared.by.By.{By}
 use Rattle.mappings.specs.declared.by.By.TheVariants.{Hash, Order}
 use Rattle.mk_value.specs.declared.path.Step.{Step}
 use Rattle.mk_value.specs.Tables.{Table}
-use Rattle.questions.specs.Answers.{answer, rows_due, size_due}
+use Rattle.questions.specs.Answers.{answer, rows_due, shown_due, size_due}
 use Rattle.questions.specs.Cursors.{moved, next_due, previous_due, row_due, standing_of, without_cursor}
 use Rattle.questions.specs.Kept.{without_kept}
 use Rattle.questions.specs.Places.{find_due, locate_due, search_due}
-use Rattle.questions.specs.Operations.{operand}
+use Rattle.questions.specs.Operations.{computed_by, operand}
 use Rattle.questions.specs.declared.cursor.Standing.{Standing}
 use Rattle.questions.specs.declared.error.QuestionError.{QuestionError}
 use Rattle.cmd_text.specs.declared.reply.Space.{Space as Taken}
@@ -42,12 +44,12 @@ use Rattle.view_store.specs.Edits.{Edit}
 use Rattle.view_store.specs.Views.{NamedTable, edited_views, without_view}
 use Rattle.viewers.specs.Meanings.{Meaning}
 use Rattle.session.specs.Keyed.{add_by_key_due, insert_by_key_due, mapping_on, put_by_key, put_line, row_for, set_line, size_by_key}
-use Rattle.session.specs.Naming.{drop_due, getas_due, map_due, max_cursors, max_snapshots, new_name_due, uncursor_due, undup_due, unmap_due, unwatch_due, view_under, watch_due, watched_op}
+use Rattle.session.specs.Naming.{asked_table, computed_due, drop_due, getas_due, map_due, max_cursors, max_snapshots, new_name_due, uncursor_due, undup_due, unmap_due, unwatch_due, view_under, watch_due, watched_op}
 use Rattle.session.specs.Questions.{located_reply, names_in, place_reply, refusal_of_question}
 use Rattle.session.specs.Refusals.{add_due, first_of, insert_due, remove_due, set_due, unless}
 use Rattle.session.specs.Structures.{structured, structures}
 use Rattle.session.specs.Values.{domain_named, schema_named, size_named, values_for}
-use Rattle.session.specs.World.{World, with_line, with_store, with_tables, without_followers}
+use Rattle.session.specs.World.{World, kept_names, with_line, with_store, with_tables, without_followers}
 
 -- What a command asks for: a reply and a world, or something of the disk.
 pub data Outcome : Type 0 where
@@ -124,6 +126,34 @@ watch_size w q =
     let source = source_of w.watches (operand q) in
     let t = view_under w (operand q) in length (shown t.schema (spelled t.schema (watched_op w q)) (rows_under t (watches_of w.watches source.view) source.over))
 
+-- a computed watch more; and the number of its rows
+abbrev pub with_computation : World → List ℕ → List ℕ → Computation → World
+with_computation w name source c = record w { computed = with_watch_computed w.computed (record { name = name; source = source; shows = c }) }
+
+abbrev pub rows_shown : Result Table QuestionError → ℕ
+rows_shown (Ok t) = length t.rows
+rows_shown (Err e) = 0
+
+abbrev pub shown_over : List Meaning → Computation → Result Table QuestionError → Result Table QuestionError
+shown_over viewers c (Ok t) = shown_due viewers c t
+shown_over viewers c (Err e) = Err e
+
+abbrev pub computed_size : List Meaning → World → List ℕ → Computation → ℕ
+computed_size viewers w source c = rows_shown (shown_over viewers c (asked_table viewers w source))
+
+-- `watch`: the reply is the number of rows
+abbrev pub watch_in : Option Computation → List Meaning → World → List ℕ → Query → Outcome
+watch_in None viewers w name q =
+    unless_due (watch_due viewers w name q) w (gives (reply_bytes (Count (watch_size w q))) (put_over w name q))
+watch_in (Some c) viewers w name q =
+    unless_due (computed_due viewers w name (operand q) c) w
+    (gives (reply_bytes (Count (computed_size viewers w (operand q) c))) (with_computation w name (operand q) c))
+
+-- without the watch of a name, computed or not
+abbrev pub unwatched : World → List ℕ → World
+unwatched w name =
+    if is_watch w.watches name then record w { watches = without_watch w.watches name } else record w { computed = without_computed w.computed name }
+
 -- whether commits are made at all
 abbrev pub may_write : Mode → Bool
 may_write Write = true
@@ -198,38 +228,35 @@ outcome_in viewers w (commands.Set route row prop literal) = set_in (mapping_on 
 outcome_in viewers w (commands.Remove route place rows) =
     unless_due (remove_due w.store.views route place rows) w
     (gives (reply_bytes (Count (size_named w.store.views route - rows))) (with_line w (removed w.store.views route place rows) route.name (events_at route.steps rows)))
-outcome_in viewers w (commands.Size e) = told (size_due (names_in w) viewers (query_of e)) w (λ size. gives (reply_bytes (Count size)) w)
-outcome_in viewers w (commands.Show e) = told (rows_due (names_in w) viewers (query_of e)) w (λ rows. gives (lines_text rows) w)
+outcome_in viewers w (commands.Size e) = told (size_due (names_in w viewers) viewers (query_of e)) w (λ size. gives (reply_bytes (Count size)) w)
+outcome_in viewers w (commands.Show e) = told (rows_due (names_in w viewers) viewers (query_of e)) w (λ rows. gives (lines_text rows) w)
 outcome_in viewers w (commands.Find e start criteria) =
-    told (find_due (names_in w) viewers (query_of e) start criteria) w (λ place. gives (reply_bytes (place_reply place)) w)
+    told (find_due (names_in w viewers) viewers (query_of e) start criteria) w (λ place. gives (reply_bytes (place_reply place)) w)
 outcome_in viewers w (commands.Search e criteria) =
-    told (search_due (names_in w) w.watches w.mappings viewers (query_of e) criteria) w (λ place. gives (reply_bytes (Count place)) w)
+    told (search_due (names_in w viewers) w.watches w.mappings viewers (query_of e) criteria) w (λ place. gives (reply_bytes (Count place)) w)
 outcome_in viewers w (commands.Locate e criteria) =
-    told (locate_due (names_in w) w.watches w.mappings viewers (query_of e) criteria) w (λ at. gives (reply_bytes (located_reply at)) w)
+    told (locate_due (names_in w viewers) w.watches w.mappings viewers (query_of e) criteria) w (λ at. gives (reply_bytes (located_reply at)) w)
 -- the reply to `dup` is the number of rows
 outcome_in viewers w (commands.Dup name e) =
-    told (answer (names_in w) viewers (query_of e)) w (λ t.
+    told (answer (names_in w viewers) viewers (query_of e)) w (λ t.
     unless_due (new_name_due w name (length w.snapshots) max_snapshots) w (gives (reply_bytes (Count (length t.rows))) (with_snapshot w name t)))
 outcome_in viewers w (commands.Undup name) =
     unless_due (undup_due w name) w (gives (reply_bytes Plain) (record w { snapshots = without_kept w.snapshots name }))
--- the reply to `watch` is the number of rows
-outcome_in viewers w (commands.Watch name e) =
-    unless_due (watch_due w name (query_of e)) w (gives (reply_bytes (Count (watch_size w (query_of e)))) (put_over w name (query_of e)))
-outcome_in viewers w (commands.Unwatch name) =
-    unless_due (unwatch_due w name) w (gives (reply_bytes Plain) (record w { watches = without_watch w.watches name }))
+outcome_in viewers w (commands.Watch name e) = watch_in (computed_by (query_of e)) viewers w name (query_of e)
+outcome_in viewers w (commands.Unwatch name) = unless_due (unwatch_due w name) w (gives (reply_bytes Plain) (unwatched w name))
 outcome_in viewers w (commands.Hash name keys) = unless_due (map_due w Hash name keys) w (gives (reply_bytes Plain) (with_mapping w Hash name keys))
 outcome_in viewers w (commands.Ordered name keys) = unless_due (map_due w Order name keys) w (gives (reply_bytes Plain) (with_mapping w Order name keys))
 outcome_in viewers w (commands.Unmap name) =
     unless_due (unmap_due w name) w (gives (reply_bytes Plain) (record w { mappings = without_mapping w.mappings name }))
-outcome_in viewers w (commands.Cursor name target) = set_on (standing_of w.store.views w.snapshots w.watches target) w name target
+outcome_in viewers w (commands.Cursor name target) = set_on (standing_of (kept_names w) w.computed target) w name target
 outcome_in viewers w (commands.Uncursor name) =
     unless_due (uncursor_due w name) w (gives (reply_bytes Plain) (record w { cursors = without_cursor w.cursors name }))
 outcome_in viewers w (commands.Next name) =
-    told (next_due w.store.views w.snapshots w.watches w.cursors name) w (λ place. gives (reply_bytes (Count place)) (moved_in w name place))
+    told (next_due (kept_names w) viewers w.computed w.cursors name) w (λ place. gives (reply_bytes (Count place)) (moved_in w name place))
 outcome_in viewers w (commands.Prev name) =
-    told (previous_due w.store.views w.snapshots w.watches w.cursors name) w (λ place. gives (reply_bytes (Count place)) (moved_in w name place))
+    told (previous_due (kept_names w) viewers w.computed w.cursors name) w (λ place. gives (reply_bytes (Count place)) (moved_in w name place))
 outcome_in viewers w (commands.Row name) =
-    told (row_due w.store.views w.snapshots w.watches w.cursors name) w (λ text. gives (reply_line (codes "ok " ++ text)) w)
+    told (row_due (kept_names w) viewers w.computed w.cursors name) w (λ text. gives (reply_line (codes "ok " ++ text)) w)
 outcome_in viewers w (commands.Commit note) = unless_due (commit_due w.store) w (commits note)
 outcome_in viewers w commands.Log = gives (lines_text (note_texts w.store.kept.notes)) w
 outcome_in viewers w commands.Rollback = gives (reply_bytes (Rollback w.store.kept.number)) (without_followers (with_store w (rolled_back w.store)))

@@ -1,8 +1,9 @@
 -- A line that edits the view of a path, as an edit of the rows of the view itself; and what a watch keeps.
-use Rattle.std.specs.Prelude.{◌≡◌, ℕ, false, List, [], ◌∷◌, Some}
+use Rattle.std.specs.Prelude.{◌≡◌, ◌<◌, ℕ, false, List, [], ◌∷◌, length, map, slice_index_or, Option, None, Some}
 use Rattle.following.specs.Keeping.{ShowsRows}
-use Rattle.following.specs.Watches.{watch_table}
-use Rattle.live.specs.States.{Watching}
+use Rattle.following.specs.Watches.{Followed, Shown, found, place_of, watch_table}
+use Rattle.live.specs.Numbers.{place_of as place_numbered, watch_of}
+use Rattle.live.specs.States.{WatchState, Watching}
 use Rattle.mk_value.specs.Names.{same_bytes}
 use Rattle.mk_value.specs.Tables.{Table}
 use Rattle.mk_value.specs.declared.path.Step.{Step}
@@ -33,10 +34,21 @@ pub record IsLineOn (view : List ℕ) (edit : RowEdit) (home : ℕ) (old new : L
   pub line : IsLine (edit ∷ []) home before.rows after.rows
   pub others : (name : List ℕ) → same_bytes name view ≡ false → table_of new name ≡ table_of old name
 
--- The positions of a watch of a number, among the watches of its view, are those of the rows that the watch of a name shows.
+-- how many events the watch of a name has followed
+abbrev pub events_in : Option Followed → List ℕ → ℕ
+events_in None name = 0
+events_in (Some f) name = slice_index_or (map (λ (s : Shown). s.followed) f.watches) (place_of f.watches name) 0
+
+abbrev pub events_followed : List Followed → List ℕ → ℕ
+events_followed watches name = events_in (found watches name) name
+
+-- The positions of a watch of a number, among the watches of its view, are those of the rows that the watch of a name shows, and it has
+-- followed as many events.
 pub record KeepsPositions (w : World) (name : List ℕ) (watching : Watching) (number : ℕ) : Type 0 where
   pub view : StoredTable
   pub shown : Table
   pub over : table_under w name ≡ Some view
   pub shows : watch_table w.store.views w.watches name ≡ Some shown
   pub keeps : ShowsRows view.rows shown watching number
+  pub there : place_numbered watching.watches number < length watching.watches
+  pub counts : (d : WatchState) → (watch_of watching.watches number d).followed ≡ events_followed w.watches name

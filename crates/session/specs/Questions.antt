@@ -5,11 +5,12 @@ use Rattle.cmd_text.specs.declared.refusal.Refusal.TheVariants.{Memory, NoName, 
 use Rattle.cmd_text.specs.declared.reply.Reply.{Reply}
 use Rattle.cmd_text.specs.declared.reply.Reply.TheVariants.{Count, NotFound, Pair}
 use Rattle.eval.specs.Names.{Named}
-use Rattle.questions.specs.Kept.{known}
+use Rattle.questions.specs.Kept.{asked_names}
 use Rattle.questions.specs.declared.error.QuestionError.{QuestionError}
 use Rattle.questions.specs.declared.error.QuestionError.TheVariants as questions
 use Rattle.questions.specs.declared.places.Located.{Located}
-use Rattle.session.specs.World.{World}
+use Rattle.viewers.specs.Meanings.{Meaning}
+use Rattle.session.specs.World.{World, kept_names}
 
 -- how it is told that a question has no answer
 abbrev pub refusal_of_question : QuestionError → Refusal
@@ -22,9 +23,9 @@ refusal_of_question questions.Limit = Limit
 refusal_of_question questions.Unsorted = Unsorted
 refusal_of_question questions.Memory = Memory
 
--- what the names of a question stand for: views, behind them snapshots, and behind these watches
-abbrev pub names_in : World → List Named
-names_in w = known w.store.views w.snapshots w.watches
+-- what the names of a question stand for, where these viewers may be asked: views, behind them snapshots, watches, and computed watches
+abbrev pub names_in : World → List Meaning → List Named
+names_in w viewers = asked_names (kept_names w) viewers w.computed
 
 -- a place where rows with the values stand, if there is one; and a place with a number of rows
 abbrev pub place_reply : Option ℕ → Reply

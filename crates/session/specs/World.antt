@@ -1,9 +1,10 @@
 -- What a session holds.
 use Rattle.std.specs.Prelude.{ℕ, List, []}
+use Rattle.computing.specs.Computed.{Computations, no_computations}
 use Rattle.following.specs.Watches.{Followed, followed_by}
 use Rattle.mappings.specs.Mapped.{MappedView}
 use Rattle.questions.specs.Cursors.{Placed}
-use Rattle.questions.specs.Kept.{Kept}
+use Rattle.questions.specs.Kept.{Kept, Names}
 use Rattle.storage.specs.Stored.{Stored, with_views}
 use Rattle.view_store.specs.Views.{NamedTable}
 
@@ -13,14 +14,19 @@ pub record World : Type 0 where
   -- the tables that are kept under names, and the positions over views, over those and over watches
   pub snapshots : List Kept
   pub cursors : List Placed
-  -- the watches of the views that are edited
+  -- the watches of the views that are edited, and those whose rows are made when they are asked for
   pub watches : List Followed
+  pub computed : Computations
   -- the views whose rows are kept by key
   pub mappings : List MappedView
 
 -- a session that begins has neither snapshots, cursors, watches nor mappings
 abbrev pub world_over : Stored → World
-world_over store = record { store = store; snapshots = []; cursors = []; watches = []; mappings = [] }
+world_over store = record { store = store; snapshots = []; cursors = []; watches = []; computed = no_computations; mappings = [] }
+
+-- the names that stand for tables, beside those of computed watches
+abbrev pub kept_names : World → Names
+kept_names w = record { views = w.store.views; snapshots = w.snapshots; watches = w.watches; mappings = w.mappings }
 
 -- the world with another store
 abbrev pub with_store : World → Stored → World
@@ -36,4 +42,4 @@ with_line w views view events = record w { store = with_views w.store views; wat
 
 -- The world where the views became those of a commit: no cursor stands on any more, no watch and no mapping. Snapshots are kept.
 abbrev pub without_followers : World → World
-without_followers w = record w { cursors = []; watches = []; mappings = [] }
+without_followers w = record w { cursors = []; watches = []; computed = no_computations; mappings = [] }

@@ -6,9 +6,11 @@ ghost use Rattle.expr_text.specs.Meanings.{query_of};
 ghost use Rattle.following.specs.Keeping.{AreKept, followed};
 ghost use Rattle.mappings.specs.Keeping.{mapped};
 ghost use Rattle.session.specs.Answered.{Answered};
+ghost use Rattle.session.specs.World.{kept_names};
 
 use crate::{Session, replies};
 use cmd_text::Reply;
+use computing::Computing;
 use expr_text::{Crits, Expr};
 use following::Following;
 use mappings::Mappings;
@@ -18,11 +20,9 @@ use viewers::Viewer;
 
 impl Session {
     /// What a question may use.
-    fn scope<'a, V: Viewer>(&'a self, viewers: &'a [V]) -> Scope<'a, V>
-        ensures views { result.names.views ≡ self.now.store.views }
-        ensures snapshots { result.names.snapshots ≡ self.now.snapshots }
-        ensures watches { result.names.watches ≡ self.now.watches }
-        ensures mappings { result.names.mappings ≡ self.now.mappings }
+    pub(crate) fn scope<'a, V: Viewer>(&'a self, viewers: &'a [V]) -> Scope<'a, V>
+        ensures names { result.names ≡ kept_names self.now }
+        ensures computed { result.computed.now ≡ self.now.computed }
         ensures viewers { result.viewers.now ≡ viewers.now }
     {
         scope_of(
@@ -30,6 +30,7 @@ impl Session {
             &self.snapshots,
             &self.watches,
             &self.mappings,
+            &self.computed,
             viewers,
         )
     }
@@ -106,7 +107,7 @@ impl Session {
 }
 
 /// What the names of a question stand for: the views of a store, snapshots, and watches and mappings of those views.
-pub(crate) fn names_of<'a>(
+fn names_of<'a>(
     store: &'a Store,
     snapshots: &'a Snapshots,
     watches: &'a Following,
@@ -121,12 +122,13 @@ pub(crate) fn names_of<'a>(
     Known::of(store.views(), snapshots.as_slice(), watches, mappings)
 }
 
-/// What a question may use: the views of a store, snapshots, watches and mappings of those views, and viewers.
+/// What a question may use: the views of a store, snapshots, watches and mappings of those views, computed watches, and viewers.
 pub(crate) fn scope_of<'a, V: Viewer>(
     store: &'a Store,
     snapshots: &'a Snapshots,
     watches: &'a Following,
     mappings: &'a Mappings,
+    computed: &'a Computing,
     viewers: &'a [V],
 ) -> Scope<'a, V>
     requires kept { AreKept store.now.views watches.now }
@@ -134,10 +136,12 @@ pub(crate) fn scope_of<'a, V: Viewer>(
     ensures snapshots { result.names.snapshots ≡ snapshots.now }
     ensures watches { result.names.watches ≡ followed watches.now }
     ensures mappings { result.names.mappings ≡ mapped mappings.now }
+    ensures computed { result.computed.now ≡ computed.now }
     ensures viewers { result.viewers.now ≡ viewers.now }
 {
     Scope {
         names: names_of(store, snapshots, watches, mappings),
         viewers,
+        computed,
     }
 }

@@ -10,6 +10,7 @@
 
 mod asking;
 mod changes;
+mod computed;
 mod edits;
 mod followed;
 mod keyed;

@@ -1,18 +1,17 @@
 //! Names beside those of views: those of snapshots, cursors and watches.
-ghost use Rattle.std.specs.Prelude.{◌≡◌, List, length, map, IfErr, IfOk, OnErr, OnOk};
+ghost use Rattle.std.specs.Prelude.{◌≡◌, length, map, IfErr, IfOk, OnErr, OnOk};
 ghost use Rattle.std.specs.Result.{result_err};
 ghost use Rattle.cmd_text.specs.declared.command.Command.TheVariants as commands;
 ghost use Rattle.eval.specs.Parts.{IsWhole};
 ghost use Rattle.expr_text.specs.Meanings.{query_of};
 ghost use Rattle.questions.specs.Cursors.{without_cursor};
 ghost use Rattle.questions.specs.Kept.{table_of, without_kept};
-ghost use Rattle.viewers.specs.Meanings.{Meaning};
 ghost use Rattle.session.specs.Answered.{Answered};
 ghost use Rattle.session.specs.Commands.{with_cursor, with_snapshot};
 ghost use Rattle.session.specs.Naming.{is_beside_views as is_name_beside, is_taken as is_name_taken, new_name_due, uncursor_due, undup_due};
 ghost use Rattle.session.specs.Refusals.{AnswersDue};
 
-use crate::asking::{names_of, scope_of};
+use crate::asking::scope_of;
 use crate::refusals::of_memory;
 use crate::{Session, replies};
 use cmd_text::{Refusal, Reply};
@@ -33,6 +32,7 @@ impl Session {
         is_snapshot(self.snapshots.as_slice(), name)
             || is_cursor(self.cursors.as_slice(), name)
             || self.watches.is_watch(name)
+            || self.computed.is_computed(name)
     }
 
     /// Whether a view, a snapshot, a cursor or a watch has the name.
@@ -65,6 +65,7 @@ impl Session {
             &self.snapshots,
             &self.watches,
             &self.mappings,
+            &self.computed,
             viewers,
         )
         .table(self.alloc, expr)
@@ -114,15 +115,15 @@ impl Session {
     }
 
     /// Sets a cursor on the first row of what a name stands for, and answers its position.
-    pub(crate) fn set_cursor(&mut self, name: &Name, target: &Name) -> Reply
-        ensures { (viewers : List Meaning) → Answered viewers (commands.Cursor name.now target.now) self.old result self.new }
+    pub(crate) fn set_cursor<V: Viewer>(
+        &mut self,
+        viewers: &[V],
+        name: &Name,
+        target: &Name,
+    ) -> Reply
+        ensures { Answered (map V.meaning viewers.now) (commands.Cursor name.now target.now) self.old result self.new }
     {
-        let Some(standing) = names_of(
-            &self.store,
-            &self.snapshots,
-            &self.watches,
-            &self.mappings,
-        ).standing(target) else {
+        let Some(standing) = self.scope(viewers).standing(target) else {
             return replies::refused(Refusal::NoName);
         };
         if let Err(refusal) = self.check_new_name(name, self.cursors.len(), MAX_CURSORS) {
@@ -166,37 +167,51 @@ impl Session {
     }
 
     /// Moves a cursor one row further, and answers its position.
-    pub(crate) fn next(&mut self, name: &Name) -> Reply
-        ensures { (viewers : List Meaning) → Answered viewers (commands.Next name.now) self.old result self.new }
+    pub(crate) fn next<V: Viewer>(&mut self, viewers: &[V], name: &Name) -> Reply
+        ensures { Answered (map V.meaning viewers.now) (commands.Next name.now) self.old result self.new }
     {
-        match names_of(&self.store, &self.snapshots, &self.watches, &self.mappings).next(
-            &mut self.cursors,
-            name,
-        ) {
+        match scope_of(
+            &self.store,
+            &self.snapshots,
+            &self.watches,
+            &self.mappings,
+            &self.computed,
+            viewers,
+        )
+        .next(self.alloc, &mut self.cursors, name)
+        {
             Ok(position) => replies::counted(position),
             Err(error) => replies::unanswered(error),
         }
     }
 
     /// Moves a cursor one row back, and answers its position.
-    pub(crate) fn previous(&mut self, name: &Name) -> Reply
-        ensures { (viewers : List Meaning) → Answered viewers (commands.Prev name.now) self.old result self.new }
+    pub(crate) fn previous<V: Viewer>(&mut self, viewers: &[V], name: &Name) -> Reply
+        ensures { Answered (map V.meaning viewers.now) (commands.Prev name.now) self.old result self.new }
     {
-        match names_of(&self.store, &self.snapshots, &self.watches, &self.mappings).previous(
-            &mut self.cursors,
-            name,
-        ) {
+        match scope_of(
+            &self.store,
+            &self.snapshots,
+            &self.watches,
+            &self.mappings,
+            &self.computed,
+            viewers,
+        )
+        .previous(self.alloc, &mut self.cursors, name)
+        {
             Ok(position) => replies::counted(position),
             Err(error) => replies::unanswered(error),
         }
     }
 
     /// Answers the row at a cursor.
-    pub(crate) fn row(&self, name: &Name) -> Reply
-        ensures { (viewers : List Meaning) → Answered viewers (commands.Row name.now) self.now result self.now }
+    pub(crate) fn row<V: Viewer>(&self, viewers: &[V], name: &Name) -> Reply
+        ensures { Answered (map V.meaning viewers.now) (commands.Row name.now) self.now result self.now }
     {
-        let names = names_of(&self.store, &self.snapshots, &self.watches, &self.mappings);
-        match names.row(self.alloc, self.cursors.as_slice(), name) {
+        match self
+            .scope(viewers)
+            .row(self.alloc, self.cursors.as_slice(), name)
+        {
             Ok(text) => Reply::Row(text),
             Err(error) => replies::unanswered(error),
         }

@@ -25,6 +25,7 @@ use crate::replies;
 use crate::saying::{refuse, say, say_quit};
 use crate::words::{is_blank, is_quit};
 use cmd_text::{Command, Refusal, Reply, Space, read_command};
+use computing::Computing;
 use following::Following;
 use host_io::Host;
 use lines::Flow;
@@ -37,13 +38,15 @@ use storage::Store;
 use viewers::Viewer;
 
 /// A session: a store, whose views its lines edit and whose commits they make, the snapshots and cursors beside its views, the
-/// watches of its views, which keep the positions of their rows, and the views whose rows are kept by key.
+/// watches of its views, which keep the positions of their rows, the counts and filters whose rows are made when they are asked for, and
+/// the views whose rows are kept by key.
 #[derive(Drop)]
 pub struct Session {
     pub(crate) store: Store,
     pub(crate) snapshots: Snapshots,
     pub(crate) cursors: Cursors,
     pub(crate) watches: Following,
+    pub(crate) computed: Computing,
     pub(crate) mappings: Mappings,
     pub(crate) alloc: Global,
 }
@@ -68,7 +71,7 @@ impl Model for Session {
 
     ghost coded = { Prim.hlevel (codes, stored_code, kept_code, placed_code, interval_code) };
 
-    ghost view = { λ s. record { store = s.store; snapshots = s.snapshots; cursors = s.cursors; watches = followed s.watches; mappings = mapped s.mappings } };
+    ghost view = { λ s. record { store = s.store; snapshots = s.snapshots; cursors = s.cursors; watches = followed s.watches; computed = s.computed; mappings = mapped s.mappings } };
 
     ghost invariant = { λ s. AreKept s.store.views s.watches × AreMapped s.store.views s.mappings };
 }
@@ -83,6 +86,7 @@ impl Session {
             snapshots: Snapshots::new(alloc),
             cursors: Cursors::new(alloc),
             watches: Following::new(alloc),
+            computed: Computing::new(alloc),
             mappings: Mappings::new(alloc),
             alloc,
         }
@@ -161,16 +165,16 @@ impl Session {
             Command::Locate(expr, criteria) => self.locate(viewers, expr, criteria),
             Command::Dup(name, expr) => self.keep(viewers, name, expr),
             Command::Undup(name) => replies::done(self.give_up(name)),
-            Command::Watch(name, expr) => replies::count(self.watch(name, expr)),
+            Command::Watch(name, expr) => self.watch(viewers, name, expr),
             Command::Unwatch(name) => replies::done(self.unwatch(name)),
             Command::Hash(name, keys) => replies::done(self.map(By::Hash, name, *keys)),
             Command::Ordered(name, keys) => replies::done(self.map(By::Order, name, *keys)),
             Command::Unmap(name) => replies::done(self.unmap(name)),
-            Command::Cursor(name, target) => self.set_cursor(name, target),
+            Command::Cursor(name, target) => self.set_cursor(viewers, name, target),
             Command::Uncursor(name) => replies::done(self.remove_cursor(name)),
-            Command::Next(name) => self.next(name),
-            Command::Prev(name) => self.previous(name),
-            Command::Row(name) => self.row(name),
+            Command::Next(name) => self.next(viewers, name),
+            Command::Prev(name) => self.previous(viewers, name),
+            Command::Row(name) => self.row(viewers, name),
             Command::Log => replies::lines(self.notes()),
             Command::Rollback => self.rollback(),
             Command::Space => replies::taken(self.taken()),
@@ -186,6 +190,7 @@ impl Session {
         self.store.rollback();
         self.cursors.clear();
         self.watches.clear();
+        self.computed.clear();
         self.mappings.clear();
         replies::rolled_back(self.store.number())
     }

@@ -66,6 +66,7 @@ impl Session {
         };
         self.cursors.clear();
         self.watches.clear();
+        self.computed.clear();
         self.mappings.clear();
         replies::reopened(number)
     }
@@ -89,6 +90,7 @@ impl Session {
         };
         self.cursors.clear();
         self.watches.clear();
+        self.computed.clear();
         self.mappings.clear();
         replies::reverted(number)
     }

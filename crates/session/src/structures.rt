@@ -75,13 +75,14 @@ impl Session {
         self.put_view(name, table)
     }
 
-    /// Whether a cursor or a watch stands on the view of a name, or it has a mapping.
+    /// Whether a cursor or a watch, computed or not, stands on the view of a name, or it has a mapping.
     fn is_view_used(&self, name: &Name) -> bool
         ensures { result ≡ is_used self.now name.now }
     {
         has_cursor_on(self.cursors.as_slice(), Standing::View, name)
             || self.watches.is_watched(name)
             || self.mappings.is_mapped(name)
+            || self.computed.is_source(name)
     }
 
     /// Adds a view without rows last.

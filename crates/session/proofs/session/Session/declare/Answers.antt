@@ -21,7 +21,7 @@ pub returns-then-is_view_used-clause-due : goal.returns-then-is_view_used-clause
 returns-then-is_view_used-clause-due c =
     let name = c.args.name.now in
     let schema = c.args.schema.now in
-    let inside : World = record { store = c.self.inside.store; snapshots = c.self.inside.snapshots; cursors = c.self.inside.cursors; watches = followed c.self.inside.watches; mappings = mapped c.self.inside.mappings } in
+    let inside : World = record { store = c.self.inside.store; snapshots = c.self.inside.snapshots; cursors = c.self.inside.cursors; watches = followed c.self.inside.watches; computed = c.self.inside.computed; mappings = mapped c.self.inside.mappings } in
     let found = ap (λ v. table_of v name) (sym c.views.ensures) ∙ c.in-Some.ensures in
     let stands = ap (λ (w : World). is_view_used w name) c.self.view_is ∙ sym c.is_view_used.ensures ∙ c.if-is_view_used.true in
     inl (ap (λ (w : World). declare_due w name schema) (sym c.self.view_is)

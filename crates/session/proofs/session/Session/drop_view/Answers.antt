@@ -1,4 +1,4 @@
-use Rattle.std.proofs.Common.{◌≡◌, false, sym, subst, ◌∙◌}
+use Rattle.std.proofs.Common.{◌≡◌, ◌||◌, false, sym, subst, ◌∙◌}
 use Rattle.following.specs.Keeping.{AreKept}
 use Rattle.following.specs.Watches.{is_watched}
 use Rattle.mappings.specs.Keeping.{AreKept as AreMapped}
@@ -9,7 +9,8 @@ use Rattle.storage.specs.Stored.{Stored, with_views}
 use Rattle.view_store.specs.Views.{without_view}
 use Rattle.view_store.proofs.Editing.{by_answer}
 use Rattle.session.specs.World.{World}
-use Rattle.session.proofs.KeyedKept.{mapped_without, neither_of}
+use Rattle.computing.specs.Computed.{is_source}
+use Rattle.session.proofs.KeyedKept.{first_false, mapped_without, neither_of}
 use Rattle.session.proofs.Watched.{kept_without}
 use Rattle.session.proofs.session.Session.drop_view.Goals as goal
 
@@ -18,10 +19,10 @@ invariant_of-self c =
     let store = c.self.inside.store in
     let name = c.args.name.now in
     let w = c.args.self.now in
-    let none = neither_of (has_cursor_on w.cursors View name) (is_watched w.watches name) (is_mapped w.mappings name) (sym c.is_view_used.ensures ∙ c.if-is_view_used.false) in
+    let none = neither_of (has_cursor_on w.cursors View name) (is_watched w.watches name) (is_mapped w.mappings name || is_source w.computed name) (sym c.is_view_used.ensures ∙ c.if-is_view_used.false) in
     by_answer (λ (s : Stored). AreKept s.views c.self.inside.watches × AreMapped s.views c.self.inside.mappings) c.drop_view.result c.drop_view.new.self store (with_views store (without_view store.views name))
     c.drop_view.ensures.ok c.drop_view.ensures.err (
       kept_without store.views c.self.inside.watches name (subst (λ (w : World). is_watched w.watches name ≡ false) (sym c.self.view_is) none.0) c.self.invariant.0,
-      mapped_without store.views c.self.inside.mappings name (subst (λ (w : World). is_mapped w.mappings name ≡ false) (sym c.self.view_is) none.1) c.self.invariant.1,
+      mapped_without store.views c.self.inside.mappings name (subst (λ (w : World). is_mapped w.mappings name ≡ false) (sym c.self.view_is) (first_false (is_mapped w.mappings name) (is_source w.computed name) none.1)) c.self.invariant.1,
     )
     c.self.invariant

@@ -222,7 +222,7 @@ returns-clause-ok c =
     let coming = c.in_ok-coming.coming in
     let edit : coming.edit ≡ put_edit keys.by keys.keys row place t.rows = of_ok _ (λ (x : Coming). x.edit ≡ put_edit keys.by keys.keys row place t.rows) c.put_edit.result c.map_err.result coming c.map_err.ensures.cases c.map_err.ensures.variant c.in_ok-coming.was
     (c.put_edit.ensures.edit keys.by keys.keys (subst (λ n. mapping_of (mapped all) n ≡ Some (record { view = n; by = keys.by; keys = keys.keys })) (sym c.name-2.ensures) at.mapping)) in
-    let inside : World = record { store = c.self.inside.store; snapshots = c.self.inside.snapshots; cursors = c.self.inside.cursors; watches = followed c.self.inside.watches; mappings = mapped all } in
+    let inside : World = record { store = c.self.inside.store; snapshots = c.self.inside.snapshots; cursors = c.self.inside.cursors; watches = followed c.self.inside.watches; computed = c.self.inside.computed; mappings = mapped all } in
     let new : World = record inside { store = c.follow_coming.new.store; watches = followed c.follow_coming.new.watches; mappings = mapped c.follow_coming.new.mappings } in
     subst (λ e. new ≡ line_by_key w route e (put_edits row e)) (put_at views all w route keys t at place row coming.edit edit)
     (line_made inside w route coming.edit (put_edits row coming.edit) c.in_ok-views.views c.follow_coming.new.store (followed c.follow_coming.new.watches) (mapped c.follow_coming.new.mappings) c.self.view_is

@@ -1,3 +1,4 @@
+use Rattle.computing.specs.Computed.{no_computations}
 use Rattle.std.proofs.Common.{[], Err, ap, refl, sym, subst, ◌∙◌}
 use Rattle.cmd_text.specs.Replies.{reply_bytes}
 use Rattle.cmd_text.specs.declared.command.Command.TheVariants as commands
@@ -17,7 +18,7 @@ pub returns-in-Err-clause-carried : goal.returns-in-Err-clause-carried
 returns-in-Err-clause-carried g c = λ viewers.
     let from = g.H.Disk.outside c.args.host.now in
     let to = g.H.Disk.outside c.reopen.new.disk in
-    let inside : World = record { store = c.self.inside.store; snapshots = c.self.inside.snapshots; cursors = c.self.inside.cursors; watches = followed c.self.inside.watches; mappings = mapped c.self.inside.mappings } in
+    let inside : World = record { store = c.self.inside.store; snapshots = c.self.inside.snapshots; cursors = c.self.inside.cursors; watches = followed c.self.inside.watches; computed = c.self.inside.computed; mappings = mapped c.self.inside.mappings } in
     let reply = reply_bytes c.refused.result in
     let e = c.in-Err.ensures in
     subst (λ (w : World). Carried g.H.Disk.tells viewers commands.Reopen (state_of w from) reply (state_of (with_store inside c.reopen.new.self) to)) c.self.view_is
@@ -30,7 +31,7 @@ pub returns-in-Err-clause-goes : goal.returns-in-Err-clause-goes
 returns-in-Err-clause-goes g c = λ tells.
     let from = g.H.Disk.outside c.args.host.now in
     let to = g.H.Disk.outside c.reopen.new.disk in
-    let inside : World = record { store = c.self.inside.store; snapshots = c.self.inside.snapshots; cursors = c.self.inside.cursors; watches = followed c.self.inside.watches; mappings = mapped c.self.inside.mappings } in
+    let inside : World = record { store = c.self.inside.store; snapshots = c.self.inside.snapshots; cursors = c.self.inside.cursors; watches = followed c.self.inside.watches; computed = c.self.inside.computed; mappings = mapped c.self.inside.mappings } in
     let ready : IsSteady (state_of inside from) = subst (λ (v : World). IsSteady (state_of v from)) (sym c.self.view_is) (c.requires.ready tells) in
     let e = c.in-Err.ensures in
     subst (λ (w : World). GoesOn commands.Reopen (state_of w from) (state_of (with_store inside c.reopen.new.self) to) from to) c.self.view_is
@@ -41,25 +42,26 @@ pub returns-clause-carried : goal.returns-clause-carried
 returns-clause-carried g c = λ viewers.
     let from = g.H.Disk.outside c.args.host.now in
     let to = g.H.Disk.outside c.reopen.new.disk in
-    let inside : World = record { store = c.self.inside.store; snapshots = c.self.inside.snapshots; cursors = c.self.inside.cursors; watches = followed c.self.inside.watches; mappings = mapped c.self.inside.mappings } in
-    let new : World = record { store = c.reopen.new.self; snapshots = c.self.inside.snapshots; cursors = c.clear.new.self; watches = followed c.clear-2.new.self; mappings = mapped c.clear-3.new.self } in
+    let inside : World = record { store = c.self.inside.store; snapshots = c.self.inside.snapshots; cursors = c.self.inside.cursors; watches = followed c.self.inside.watches; computed = c.self.inside.computed; mappings = mapped c.self.inside.mappings } in
+    let new : World = record { store = c.reopen.new.self; snapshots = c.self.inside.snapshots; cursors = c.clear.new.self; watches = followed c.clear-2.new.self; computed = c.clear-3.new.self; mappings = mapped c.clear-4.new.self } in
     let reply = reply_bytes c.reopened.result in
     let e = c.in-Ok.ensures in
     subst (λ (w : World). Carried g.H.Disk.tells viewers commands.Reopen (state_of w from) reply (state_of new to)) c.self.view_is
     (reopen_made g.H.Disk.tells viewers inside from to reply e.counts.later new c.in-Ok.number
-    (ap (λ s. record { store = s; snapshots = c.self.inside.snapshots; cursors = c.clear.new.self; watches = followed c.clear-2.new.self; mappings = mapped c.clear-3.new.self }) e.ok
+    (ap (λ s. record { store = s; snapshots = c.self.inside.snapshots; cursors = c.clear.new.self; watches = followed c.clear-2.new.self; computed = c.clear-3.new.self; mappings = mapped c.clear-4.new.self }) e.ok
     ∙ let store = reopened c.self.inside.store c.reopen.new.self.kept c.reopen.new.self.slot c.reopen.new.self.other in
-    ap (λ cursors. record { store = store; snapshots = c.self.inside.snapshots; cursors = cursors; watches = followed c.clear-2.new.self; mappings = mapped c.clear-3.new.self }) c.clear.ensures
-    ∙ ap (λ watches. record { store = store; snapshots = c.self.inside.snapshots; cursors = []; watches = followed watches; mappings = mapped c.clear-3.new.self }) c.clear-2.ensures
-    ∙ ap (λ mappings. record { store = store; snapshots = c.self.inside.snapshots; cursors = []; watches = []; mappings = mapped mappings }) c.clear-3.ensures)
+    ap (λ cursors. record { store = store; snapshots = c.self.inside.snapshots; cursors = cursors; watches = followed c.clear-2.new.self; computed = c.clear-3.new.self; mappings = mapped c.clear-4.new.self }) c.clear.ensures
+    ∙ ap (λ watches. record { store = store; snapshots = c.self.inside.snapshots; cursors = []; watches = followed watches; computed = c.clear-3.new.self; mappings = mapped c.clear-4.new.self }) c.clear-2.ensures
+    ∙ ap (λ computed. record { store = store; snapshots = c.self.inside.snapshots; cursors = []; watches = []; computed = computed; mappings = mapped c.clear-4.new.self }) c.clear-3.ensures
+    ∙ ap (λ mappings. record { store = store; snapshots = c.self.inside.snapshots; cursors = []; watches = []; computed = no_computations; mappings = mapped mappings }) c.clear-4.ensures)
     e.number (ap reply_bytes c.reopened.ensures.value) e.stands e.rests e.syncs)
 
 pub returns-clause-goes : goal.returns-clause-goes
 returns-clause-goes g c = λ tells.
     let from = g.H.Disk.outside c.args.host.now in
     let to = g.H.Disk.outside c.reopen.new.disk in
-    let inside : World = record { store = c.self.inside.store; snapshots = c.self.inside.snapshots; cursors = c.self.inside.cursors; watches = followed c.self.inside.watches; mappings = mapped c.self.inside.mappings } in
-    let new : World = record { store = c.reopen.new.self; snapshots = c.self.inside.snapshots; cursors = c.clear.new.self; watches = followed c.clear-2.new.self; mappings = mapped c.clear-3.new.self } in
+    let inside : World = record { store = c.self.inside.store; snapshots = c.self.inside.snapshots; cursors = c.self.inside.cursors; watches = followed c.self.inside.watches; computed = c.self.inside.computed; mappings = mapped c.self.inside.mappings } in
+    let new : World = record { store = c.reopen.new.self; snapshots = c.self.inside.snapshots; cursors = c.clear.new.self; watches = followed c.clear-2.new.self; computed = c.clear-3.new.self; mappings = mapped c.clear-4.new.self } in
     let ready : IsSteady (state_of inside from) = subst (λ (v : World). IsSteady (state_of v from)) (sym c.self.view_is) (c.requires.ready tells) in
     let e = c.in-Ok.ensures in
     subst (λ (w : World). GoesOn commands.Reopen (state_of w from) (state_of new to) from to) c.self.view_is

@@ -1,3 +1,4 @@
+use Rattle.computing.specs.Computed.{no_computations}
 use Rattle.std.proofs.Common.{◌≡◌, [], Err, false, true, ap, sym, subst, ◌∙◌}
 use Rattle.std.specs.Option.{is_some}
 use Rattle.cmd_text.specs.Replies.{reply_bytes}
@@ -19,7 +20,7 @@ pub returns-in-Err-clause-carried : goal.returns-in-Err-clause-carried
 returns-in-Err-clause-carried g c = λ viewers.
     let from = g.H.Disk.outside c.args.host.now in
     let to = g.H.Disk.outside c.revert.new.disk in
-    let inside : World = record { store = c.self.inside.store; snapshots = c.self.inside.snapshots; cursors = c.self.inside.cursors; watches = followed c.self.inside.watches; mappings = mapped c.self.inside.mappings } in
+    let inside : World = record { store = c.self.inside.store; snapshots = c.self.inside.snapshots; cursors = c.self.inside.cursors; watches = followed c.self.inside.watches; computed = c.self.inside.computed; mappings = mapped c.self.inside.mappings } in
     let reply = reply_bytes c.refused-in-Err.result in
     let unshut : is_shut inside.store ≡ false = subst (λ (w : World). is_shut w.store ≡ false) (sym c.self.view_is) c.requires.«open» in
     let some : is_some inside.store.before ≡ true = sym (ap is_some c.before-2.ensures.value) ∙ c.if-is_none.ensures in
@@ -33,7 +34,7 @@ pub returns-in-Err-clause-goes : goal.returns-in-Err-clause-goes
 returns-in-Err-clause-goes g c = λ tells.
     let from = g.H.Disk.outside c.args.host.now in
     let to = g.H.Disk.outside c.revert.new.disk in
-    let inside : World = record { store = c.self.inside.store; snapshots = c.self.inside.snapshots; cursors = c.self.inside.cursors; watches = followed c.self.inside.watches; mappings = mapped c.self.inside.mappings } in
+    let inside : World = record { store = c.self.inside.store; snapshots = c.self.inside.snapshots; cursors = c.self.inside.cursors; watches = followed c.self.inside.watches; computed = c.self.inside.computed; mappings = mapped c.self.inside.mappings } in
     let ready : IsSteady (state_of inside from) = subst (λ (v : World). IsSteady (state_of v from)) (sym c.self.view_is) (c.requires.ready tells) in
     let e = c.in-Err.ensures in
     subst (λ (w : World). GoesOn commands.Revert (state_of w from) (state_of (with_store inside c.revert.new.self) to) from to) c.self.view_is
@@ -43,25 +44,26 @@ pub returns-clause-carried : goal.returns-clause-carried
 returns-clause-carried g c = λ viewers.
     let from = g.H.Disk.outside c.args.host.now in
     let to = g.H.Disk.outside c.revert.new.disk in
-    let inside : World = record { store = c.self.inside.store; snapshots = c.self.inside.snapshots; cursors = c.self.inside.cursors; watches = followed c.self.inside.watches; mappings = mapped c.self.inside.mappings } in
-    let new : World = record { store = c.revert.new.self; snapshots = c.self.inside.snapshots; cursors = c.clear.new.self; watches = followed c.clear-2.new.self; mappings = mapped c.clear-3.new.self } in
+    let inside : World = record { store = c.self.inside.store; snapshots = c.self.inside.snapshots; cursors = c.self.inside.cursors; watches = followed c.self.inside.watches; computed = c.self.inside.computed; mappings = mapped c.self.inside.mappings } in
+    let new : World = record { store = c.revert.new.self; snapshots = c.self.inside.snapshots; cursors = c.clear.new.self; watches = followed c.clear-2.new.self; computed = c.clear-3.new.self; mappings = mapped c.clear-4.new.self } in
     let reply = reply_bytes c.reverted.result in
     let unshut : is_shut inside.store ≡ false = subst (λ (w : World). is_shut w.store ≡ false) (sym c.self.view_is) c.requires.«open» in
     let some : is_some inside.store.before ≡ true = sym (ap is_some c.before-2.ensures.value) ∙ c.if-is_none.ensures in
     let e = c.in-Ok.ensures in
     subst (λ (w : World). Carried g.H.Disk.tells viewers commands.Revert (state_of w from) reply (state_of new to)) c.self.view_is
     (revert_made g.H.Disk.tells viewers inside from to reply e.counts.later unshut some e.same new c.revert.new.self c.in-Ok.number
-    (ap (λ cursors. record { store = c.revert.new.self; snapshots = c.self.inside.snapshots; cursors = cursors; watches = followed c.clear-2.new.self; mappings = mapped c.clear-3.new.self }) c.clear.ensures
-    ∙ ap (λ watches. record { store = c.revert.new.self; snapshots = c.self.inside.snapshots; cursors = []; watches = followed watches; mappings = mapped c.clear-3.new.self }) c.clear-2.ensures
-    ∙ ap (λ mappings. record { store = c.revert.new.self; snapshots = c.self.inside.snapshots; cursors = []; watches = []; mappings = mapped mappings }) c.clear-3.ensures)
+    (ap (λ cursors. record { store = c.revert.new.self; snapshots = c.self.inside.snapshots; cursors = cursors; watches = followed c.clear-2.new.self; computed = c.clear-3.new.self; mappings = mapped c.clear-4.new.self }) c.clear.ensures
+    ∙ ap (λ watches. record { store = c.revert.new.self; snapshots = c.self.inside.snapshots; cursors = []; watches = followed watches; computed = c.clear-3.new.self; mappings = mapped c.clear-4.new.self }) c.clear-2.ensures
+    ∙ ap (λ computed. record { store = c.revert.new.self; snapshots = c.self.inside.snapshots; cursors = []; watches = []; computed = computed; mappings = mapped c.clear-4.new.self }) c.clear-3.ensures
+    ∙ ap (λ mappings. record { store = c.revert.new.self; snapshots = c.self.inside.snapshots; cursors = []; watches = []; computed = no_computations; mappings = mapped mappings }) c.clear-4.ensures)
     e.ok (ap reply_bytes c.reverted.ensures.value))
 
 pub returns-clause-goes : goal.returns-clause-goes
 returns-clause-goes g c = λ tells.
     let from = g.H.Disk.outside c.args.host.now in
     let to = g.H.Disk.outside c.revert.new.disk in
-    let inside : World = record { store = c.self.inside.store; snapshots = c.self.inside.snapshots; cursors = c.self.inside.cursors; watches = followed c.self.inside.watches; mappings = mapped c.self.inside.mappings } in
-    let new : World = record { store = c.revert.new.self; snapshots = c.self.inside.snapshots; cursors = c.clear.new.self; watches = followed c.clear-2.new.self; mappings = mapped c.clear-3.new.self } in
+    let inside : World = record { store = c.self.inside.store; snapshots = c.self.inside.snapshots; cursors = c.self.inside.cursors; watches = followed c.self.inside.watches; computed = c.self.inside.computed; mappings = mapped c.self.inside.mappings } in
+    let new : World = record { store = c.revert.new.self; snapshots = c.self.inside.snapshots; cursors = c.clear.new.self; watches = followed c.clear-2.new.self; computed = c.clear-3.new.self; mappings = mapped c.clear-4.new.self } in
     let ready : IsSteady (state_of inside from) = subst (λ (v : World). IsSteady (state_of v from)) (sym c.self.view_is) (c.requires.ready tells) in
     let e = c.in-Ok.ensures in
     subst (λ (w : World). GoesOn commands.Revert (state_of w from) (state_of new to) from to) c.self.view_is

@@ -234,7 +234,7 @@ returns-clause-ok c =
     (c.set_edit.ensures.edit keys.by keys.keys (subst (λ n. mapping_of (mapped all) n ≡ Some (record { view = n; by = keys.by; keys = keys.keys })) (sym c.name-3.ensures) at.mapping)) in
     let ended = c.in_ok-stand.ensures.ok ∙ ap (λ v. edited_in_turn v route (stand_edits after coming.edit)) made in
     let both = set_at views all w route keys t at i prop d after coming.edit row.0 is in
-    let inside : World = record { store = c.self.inside.store; snapshots = c.self.inside.snapshots; cursors = c.self.inside.cursors; watches = followed c.self.inside.watches; mappings = mapped all } in
+    let inside : World = record { store = c.self.inside.store; snapshots = c.self.inside.snapshots; cursors = c.self.inside.cursors; watches = followed c.self.inside.watches; computed = c.self.inside.computed; mappings = mapped all } in
     let new : World = record inside { store = c.follow_coming.new.store; watches = followed c.follow_coming.new.watches; mappings = mapped c.follow_coming.new.mappings } in
     let e = set_by_key (mapping_as route keys) w.store.views route i (row_with w.store.views route i prop d) in
     on_both c.follow_coming.result c.follow_coming.ensures.views c.follow_coming.ensures.followed (λ stored watched.
