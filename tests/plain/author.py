@@ -350,7 +350,7 @@ class Author:
             table = self.session.value((source,))
         except Refused:
             table = (("a", "I"),), []
-        word = self.chance.choice(("select", "range", "range", "sort", "sort")) if self.often(0.98) else self.chance.choice(WORDS)
+        word = self.chance.choice(("select", "range", "range", "sort", "sort", "counts", "counts", "keep", "keep")) if self.often(0.98) else self.chance.choice(WORDS)
         return [self.new(), *expression_tokens(Expression(word, [(source,)] * OPERATORS[word].bases, self.given_for(word, [table] * OPERATORS[word].bases)))]
 
     def of_unwatch(self):

@@ -220,7 +220,7 @@ class Reader:
         return self.take("text") if self.kind() is not None else ""
 
 
-WATCHED = ("select", "range", "sort")
+WATCHED = ("select", "range", "sort", "counts", "keep")
 
 # The parts that stand behind the word of each command, of which `getas` is read apart.
 COMMANDS = {

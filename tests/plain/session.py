@@ -184,16 +184,28 @@ class Session(Keyed):
         (source,), = operation.bases
         if source not in self.views and source not in self.watches:
             raise Refused("3 noname")
-        if new in self.views or self.is_beside_views(new):
-            raise Refused("4 exists")
+        told, rows = None, []
         try:
             rows = self.shown(operation)[1]
         except Unfit as unfit:
-            raise Refused(TOLD[str(unfit)])
-        if self.chain(operation) > MOST_CHAIN or len(self.watches) >= MOST_WATCHES:
+            told = TOLD[str(unfit)]
+        if told == "3 noname":
+            raise Refused(told)
+        if new in self.views or self.is_beside_views(new):
+            raise Refused("4 exists")
+        if told and told != "8 limit":
+            raise Refused(told)
+        if not self.may_stand(operation.word, source):
+            raise Refused("7 kind")
+        if told or self.chain(operation) > MOST_CHAIN or len(self.watches) >= MOST_WATCHES:
             raise Refused("8 limit")
         self.watches[new] = operation
         return str(len(rows))
+
+    def may_stand(self, word, source):
+        """Counts stand over anything but counts, and any other watch over neither counts nor a filter."""
+        below = self.watches[source].word if source in self.watches else None
+        return below != "counts" and (below != "keep" or word == "counts")
 
     def chain(self, operation):
         """How many operators are watched over one another, this one among them."""
