@@ -9,8 +9,6 @@ mod commits;
 #[cfg(test)]
 mod echo;
 #[cfg(test)]
-mod followed;
-#[cfg(test)]
 mod long_lines;
 #[cfg(test)]
 mod running;
