@@ -1,6 +1,7 @@
 pub mod Counting
 pub mod Defaults
 pub mod KeyTests
+pub mod KeysOnce
 pub mod ListedPairs
 pub mod Listing
 pub mod Matches
@@ -10,5 +11,7 @@ pub mod Pairings
 pub mod Placings
 pub mod Rows
 pub mod Sides
+pub mod Unions
 pub mod Unnests
+pub mod Views
 pub mod Wholes

@@ -57,3 +57,11 @@ distinct_append (x ∷ xs) ys =
     ∙ ap (λ rows. filter apart (distinct xs) ++ rows) (
     filter_twice apart (is_kept false (distinct xs)) (distinct ys)
     ∙ filter_agree (λ r. is_kept false (distinct xs) r && apart r) (is_kept false (x ∷ filter apart (distinct xs))) (new_row x (distinct xs)) (distinct ys)))
+
+-- a row is among distinct rows where it is among the rows
+among_distinct : (rows : List (List Datum)) (r : List Datum) → is_row_among (distinct rows) r ≡ is_row_among rows r
+among_distinct [] r = refl
+among_distinct (x ∷ rows) r = cases (same_row x r) (λ e. rw e refl) (λ e. rw e (still_among x r (distinct rows) e ∙ among_distinct rows r))
+
+pub new_among_distinct : (xs ys : List (List Datum)) → filter (is_kept false (distinct xs)) ys ≡ filter (is_kept false xs) ys
+new_among_distinct xs ys = filter_agree (is_kept false (distinct xs)) (is_kept false xs) (λ r. ap not (among_distinct xs r)) ys

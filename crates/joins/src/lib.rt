@@ -4,8 +4,8 @@
 //! the rows of a view inside it; in an outer join a row that has no partner stands once, beside defaults. The rows of two tables side
 //! by side are pairs of positions, so that none is made; only `join_prop` makes its rows. `union`, `intersect`, `minus` and
 //! `different` take tables of one schema as sets of rows: their rows are positions in the two tables. What is looked up is looked up
-//! in an index of rows, so that no operator goes over the second table for each row of the first but `product`, which lists these very
-//! pairs.
+//! in an index of rows, and tables of about as many rows are gone along together, each in the order of its index; so no operator goes
+//! over the second table for each row of the first but `product`, which lists these very pairs.
 //!
 //! What each operator gives, and which refusal is due, is said by the definitions of `derived`. This crate knows nothing of
 //! expressions, files or columns in memory.

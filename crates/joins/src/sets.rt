@@ -1,5 +1,5 @@
 //! Two tables of one schema as sets of rows: two rows are the same where all their values are, views row by row.
-ghost use Rattle.std.specs.Prelude.{◌≡◌, ◌<◌, ◌≤◌, [], length, true, None, IfErr, IfOk, OnOk};
+ghost use Rattle.std.specs.Prelude.{◌≡◌, ◌<◌, ◌≤◌, [], All, length, false, not, slice_index_or, true, None, IfErr, IfOk, OnOk};
 ghost use Rattle.std.specs.List.{filter};
 ghost use Rattle.std.specs.Result.{result_err};
 ghost use Rattle.mk_value.specs.Limits.{max_rows};
@@ -11,8 +11,10 @@ ghost use Rattle.relations.specs.Refusals.{other_schema};
 ghost use Rattle.derived.specs.Refusals.{different_due, union_due};
 ghost use Rattle.relations.specs.Answers.{AnswersCounted};
 ghost use Rattle.joins.specs.Counted.{IsRefusedAt};
+ghost use Rattle.relations.specs.Equality.{is_row_among};
+ghost use Rattle.grouping.specs.Index.{first_positions};
 ghost use Rattle.grouping.specs.WholeRows.{is_plain as has_plain_values};
-ghost use Rattle.joins.specs.Sets.{is_kept};
+ghost use Rattle.joins.specs.Sets.{is_kept, is_wanted};
 
 use crate::placing::groups_near;
 use derived::{Derived, concat, gather};
@@ -20,6 +22,9 @@ use grouping::{KeyIndex, RowIndex, is_plain, unique, whole_index};
 use mk_value::{Memory, Positions, Row, Same, TableRead};
 use relations::{Columns, DerivedError, all_columns, copy_row, copy_rows};
 use std::alloc::Global;
+
+/// How many times fewer rows are looked up one by one.
+const SMALL: usize = 16;
 
 /// The first's rows that the second has, in the first's order; equal rows of the first as often as they stand there.
 ///
@@ -117,9 +122,76 @@ fn united<T: TableRead + Same + Drop>(
     ensures few { OnOk result (length (union (table_of a) (table_of b)).rows ≤ max_rows) }
     ensures err { IfErr result (IsRefusedAt (length (union (table_of a) (table_of b)).rows)) }
 {
+    if is_plain(a.schema()) && is_plain(b.schema()) {
+        return united_plain(alloc, a, b);
+    }
     let first = unique(alloc, a)?;
     let second = unique_besides(alloc, b, &first)?;
     concat(alloc, first, second)
+}
+
+/// The same where no value is a view. It sorts the rows of each table once, and copies none.
+fn united_plain<T: TableRead + Same + Drop>(
+    alloc: Global,
+    a: Derived<T>,
+    b: Derived<T>,
+) -> Result<Derived<T>, DerivedError>
+    requires due { other_schema (table_of a) (table_of b) ≡ None }
+    requires first { has_plain_values a.schema ≡ true }
+    requires second { has_plain_values b.schema ≡ true }
+    ensures ok { IfOk result (λ d. table_of d ≡ union (table_of a) (table_of b)) }
+    ensures few { OnOk result (length (union (table_of a) (table_of b)).rows ≤ max_rows) }
+    ensures err { IfErr result (IsRefusedAt (length (union (table_of a) (table_of b)).rows)) }
+{
+    let parts = united_parts(alloc, &a, &b)?;
+    let first = gather(alloc, a, parts.first)?;
+    let second = gather(alloc, b, parts.second)?;
+    concat(alloc, first, second)
+}
+
+/// Positions in each of two tables.
+#[derive(Drop)]
+struct Parts {
+    first: Positions,
+    second: Positions,
+}
+
+/// The positions of the rows that the union of two tables has of each.
+fn united_parts<T: TableRead + Same + Drop>(
+    alloc: Global,
+    a: &Derived<T>,
+    b: &Derived<T>,
+) -> Result<Parts, Memory>
+    requires first { has_plain_values a.now.schema ≡ true }
+    requires second { has_plain_values b.now.schema ≡ true }
+    ensures first { IfOk result (λ parts. parts.first ≡ first_positions a.now.rows) }
+    ensures second { IfOk result (λ parts. parts.second ≡ filter (λ i. not (is_row_among a.now.rows (slice_index_or b.now.rows i []))) (first_positions b.now.rows)) }
+    ensures few { (length a.now.rows ≤ max_rows) × (length b.now.rows ≤ max_rows) }
+{
+    let _sizes = (a.size(), b.size());
+    let ones = whole_index(alloc, a)?;
+    let twos = whole_index(alloc, b)?;
+    let first = ones.firsts(alloc)?;
+    let firsts = twos.firsts(alloc)?;
+    let shared = twos.shared(alloc, &ones)?;
+    let second = unmarked(alloc, &firsts, &shared)?;
+    Ok(Parts { first, second })
+}
+
+/// Those of the positions at which no mark stands.
+fn unmarked(alloc: Global, positions: &Positions, marks: &[bool]) -> Result<Positions, Memory>
+    requires { All (λ i. i < length marks.now) positions.now }
+    ensures { IfOk result (λ kept. kept ≡ filter (λ i. not (slice_index_or marks.now i false)) positions.now) }
+{
+    let mut kept = Positions::new(alloc);
+    for position in positions.as_slice() {
+        let mark = marks[*position as usize];
+        if mark {
+            continue;
+        }
+        kept.push(*position)?;
+    }
+    Ok(kept)
 }
 
 /// The rows of a table that another has not, each of equal rows once.
@@ -200,14 +272,70 @@ fn kept_of_plain<T: TableRead + Same + Drop>(
     b: &Derived<T>,
     among: bool,
 ) -> Result<Positions, Memory>
-    requires { has_plain_values b.now.schema ≡ true }
+    requires first { has_plain_values a.now.schema ≡ true }
+    requires second { has_plain_values b.now.schema ≡ true }
     ensures kept { IfOk result (λ positions. positions ≡ passing (is_kept among b.now.rows) [] a.now.rows) }
     ensures few { IfOk result (λ positions. length positions ≤ max_rows) }
 {
-    let columns = all_columns(alloc, a.schema().len())?;
     let index = whole_index(alloc, b)?;
+    if is_small(a.size(), b.size()) || is_small(b.size(), a.size()) {
+        return kept_one_by_one(alloc, a, &index, among);
+    }
+    kept_in_order(alloc, a, &index, among)
+}
+
+/// Whether a number of rows is small beside another, so that looking them up one by one is faster than sorting the others.
+fn is_small(rows: usize, others: usize) -> bool {
+    rows < others / SMALL
+}
+
+/// The positions of the rows that an index of whole rows has, or of those that it has not: each row is looked up.
+fn kept_one_by_one<'x, T: TableRead + Same + Drop>(
+    alloc: Global,
+    a: &Derived<T>,
+    index: &'x KeyIndex<'x, Derived<T>>,
+    among: bool,
+) -> Result<Positions, Memory>
+    ensures kept { IfOk result (λ positions. positions ≡ passing (is_kept among index.now) [] a.now.rows) }
+    ensures few { IfOk result (λ positions. length positions ≤ max_rows) }
+{
+    let columns = all_columns(alloc, a.schema().len())?;
     let mut near = groups_near(alloc, a.size())?;
-    positions_in(alloc, a, &columns, &index, &mut near, among)
+    positions_in(alloc, a, &columns, index, &mut near, among)
+}
+
+/// The same positions, for which the rows are sorted too, and then gone along together with those of the index.
+fn kept_in_order<'x, T: TableRead + Same + Drop>(
+    alloc: Global,
+    a: &Derived<T>,
+    index: &'x KeyIndex<'x, Derived<T>>,
+    among: bool,
+) -> Result<Positions, Memory>
+    requires { has_plain_values a.now.schema ≡ true }
+    ensures kept { IfOk result (λ positions. positions ≡ passing (is_kept among index.now) [] a.now.rows) }
+    ensures few { IfOk result (λ positions. length positions ≤ max_rows) }
+{
+    let _size = a.size();
+    let own = whole_index(alloc, a)?;
+    let shared = own.shared(alloc, index)?;
+    wanted(alloc, &shared, among)
+}
+
+/// The places of the marks, or of those that are none.
+fn wanted(alloc: Global, marks: &[bool], among: bool) -> Result<Positions, Memory>
+    requires { length marks.now ≤ max_rows }
+    ensures kept { IfOk result (λ positions. positions ≡ passing (is_wanted among) false marks.now) }
+    ensures few { IfOk result (λ positions. length positions ≤ max_rows) }
+{
+    let mut positions = Positions::new(alloc);
+    for at in 0..marks.len() {
+        let mark = marks[at];
+        if mark != among {
+            continue;
+        }
+        positions.push(at as u32)?;
+    }
+    Ok(positions)
 }
 
 /// The positions of the rows that an index of whole rows has, or of those that it has not. In `near` it remembers groups.
