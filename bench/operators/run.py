@@ -2,7 +2,7 @@
 """Times the operators over a million rows in columns, and statements of SQLite over the same rows in memory, without an index.
 
 Prints for each the nanoseconds a row, the least of some runs, ours and SQLite's in turn. Of ours, `answer` is the operator alone, and
-`read` is the operator and a copy of each value of its answer. Of SQLite, `places` makes a temporary table of the places of the rows,
+`read` is the operator and each value of its answer, read where it lies. Of SQLite, `places` makes a temporary table of the places of the rows,
 where the operator's answer is a list of places too, `rows` one of the whole rows, and `sums` adds up each value and makes no table. Behind them stand how many times
 faster ours is: `answered` beside `places`, or beside `rows` where there are none, and `values` beside the faster one of `rows` and `sums`. The rows answered, and
 what their values add up to, must be the same in both.

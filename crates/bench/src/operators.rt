@@ -1,6 +1,6 @@
 //! Times the operators over a million rows in columns.
 //!
-//! For each operator it prints the nanoseconds a row until it has answered, those until each value of the answer was copied out too, the
+//! For each operator it prints the nanoseconds a row until it has answered, those until each value of the answer was read too, the
 //! rows that it answers, and what their values add up to. For each chain of operators, and for the table alone, it prints the nanoseconds
 //! in which a number and a text are read, cell by cell in order.
 
