@@ -2,7 +2,7 @@
 """Times rows put one by one into one view and shown, in the built program and in SQLite, on the same rows.
 
 Prints for each the seconds, the microseconds a line, and the peak of resident memory. SQLite runs by its own shell, in memory and in
-a file, in one transaction. The program keeps nothing yet, so its file stays empty. The argument is the number of rows; without it
+a file, in one transaction. No line of ours commits, so its rows stay in memory. The argument is the number of rows; without it
 there are 200,000.
 """
 
