@@ -9,6 +9,8 @@ mod commits;
 #[cfg(test)]
 mod echo;
 #[cfg(test)]
+mod followed;
+#[cfg(test)]
 mod long_lines;
 #[cfg(test)]
 mod running;
