@@ -5,7 +5,7 @@ Prints for each the nanoseconds a row, the least of some runs, ours and SQLite's
 `read` is the operator and each value of its answer, read where it lies. Of SQLite, `places` makes a temporary table of the places of the rows,
 where the operator's answer is a list of places too, `rows` one of the whole rows, and `sums` adds up each value and makes no table. Behind them stand how many times
 faster ours is: `answered` beside `places`, or beside `rows` where there are none, and `values` beside the faster one of `rows` and `sums`. The rows answered, and
-what their values add up to, must be the same in both.
+what their values add up to, must be the same in both. The program is the one that was built last; where there is none, it is proved and built first.
 
 Then come the nanoseconds of a cell of the table alone and through chains of sixteen operators, and how many times as long a chain takes;
 and the bytes that each pair of a join of sixteen million takes, where it is counted and where its rows are listed.
@@ -22,6 +22,7 @@ import time
 from pathlib import Path
 
 CRATE = Path(__file__).resolve().parents[2] / "crates" / "bench"
+PROGRAM = CRATE / "out" / "bench"
 RUNS = 5
 ROWS = 1_000_000
 NUMBERS = 1_000
@@ -119,7 +120,7 @@ def answers(rows):
 
 
 def lines_of_program():
-    said = subprocess.run([CRATE / "out" / "bench", "operators"], check=True, capture_output=True, text=True)
+    said = subprocess.run([PROGRAM, "operators"], check=True, capture_output=True, text=True)
     return [line.split() for line in said.stdout.splitlines()]
 
 
@@ -161,7 +162,7 @@ def print_chains(chains):
 
 def peak(word):
     """The number that the program prints of pairs, and the peak of its resident memory in bytes."""
-    process = subprocess.Popen([CRATE / "out" / "bench", "pairs", word], stdout=subprocess.PIPE)
+    process = subprocess.Popen([PROGRAM, "pairs", word], stdout=subprocess.PIPE)
     count = int(process.stdout.read())
     _, status, used = os.wait4(process.pid, 0)
     process.returncode = os.waitstatus_to_exitcode(status)
@@ -180,7 +181,8 @@ def print_pairs():
 
 
 def compare():
-    subprocess.run(["rt", "run"], cwd=CRATE, check=True, stdout=subprocess.DEVNULL)
+    if not PROGRAM.exists():
+        subprocess.run(["rt", "run"], cwd=CRATE, check=True, stdout=subprocess.DEVNULL)
     print_pairs()
     base, least = tables(ROWS), Least()
     for _ in range(RUNS):
