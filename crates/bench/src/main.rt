@@ -1,15 +1,17 @@
 //! Times what the store is made of, in nanoseconds a call, a row or an event.
 //!
-//! `bench columns` times columns of integers and of texts, `bench blocks` their bytes, `bench nested` edits inside a row, `bench operators`
-//! the operators, `bench pairs none`, `size` and `rows` a join of sixteen million pairs, and `bench watches` what follows the events of a table. Without a word the operators go over a few rows, and what they answer is printed without times.
+//! `bench columns` times columns of integers and of texts, `bench blocks` their bytes, `bench edits` edits of a long view, `bench nested` edits
+//! inside one of its rows, `bench operators` the operators, `bench pairs none`, `size` and `rows` a join of sixteen million pairs, and `bench watches` what follows the events of a table. Without a word the operators go over a few rows, and what they answer is printed without times.
 #![tactic(auto)]
 
 mod blocks;
 mod clock;
 mod columns;
+mod edits;
 mod nested;
 mod operators;
 mod structures;
+mod views;
 mod watches;
 
 use anyhow::{Result, bail};
@@ -21,6 +23,7 @@ fn main(rt: HostRuntime) -> Result<()> {
         None => operators::list_all(&rt),
         Some("blocks") => blocks::measure_all(&rt),
         Some("columns") => columns::measure_all(&rt),
+        Some("edits") => edits::measure_all(&rt),
         Some("nested") => nested::measure_all(&rt),
         Some("operators") => operators::measure_all(&rt),
         Some("pairs") => operators::list_pairs(
@@ -28,6 +31,8 @@ fn main(rt: HostRuntime) -> Result<()> {
             words.get(2).map_or("none", |word| word.as_str()),
         ),
         Some("watches") => watches::measure_all(&rt),
-        Some(_) => bail!("the words are blocks, columns, nested, operators, pairs or watches"),
+        Some(_) => bail!(
+            "the words are blocks, columns, edits, nested, operators, pairs or watches"
+        ),
     }
 }

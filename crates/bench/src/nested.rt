@@ -1,40 +1,26 @@
 //! Times rows put into a view inside the middle row of a long one, while another copy of all is held.
 
 use crate::clock::nanoseconds_each;
-use crate::structures::{name, structure};
-use anyhow::{Result, ensure};
-use mk_value::{MAX_ROWS, Path, Row, Step, Value};
+use crate::structures::name;
+use crate::views::{empty_view, path_to, put_row};
+use anyhow::Result;
+use mk_value::{Path, Row, Step, Value};
 use std::alloc::Global;
 use std::rt::Clock;
 use std::time::Instant;
-use tables::empty_table;
-use view_store::{Root, structure_fits};
+use view_store::Root;
 
 /// How many rows are put in, one after another.
 const EDITS: u32 = 1_000;
 
-/// The path to the view.
-fn outer(alloc: Global) -> Result<Path> {
-    Ok(Path::new(alloc, name(b"t")?))
-}
-
 /// The path to the view inside a row.
 fn inner(alloc: Global, row: u32) -> Result<Path> {
-    let mut path = outer(alloc)?;
+    let mut path = path_to(alloc, b"t")?;
     path.push(Step {
         row: u64::from(row),
         prop: name(b"v")?,
     })?;
     Ok(path)
-}
-
-/// A view without rows, each of which may have a view inside.
-fn empty_view(alloc: Global) -> Result<Root> {
-    let (name, schema) = structure(alloc, "t[k:I,v[x:I,s:S]]")?;
-    ensure!(structure_fits(&name, &schema), "too long a structure");
-    let mut root = Root::new(alloc);
-    root.put_view(&name, empty_table(alloc, &schema)?)?;
-    Ok(root)
 }
 
 /// A row whose other values are defaults.
@@ -44,19 +30,11 @@ fn row(alloc: Global) -> Result<Row> {
     Ok(row)
 }
 
-/// Puts a row in so many times, at the front.
-fn put_row(root: &mut Root, path: &Path, row: &Row, count: u32) -> Result<()> {
-    let count = count as usize;
-    ensure!(count <= MAX_ROWS, "too many rows");
-    root.insert_rows(path, 0, row, count)?;
-    Ok(())
-}
-
 /// Puts rows into the view of a path, each while another copy of the views is held.
 fn put_rows(root: &mut Root, path: &Path, row: &Row) -> Result<()> {
     for _edit in 0..EDITS {
         let held = root.same()?;
-        put_row(root, path, row, 1)?;
+        put_row(root, path, 0, row, 1)?;
         drop(held);
     }
     Ok(())
@@ -64,8 +42,8 @@ fn put_rows(root: &mut Root, path: &Path, row: &Row) -> Result<()> {
 
 /// A view of so many rows, each with a view inside.
 fn views(alloc: Global, count: u32) -> Result<Root> {
-    let mut root = empty_view(alloc)?;
-    put_row(&mut root, &outer(alloc)?, &row(alloc)?, count)?;
+    let mut root = empty_view(alloc, "t[k:I,v[x:I,s:S]]")?;
+    put_row(&mut root, &path_to(alloc, b"t")?, 0, &row(alloc)?, count)?;
     Ok(root)
 }
 

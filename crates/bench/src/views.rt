@@ -1,0 +1,42 @@
+//! Views of many rows, and edits of them. They promise nothing, so that what stands on them is proved at little cost.
+
+use crate::structures::{name, structure};
+use anyhow::{Result, ensure};
+use mk_value::{MAX_ROWS, Name, Path, Row, Value};
+use std::alloc::Global;
+use tables::empty_table;
+use view_store::{Root, structure_fits};
+
+/// The path to the view of a name.
+pub fn path_to(alloc: Global, view: &[u8]) -> Result<Path> {
+    Ok(Path::new(alloc, name(view)?))
+}
+
+/// The view that a text spells, without rows, and no other.
+pub fn empty_view(alloc: Global, text: &str) -> Result<Root> {
+    let (name, schema) = structure(alloc, text)?;
+    ensure!(structure_fits(&name, &schema), "too long a structure");
+    let mut root = Root::new(alloc);
+    root.put_view(&name, empty_table(alloc, &schema)?)?;
+    Ok(root)
+}
+
+/// Puts a row in so many times, before the one at a place.
+pub fn put_row(root: &mut Root, path: &Path, place: usize, row: &Row, count: u32) -> Result<()> {
+    let count = count as usize;
+    ensure!(count <= MAX_ROWS, "too many rows");
+    root.insert_rows(path, place, row, count)?;
+    Ok(())
+}
+
+/// Gives a property of the row at a place another value.
+pub fn set_value(
+    root: &mut Root,
+    path: &Path,
+    place: usize,
+    prop: &Name,
+    value: &Value,
+) -> Result<()> {
+    root.set(path, place, prop, value)?;
+    Ok(())
+}
