@@ -121,3 +121,8 @@ appends_marked mark f xs i x a b c d p e first second third = appends_next (λ y
 pub utf8_front : {T E : Type 0} (r : Result T E) (a b : Buffer) (p : List ℕ) (n : ℕ) → n ≡ length a.bytes → is_err r ≡ true → IsUtf8 a.bytes → Writes r a p b → IsUtf8 (take n b.bytes)
 utf8_front (Ok x) a b p n e is u h = absurd (false≢true is)
 utf8_front (Err x) a b p n e is u h = rw e (subst IsUtf8 (sym h.front) u)
+
+-- what a piece leaves at the end of a text
+pub written : {T E : Type 0} (r : Result T E) (a b : Buffer) (p whole : List ℕ) → Writes r a p b → a.bytes ++ p ≡ whole → OnOk r (b.bytes ≡ whole)
+written (Ok x) a b p whole h e = h.bytes ∙ e
+written (Err x) a b p whole h e = tt

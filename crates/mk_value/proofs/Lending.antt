@@ -1,8 +1,10 @@
 -- Values that are lent, and a block of numbers that is filled one by one.
-use Rattle.std.proofs.Common.{◌≡◌, ◌∙◌, sym, ap, refl, ℕ, ◌+◌, ◌-◌, ◌<◌, ℤ, pos, List, [], ◌∷◌, ◌++◌, length, map, take, drop, set, get_or, slice_index_or, arith, add-one}
+use Rattle.std.proofs.Common.{◌≡◌, ◌∙◌, sym, ap, refl, ℕ, ◌+◌, ◌-◌, ◌<◌, ℤ, pos, List, [], ◌∷◌, ◌++◌, length, map, take, drop, set, get_or, slice_index_or, arith, add-one, subst, Bor}
 use Rattle.std.proofs.Math.Seq.{take-suc}
+use Rattle.std.specs.Str.{IsUtf8}
 use Rattle.std.proofs.lemmas.List.{take-set, get_or-drop, get_or-map, get_or-set_same, length-set, length-drop, length-map}
-use Rattle.mk_value.specs.Data.{Datum, integer, long, text, bytes, relation, cell}
+use Rattle.mk_value.specs.Heading.{Domain}
+use Rattle.mk_value.specs.Data.{Datum, integer, long, text, bytes, relation, cell, IsOf}
 use Rattle.mk_value.specs.Lending.{Lends, number_lent}
 use Rattle.mk_value.specs.Tables.{number_in, column_numbers}
 use Rattle.mk_value.specs.declared.table.Lent.{Lent}
@@ -58,3 +60,15 @@ filled_more xs into at v h k front e = simp (add-one at)
     ∙ ap (λ ys. ys ++ get_or (set into at v) at (pos 0) ∷ []) (take-set into at v ∙ front)
     ∙ ap (λ y. take at xs ++ y ∷ []) (get_or-set_same into at v (pos 0) h ∙ e)
     ∙ sym (take-suc xs at (pos 0) k))
+
+-- the bytes of a text are UTF-8
+pub lent_utf8 : (lent : Bor (List ℕ)) (d : Datum) (e : Domain) → Lends (S lent) d → IsOf d e → IsUtf8 lent.now
+lent_utf8 lent (integer z) e h k = absurd h
+lent_utf8 lent (long z) e h k = absurd h
+lent_utf8 lent (text content) Domain.integer h k = absurd k
+lent_utf8 lent (text content) Domain.long h k = absurd k
+lent_utf8 lent (text content) Domain.text h k = subst IsUtf8 (sym h) k.0.utf8
+lent_utf8 lent (text content) Domain.bytes h k = absurd k
+lent_utf8 lent (text content) (Domain.relation r) h k = absurd k
+lent_utf8 lent (bytes z) e h k = absurd h
+lent_utf8 lent (relation z) e h k = absurd h

@@ -36,7 +36,7 @@ pub use literal::{Literal, LiteralRows, Literals};
 pub use memory::Memory;
 pub use name::Name;
 pub use path::{Path, Step};
-pub use print::{print_row, print_value};
+pub use print::{print_row, print_row_of, print_value};
 pub use schema::{Kind, Prop, Props, Schema};
 pub use sequence::Sequence;
 pub use span::Span;

@@ -1,15 +1,17 @@
 //! The texts of values and rows.
 
-ghost use Rattle.std.specs.Prelude.{◌≡◌, ◌≤◌, ◌<◌, ◌+◌, ◌++◌, ◌∷◌, [], length, map, IsOk, OnOk, OnErr};
+ghost use Rattle.std.specs.Prelude.{◌≡◌, ◌≤◌, ◌<◌, ◌+◌, ◌++◌, ◌∷◌, [], length, map, drop, slice_index_or, IsOk, OnOk, OnErr};
 ghost use Rattle.std.specs.List.{flat_map};
 ghost use Rattle.std.specs.Char.{encode_utf8};
 ghost use Rattle.std.specs.Fmt.{signed_decimal};
+ghost use Rattle.std.specs.Str.{IsUtf8};
 ghost use Rattle.mk_value.specs.Appending.{Writes};
+ghost use Rattle.mk_value.specs.Data.{cell};
 ghost use Rattle.mk_value.specs.Literals.{joined_rows_text, more_rows_text, more_values_text, row_text, rows_text, value_text, values_text};
 ghost use Rattle.mk_value.specs.Tokens.{escaped, hex_digit as digit_of, hex_pair, hex_quoted, quoted};
 ghost use Rattle.mk_value.specs.Values.{datum_of};
 
-use crate::{Memory, Row, Rows, Text, Value};
+use crate::{Lent, Memory, Row, Rows, TableRead, Text, Value};
 
 /// Appends the text of a value: the one literal without spaces that spells it.
 pub fn print_value(value: &Value, out: &mut Text) -> Result<(), Memory>
@@ -39,6 +41,78 @@ pub fn print_row(row: &Row, out: &mut Text) -> Result<(), Memory>
         out.truncate(before);
     }
     appended
+}
+
+/// Appends the text of a row of a table. A number, a text or a byte string is read where it stands; a view is copied, and its copy let go
+/// before the next value.
+///
+/// # Errors
+///
+/// `Memory`, and a front of the row's text may have been appended.
+pub fn print_row_of<T: TableRead>(table: &T, row: usize, out: &mut Text) -> Result<(), Memory>
+    requires { row < length (T.rows table.now) }
+    ensures { OnOk result (out.new.bytes ≡ out.old.bytes ++ row_text (slice_index_or (T.rows table.now) row [])) }
+{
+    // A row has a value for each property, and there is one at least.
+    let _size = table.size();
+    let columns = table.schema().len();
+    append_str("(", out)?;
+    append_cell(table, row, 0, out)?;
+    append_more_cells(table, row, columns, out)?;
+    append_str(")", out)
+}
+
+/// Appends the texts of the values behind a row's first, each behind a comma.
+fn append_more_cells<T: TableRead>(
+    table: &T,
+    row: usize,
+    columns: usize,
+    out: &mut Text,
+) -> Result<(), Memory>
+    requires row_in { row < length (T.rows table.now) }
+    requires columns { columns ≡ length (T.schema table.now) }
+    ensures { OnOk result (out.new.bytes ≡ out.old.bytes ++ more_values_text (drop 1 (slice_index_or (T.rows table.now) row []))) }
+{
+    // A row has as many values as there are columns.
+    let _size = table.size();
+    for col in 1..columns {
+        append_str(",", out)?;
+        append_cell(table, row, col, out)?;
+    }
+    Ok(())
+}
+
+/// Appends the text of one value of a table.
+fn append_cell<T: TableRead>(
+    table: &T,
+    row: usize,
+    col: usize,
+    out: &mut Text,
+) -> Result<(), Memory>
+    requires row_in { row < length (T.rows table.now) }
+    requires col_in { col < length (T.schema table.now) }
+    ensures { OnOk result (out.new.bytes ≡ out.old.bytes ++ value_text (cell (T.rows table.now) row col)) }
+{
+    // Each value of a table is of its property.
+    let _size = table.size();
+    match table.lend(row, col) {
+        Lent::I(number) => append_number(i64::from(number), out),
+        Lent::L(number) => append_number(number, out),
+        Lent::S(text) => append_lent_text(text, out),
+        Lent::B(bytes) => append_bytes(bytes, out),
+        Lent::V(_) => print_value(&table.get(row, col)?, out),
+    }
+}
+
+/// Appends in quotes the text that these bytes are.
+fn append_lent_text(bytes: &[u8], out: &mut Text) -> Result<(), Memory>
+    requires { IsUtf8 bytes.now }
+    ensures { Writes result out.old (quoted bytes.now) out.new }
+{
+    match str::from_utf8(bytes) {
+        Ok(text) => append_text(text, out),
+        Err(_) => unreachable!(),
+    }
 }
 
 /// Appends a piece that is at hand.
