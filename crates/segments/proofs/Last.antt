@@ -1,5 +1,5 @@
 -- Laws of a list that is kept in parts, the last of which stands by itself.
-use Rattle.std.proofs.Common.{◌≡◌, ℕ, suc, ◌+◌, ◌-◌, ◌<◌, ◌≤◌, Some, List, [], ◌∷◌, ◌++◌, length, get_or, set, take, drop, slice_get, refl, sym, ap, subst, ◌∙◌, arith, inl, inr, min, sum}
+use Rattle.std.proofs.Common.{◌≡◌, ℕ, ◌+◌, ◌-◌, ◌<◌, ◌≤◌, Some, List, [], ◌∷◌, ◌++◌, length, get_or, set, take, drop, slice_get, refl, sym, ap, subst, ◌∙◌, arith, inl, inr, min, sum}
 use Rattle.std.proofs.lemmas.List.{append_assoc, append-nil, length-append, map-append, get_or_append_left, get_or-append_right, get_or_default, drop-append-le, take-append-le, take_all, take_at, length-drop, length_push}
 use Rattle.std.proofs.lemmas.Bool.{cases_lt}
 use Rattle.std.proofs.Math.Seq.{drop-append-add, get_or-append_seam}

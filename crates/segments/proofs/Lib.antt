@@ -5,3 +5,4 @@ pub mod Splices
 pub mod Joined
 pub mod Counted
 pub mod Last
+pub mod Grouped

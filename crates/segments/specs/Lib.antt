@@ -1,3 +1,4 @@
 pub mod Segments
 pub mod Splices
 pub mod Joined
+pub mod Groups

@@ -1,5 +1,5 @@
 //! Where each segment ends.
-ghost use Rattle.std.specs.Prelude.{◌≡◌, ℕ, ◌+◌, ◌-◌, ◌%◌, ◌^◌, ◌<◌, ◌≤◌, ◌⊎◌, ◌++◌, length, take, drop, sum, slice_index, slice_set, All, IfOk};
+ghost use Rattle.std.specs.Prelude.{◌≡◌, ℕ, ◌+◌, ◌-◌, ◌%◌, ◌^◌, ◌<◌, ◌≤◌, ◌⊎◌, [], ◌++◌, length, take, drop, sum, slice_index, slice_set, All, IfOk};
 ghost use Rattle.std.specs.Bool.{OnTrue, OnFalse};
 ghost use Rattle.segments.specs.Segments.{start_of, IsPlace};
 ghost use Rattle.segments.specs.Splices.{Applies, Covers, HoldsItem, IsNeeded, WithBefore, WithBehind, FitsBehind, IsApartBehind, TakesNeighbors, size_after};
@@ -46,6 +46,16 @@ impl<const MOST: usize> Clone for Segments<MOST> {
 }
 
 impl<const MOST: usize> Segments<MOST> {
+    /// No segments. It takes no memory.
+    pub fn new(alloc: Global) -> Segments<MOST>
+        requires { 0 < MOST }
+        ensures { result ≡ [] }
+    {
+        Segments {
+            ends: Vec::new(alloc),
+        }
+    }
+
     /// Segments of these counts.
     ///
     /// # Errors
