@@ -1,6 +1,6 @@
 -- Laws of a column as its segments.
 use Rattle.std.proofs.Common.{◌≡◌, ℕ, suc, ◌+◌, ◌-◌, ◌<◌, ◌≤◌, ℤ, Option, List, [], ◌∷◌, ◌++◌, length, get_or, set, take, drop, max, refl, sym, ap, subst, ◌∙◌, arith, sum}
-use Rattle.std.proofs.lemmas.List.{append-nil, take_at, get_or_default, take_more}
+use Rattle.std.proofs.lemmas.List.{append-nil, length-append, length-drop, length-take-le, take_at, get_or_default, take_more}
 use Rattle.mk_value.specs.declared.span.Span.{Span}
 use Rattle.bit_pack.specs.declared.widths.Width.{Width}
 use Rattle.bit_pack.specs.Width.{bit_count, IsLeastWidth}
@@ -15,7 +15,7 @@ use Rattle.segments.proofs.Counted.{segments_spliced, segments_pushed}
 use Rattle.int_col.specs.Cuts.{AreCuts}
 use Rattle.int_col.specs.Numbers.{IsColumn, segment_values}
 use Rattle.int_col.specs.Spine.{numbers_of, IsSpine, LastTakes}
-use Rattle.int_col.proofs.CutLaws.{AreCuts-last-more}
+use Rattle.int_col.proofs.CutLaws.{AreCuts-last-more, cuts_count}
 use Rattle.int_col.proofs.Splices.{replaced_apart}
 
 pub IsColumn-of : (ss : List (List ℤ)) (home : Option Span) → length (joined ss) ≤ 16777216 → AreCuts (counts_of ss) → IsColumn (numbers_of ss home)
@@ -60,6 +60,13 @@ IsSpine-spliced ss fresh counts made new a b h are cut is = record {
   cut = subst AreCuts (sym (counts-spliced ss fresh a b)) cut;
   counted = segments_spliced ss counts h.counted fresh made new a b are is;
 }
+
+-- there are few segments after that
+pub put_few : (ss fresh : List (List ℤ)) (a b : ℕ) → a ≤ b → b ≤ length ss → AreCuts (take a (counts_of ss) ++ (counts_of fresh ++ drop b (counts_of ss))) → sum (take a (counts_of ss) ++ (counts_of fresh ++ drop b (counts_of ss))) ≤ 16777216 → a + length fresh + (length ss - b) ≤ 16777216
+put_few ss fresh a b order in_range cut few =
+    let cs : List ℕ = counts_of ss in
+    let len = length-counts ss in
+    omega (arith, few, cuts_count (take a cs ++ (counts_of fresh ++ drop b cs)) cut, length-append (take a cs) (counts_of fresh ++ drop b cs), length-take-le a cs (omega (arith, len)), length-append (counts_of fresh) (drop b cs), length-counts fresh, length-drop b cs, len)
 
 -- a value more in the last segment
 pub IsSpine-pushed : (ss : List (List ℤ)) (counts new : List ℕ) (s : List ℤ) (v : ℤ) (last : ℕ) → IsSpine ss counts → suc last ≡ length ss → s ≡ get_or ss last s → length s < 2048 → new ≡ set counts (length counts - 1) (get_or counts (length counts - 1) 0 + 1) → IsSpine (set ss last (s ++ v ∷ [])) new

@@ -187,3 +187,8 @@ pub AreCuts-last-more : (cs : List ℕ) (c : ℕ) → AreCuts (cs ++ c ∷ []) �
 AreCuts-last-more [] c h room = (omega arith, omega arith, tt, tt)
 AreCuts-last-more (x ∷ []) c h room = (h.0, h.1, omega (arith, h.2), AreCuts-last-more [] c h.3 room)
 AreCuts-last-more (x ∷ y ∷ cs) c h room = (h.0, h.1, h.2, AreCuts-last-more (y ∷ cs) c h.3 room)
+
+-- there are at most as many segments as values
+pub cuts_count : (cs : List ℕ) → AreCuts cs → length cs ≤ sum cs
+cuts_count [] h = omega arith
+cuts_count (c ∷ cs) h = omega (arith, h.0, cuts_count cs h.3, sum-cons c cs)

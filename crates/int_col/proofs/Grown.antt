@@ -1,24 +1,48 @@
 -- Laws of segments, the last of which stands by itself and takes more values.
-use Rattle.std.proofs.Common.{◌≡◌, ℕ, suc, ◌+◌, ◌-◌, ◌<◌, ◌≤◌, ℤ, List, [], ◌∷◌, ◌++◌, length, get_or, take, refl, sym, ap, subst, ◌∙◌, arith, inl, inr, sum}
-use Rattle.std.proofs.lemmas.List.{take-map, take_all, length_push}
+use Rattle.std.proofs.Common.{◌≡◌, ℕ, suc, ◌+◌, ◌-◌, ◌<◌, ◌≤◌, ℤ, List, [], ◌∷◌, ◌++◌, length, get_or, take, drop, refl, sym, ap, subst, ◌∙◌, arith, inl, inr}
+use Rattle.std.proofs.lemmas.List.{append-nil, take-map, take_all, drop_all, length_push}
 use Rattle.std.proofs.lemmas.Bool.{cases_lt}
 use Rattle.segments.specs.Joined.{joined, counts_of}
-use Rattle.segments.proofs.Counts.{sum-cons}
-use Rattle.segments.proofs.Joined.{length-counts, get_or-counts}
+use Rattle.segments.proofs.Joined.{length-joined, length-counts, get_or-counts}
+use Rattle.segments.proofs.Counted.{segments_count}
 use Rattle.segments.proofs.Last.{joined-last, counts-last, length-last, last_is, joined-last-more, front_and_last}
 use Rattle.int_col.specs.Cuts.{AreCuts}
-use Rattle.int_col.specs.Spine.{LastTakes, IsLastFull, HasLastRoom}
+use Rattle.int_col.specs.Spine.{IsSpine, LastTakes, IsLastFull, HasLastRoom}
 use Rattle.int_col.specs.Tail.{AreSegments}
-use Rattle.int_col.proofs.CutLaws.{AreCuts-take, AreCuts-append, AreCuts-last-more, Meet, Meet-take, cut_few}
+use Rattle.int_col.proofs.CutLaws.{AreCuts-take, AreCuts-append, AreCuts-last-more, Meet, Meet-take, cut_few, cuts_count}
 
 -- the segments before one of them
 pub cuts-front : (k : ℕ) (ss : List (List ℤ)) → AreCuts (counts_of ss) → AreCuts (counts_of (take k ss))
 cuts-front k ss h = subst AreCuts (take-map length k ss) (AreCuts-take k (counts_of ss) h)
 
--- there are at most as many segments as values
-pub cuts_count : (cs : List ℕ) → AreCuts cs → length cs ≤ sum cs
-cuts_count [] h = omega arith
-cuts_count (c ∷ cs) h = omega (arith, h.0, cuts_count cs h.3, sum-cons c cs)
+-- there are few segments
+pub segments_few : (ss : List (List ℤ)) → AreSegments ss → length ss ≤ 16777216
+segments_few ss h = omega (arith, h.few, cuts_count (counts_of ss) h.cut, length-counts ss, length-joined ss)
+
+-- the counts without the last
+pub IsSpine-front : (ss : List (List ℤ)) (counts new : List ℕ) (n : ℕ) → IsSpine ss counts → n ≡ length counts → new ≡ take (n - 1) counts ++ ([] ++ drop n counts) → IsSpine (take (length ss - 1) ss) new
+IsSpine-front ss counts new n h all is =
+    let k : ℕ = length ss - 1 in
+    let last : n - 1 ≡ k = omega (arith, segments_count ss counts h.counted) in
+    record {
+      cut = cuts-front k ss h.cut;
+      counted =
+          is
+          ∙ ap (λ cs. take (n - 1) counts ++ cs) (drop_all n counts (omega arith))
+          ∙ append-nil (take (n - 1) counts)
+          ∙ ap (λ m. take m counts) last
+          ∙ ap (take k) h.counted
+          ∙ take-map length k ss;
+    }
+
+-- the counts with one more
+pub counts_with_last : (ss : List (List ℤ)) (counts : List ℕ) (s : List ℤ) (n k : ℕ) → counts ≡ counts_of ss → k ≡ length counts → n ≡ length s → take k counts ++ (n ∷ drop k counts) ≡ counts_of (ss ++ s ∷ [])
+counts_with_last ss counts s n k h all is =
+    ap (λ cs. cs ++ (n ∷ drop k counts)) (take_all k counts (omega arith))
+    ∙ ap (λ cs. counts ++ (n ∷ cs)) (drop_all k counts (omega arith))
+    ∙ ap (λ cs. cs ++ n ∷ []) h
+    ∙ ap (λ m. counts_of ss ++ m ∷ []) is
+    ∙ sym (counts-last ss s)
 
 -- the last segment has few values
 pub last_few : (head : List (List ℤ)) (s : List ℤ) → AreSegments (head ++ s ∷ []) → length s ≤ 2048

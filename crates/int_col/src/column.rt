@@ -146,7 +146,7 @@ impl IntCol {
 
     /// Inserts copies of a value before a place, or at the end. The home is then none, unless there are no copies.
     ///
-    /// It costs the segments that the copies stand in and a walk over the list of segments.
+    /// It costs the segments that the copies stand in and a walk over the places where segments end.
     ///
     /// # Errors
     ///
@@ -174,12 +174,17 @@ impl IntCol {
     /// # Errors
     ///
     /// The column as it was, for want of memory.
+    #[inline]
     pub fn prepare_push(self, value: i64) -> Result<PreparedPush, IntCol>
         requires { length self.values < 16777216 }
         ensures ok { IfOk result (λ prepared. prepared ≡ record { column = self; value = value }) }
         ensures err { IfErr result (λ same. same ≡ self) }
     {
         PreparedPush::of(self, value)
+    }
+
+    pub(crate) fn allocator(&self) -> Global {
+        self.segments.allocator()
     }
 
     /// The same values and one more, without a home.
@@ -223,7 +228,7 @@ impl IntCol {
 
     /// Removes as many values from a place on. The home is then none, unless none are removed.
     ///
-    /// It costs the segments at both ends of what is removed and a walk over the list of segments.
+    /// It costs the segments at both ends of what is removed and a walk over the places where segments end.
     ///
     /// # Errors
     ///

@@ -12,8 +12,15 @@ use std::marker::Model;
 pub(crate) enum Way {
     /// Into the last segment, which takes it, of a column that has this home without it.
     InPlace(Growing, Option<Span>),
-    /// By a copy with the value, beside the column without it.
-    Copied(IntCol, IntCol),
+    /// By a copy.
+    Copied(Box<Copied>),
+}
+
+/// A column, and a copy of it with the value. It is boxed, so that a value that is put in place moves no room for it.
+#[derive(Drop)]
+pub(crate) struct Copied {
+    before: IntCol,
+    longer: IntCol,
 }
 
 /// A column and a value for which it has made itself ready: from here on nothing fails. A caller sees both.
@@ -41,6 +48,7 @@ impl PreparedPush {
     /// # Errors
     ///
     /// The column as it was, for want of memory.
+    #[inline]
     pub(crate) fn of(column: IntCol, value: i64) -> Result<PreparedPush, IntCol>
         requires { length column.values < 16777216 }
         ensures ok { IfOk result (λ prepared. prepared ≡ record { column = column; value = value }) }
@@ -56,21 +64,31 @@ impl PreparedPush {
     }
 
     /// The same by a copy.
+    #[inline(never)]
     fn copied(column: IntCol, value: i64) -> Result<PreparedPush, IntCol>
         requires { length column.values < 16777216 }
         ensures ok { IfOk result (λ prepared. prepared ≡ record { column = column; value = value }) }
         ensures err { IfErr result (λ same. same ≡ column) }
     {
-        match column.grown(value) {
-            Ok(longer) => Ok(PreparedPush {
-                way: Way::Copied(column, longer),
+        let Ok(longer) = column.grown(value) else {
+            return Err(column);
+        };
+        let alloc = column.allocator();
+        let copied = Copied {
+            before: column,
+            longer,
+        };
+        match Box::new(alloc, copied) {
+            Ok(copied) => Ok(PreparedPush {
+                way: Way::Copied(copied),
                 value,
             }),
-            Err(_) => Err(column),
+            Err(failed) => Err(failed.value.before),
         }
     }
 
     /// The column with the value at its end, and without a home. It takes no memory.
+    #[inline]
     pub fn finish(self) -> IntCol
         ensures values { result.values ≡ self.column.values ++ self.value ∷ [] }
         ensures home { result.home ≡ None }
@@ -81,7 +99,7 @@ impl PreparedPush {
                 growing.push(value);
                 IntCol::of_growing(growing, None)
             }
-            Way::Copied(_column, longer) => longer,
+            Way::Copied(copied) => Box::into_inner(copied).longer,
         }
     }
 
@@ -92,7 +110,7 @@ impl PreparedPush {
         let PreparedPush { way, value: _value } = self;
         match way {
             Way::InPlace(growing, home) => IntCol::of_growing(growing, home),
-            Way::Copied(column, _longer) => column,
+            Way::Copied(copied) => Box::into_inner(copied).before,
         }
     }
 }

@@ -129,7 +129,7 @@ impl Segmented {
         }
     }
 
-    fn allocator(&self) -> Global {
+    pub(crate) fn allocator(&self) -> Global {
         match &self.kind {
             Kind::Empty(alloc) => *alloc,
             Kind::One(segment) => segment.get().allocator(),

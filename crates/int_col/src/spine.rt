@@ -15,14 +15,14 @@ use crate::held::Held;
 use crate::segment::{SEGMENT_MOST, Segment, push_shared, set_shared};
 use bit_pack::Width;
 use mk_value::Memory;
-use segments::{Place, Replaced, Segments, Shared, Splice, replace_parts};
+use segments::{Groups, Place, Replaced, Segments, Shared, Splice};
 use std::alloc::{AllocError, Global};
 use std::marker::Model;
 
 /// The segments in order, and how they cut the list of values.
 #[derive(Drop)]
 pub(crate) struct Spine {
-    segments: Vec<Shared<Segment>>,
+    segments: Groups<Segment>,
     ends: Segments<SEGMENT_MOST>,
 }
 
@@ -32,9 +32,9 @@ impl Model for Spine {
 
     ghost Value = { List (List ℤ) };
 
-    ghost view = { λ s. s.segments.items };
+    ghost view = { λ s. s.segments };
 
-    ghost invariant = { λ s. IsSpine s.segments.items s.ends };
+    ghost invariant = { λ s. IsSpine s.segments s.ends };
 }
 
 impl Clone for Spine {
@@ -44,7 +44,7 @@ impl Clone for Spine {
     #[inline(never)]
     fn clone(&self) -> Result<Spine, AllocError> {
         Ok(Spine {
-            segments: Vec::from_clones(*self.segments.allocator(), &self.segments)?,
+            segments: self.segments.clone()?,
             ends: self.ends.clone()?,
         })
     }
@@ -60,13 +60,13 @@ impl Spine {
         let alloc = *segments.allocator();
         let counts = counts(alloc, &segments)?;
         Ok(Spine {
-            segments,
+            segments: Groups::from_parts(segments)?,
             ends: Segments::from_counts(alloc, &counts)?,
         })
     }
 
     pub(crate) fn allocator(&self) -> Global {
-        *self.segments.allocator()
+        self.segments.allocator()
     }
 
     /// How many segments there are.
@@ -84,7 +84,7 @@ impl Spine {
         ensures count { result.count ≡ length (slice_index_or self.now k []) }
         ensures packed { Packed result.width (slice_index_or self.now k []) result.bytes.now }
     {
-        self.segments[k].get().lend()
+        self.segments.get(k).lend()
     }
 
     /// The least width that holds all values.
@@ -118,7 +118,7 @@ impl Spine {
         ensures { slice_get (joined self.now) at ≡ Some result }
     {
         let place = self.find(at);
-        let segment = self.segments[place.segment].get();
+        let segment = self.segments.get(place.segment);
         segment.get(place.offset)
     }
 
@@ -130,7 +130,7 @@ impl Spine {
         ensures err { OnErr result (self.new ≡ self.old) }
     {
         let place = self.find(at);
-        let segment = &mut self.segments[place.segment];
+        let segment = self.segments.slot(place.segment)?;
         set_shared(segment, place.offset, value)
     }
 
@@ -155,7 +155,7 @@ impl Spine {
         ensures values { into.new ≡ take result (drop from (joined self.now)) ++ drop result into.old }
     {
         let place = self.find(from);
-        let segment = self.segments[place.segment].get();
+        let segment = self.segments.get(place.segment);
         let count = (segment.len() - place.offset).min(into.len());
         segment.copy_values(place.offset, &mut into[..count]);
         count
@@ -182,7 +182,7 @@ impl Spine {
         requires covers { Covers (counts_of self.now) splice.now replaced.now }
         ensures { IfOk result (λ values. values.items ≡ items_after (joined self.now) splice.now replaced.now value) }
     {
-        let mut values = Vec::new(*self.segments.allocator());
+        let mut values = Vec::new(self.allocator());
         values.resize(splice.size_after(replaced), value)?;
         self.copy_around(splice, value, replaced, values.as_mut_slice());
         Ok(values)
@@ -233,7 +233,7 @@ impl Spine {
     {
         match self.segments.last() {
             None => true,
-            Some(last) => last.get().len() == SEGMENT_MOST,
+            Some(last) => last.len() == SEGMENT_MOST,
         }
     }
 
@@ -242,11 +242,11 @@ impl Spine {
         requires { 0 < length self.now }
         ensures { IfOk result (λ spine. spine ≡ take (length self.now - 1) self.now) }
     {
-        // The list has few values.
-        let _few = self.len();
-        let alloc = self.allocator();
-        let before = &self.segments[..self.segments.len() - 1];
-        Spine::of_segments(Vec::from_clones(alloc, before)?)
+        let count = self.ends.count();
+        Ok(Spine {
+            segments: self.segments.without_last()?,
+            ends: self.ends.spliced(count - 1, count, &[])?,
+        })
     }
 
     /// The values of the last segment, and one more.
@@ -255,7 +255,7 @@ impl Spine {
         ensures { IfOk result (λ values. values.items ≡ slice_index_or self.now (length self.now - 1) [] ++ value ∷ []) }
     {
         let last = self.segments.len() - 1;
-        self.segments[last].get().values_with(value)
+        self.segments.get(last).values_with(value)
     }
 
     /// The list of these segments and one more.
@@ -263,9 +263,11 @@ impl Spine {
         requires { AreSegments (self.now ++ last ∷ []) }
         ensures { IfOk result (λ spine. spine ≡ self.now ++ last ∷ []) }
     {
-        let mut segments = Vec::from_clones(self.allocator(), &self.segments)?;
+        let count = self.ends.count();
+        let ends = self.ends.spliced(count, count, &[last.get().len()])?;
+        let mut segments = self.segments.clone()?;
         segments.push(last)?;
-        Spine::of_segments(segments)
+        Ok(Spine { segments, ends })
     }
 
     /// Whether the last segment takes one more value.
@@ -274,7 +276,7 @@ impl Spine {
     {
         match self.segments.last() {
             None => false,
-            Some(last) => last.get().takes(value),
+            Some(last) => last.takes(value),
         }
     }
 
@@ -286,7 +288,7 @@ impl Spine {
         ensures err { OnErr result (self.new ≡ self.old) }
     {
         let last = self.segments.len() - 1;
-        let segment = &mut self.segments[last];
+        let segment = self.segments.slot(last)?;
         push_shared(segment, value)?;
         self.ends.extend_last();
         Ok(())
@@ -300,7 +302,7 @@ impl Spine {
     {
         let replaced = self.replaced(splice);
         let values = self.values_after(splice, value, &replaced)?;
-        let fresh = cut(*self.segments.allocator(), &values)?;
+        let fresh = cut(self.segments.allocator(), &values)?;
         self.put(replaced.first, replaced.after, fresh)
     }
 
@@ -313,21 +315,21 @@ impl Spine {
         ensures ok { OnOk result (self.new ≡ take first self.old ++ (fresh.items ++ drop after self.old)) }
         ensures err { OnErr result (self.new ≡ self.old) }
     {
-        let counts = counts(*self.segments.allocator(), &fresh)?;
+        let counts = counts(self.allocator(), &fresh)?;
         let ends = self.ends.spliced(first, after, &counts)?;
-        replace_parts(&mut self.segments, first, after, fresh)?;
+        self.segments.replace(first, after, fresh)?;
         self.ends = ends;
         Ok(())
     }
 }
 
 /// The least width that holds the values of all segments.
-fn widest(segments: &[Shared<Segment>]) -> Width
+fn widest(segments: &Groups<Segment>) -> Width
     ensures { IsLeastWidth result (joined segments.now) }
 {
     let mut width = Width::W0;
-    for shared in segments {
-        width = width.wider(shared.get().width());
+    for k in 0..segments.len() {
+        width = width.wider(segments.get(k).width());
     }
     width
 }

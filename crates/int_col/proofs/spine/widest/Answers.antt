@@ -1,7 +1,8 @@
+use Rattle.std.proofs.Common.{arith}
 use Rattle.int_col.proofs.Columns.{least-more}
 use Rattle.int_col.proofs.spine.widest.Goals as goal
 
-pub loop-shared-preserved : goal.loop-shared-preserved
-loop-shared-preserved c =
-    least-more c.args.segments.now c.loop-shared.shared-index c.get.result.now c.loop-shared.width c.width.result c.wider-width.result
-    c.loop-shared-test.true (rw (← c.get.ensures) at c.shared-item.is) c.loop-shared.invariant c.width.ensures c.wider-width.ensures
+pub loop-k-preserved : goal.loop-k-preserved
+loop-k-preserved c =
+    least-more c.args.segments.now c.loop-k.k c.get.result.now c.loop-k.width c.width.result c.wider-width.result
+    (omega (arith, c.loop-k-test.true, c.len-k-end.ensures.len)) c.get.ensures c.loop-k.invariant c.width.ensures c.wider-width.ensures

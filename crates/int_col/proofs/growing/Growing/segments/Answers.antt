@@ -1,7 +1,7 @@
 use Rattle.std.proofs.Common.{arith}
 use Rattle.segments.specs.Joined.{counts_of}
 use Rattle.segments.proofs.Joined.{length-joined, length-counts}
-use Rattle.int_col.proofs.Grown.{cuts_count}
+use Rattle.int_col.proofs.CutLaws.{cuts_count}
 use Rattle.int_col.proofs.growing.Growing.segments.Goals as goal
 
 pub overflow_add-result : goal.overflow_add-result

@@ -7,12 +7,12 @@ pub returns-clause-values : goal.returns-clause-values
 returns-clause-values c =
     let n = c.min-count.result in
     let place = rw (← c.self.view_is) at c.find-place.ensures.place in
-    let here = rw (← c.get-segment.ensures) at c.index.ensures in
+    let here = c.get-segment.ensures in
     let within : n ≤ length c.args.into.now = omega (arith, c.min-count.ensures) in
     let enough : c.find-place.result.offset + n ≤ length c.get-segment.result.now =
-    omega (arith, c.min-count.ensures, c.len.ensures.count, within_part c.self.inside.segments.items c.args.from c.find-place.result c.get-segment.result.now place here) in
+    omega (arith, c.min-count.ensures, c.len.ensures.count, within_part c.self.inside.segments c.args.from c.find-place.result c.get-segment.result.now place here) in
     let count : length (take n c.args.into.now) ≡ n = length-take-le n c.args.into.now within in
     rw (← c.self.view_is)
     (ap (λ xs. xs ++ drop n c.args.into.now)
     (rw count at c.copy_values.ensures
-    ∙ sym (items_from_place c.self.inside.segments.items c.args.from c.find-place.result c.get-segment.result.now place here n enough)))
+    ∙ sym (items_from_place c.self.inside.segments c.args.from c.find-place.result c.get-segment.result.now place here n enough)))

@@ -1,6 +1,7 @@
 use Rattle.std.proofs.Common.{◌≡◌, sum, ap, ◌∙◌, arith}
 use Rattle.segments.specs.Joined.{counts_of}
 use Rattle.segments.proofs.Joined.{length-joined}
+use Rattle.int_col.proofs.Grown.{segments_few}
 use Rattle.int_col.proofs.spine.Spine.of_segments.Goals as goal
 
 pub from_counts-requires : goal.from_counts-requires
@@ -10,3 +11,6 @@ from_counts-requires c =
       omega arith,
       (omega arith, (rw c.deref-2.ensures.value c.in_ok-counts.ensures.few, omega (arith, c.requires.few, length-joined c.args.segments.items))),
     )
+
+pub from_parts-requires : goal.from_parts-requires
+from_parts-requires c = segments_few c.args.segments.items (record { cut = c.requires.cut; few = c.requires.few })

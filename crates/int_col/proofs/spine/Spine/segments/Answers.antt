@@ -4,4 +4,4 @@ use Rattle.int_col.proofs.spine.Spine.segments.Goals as goal
 
 pub returns-clause-few : goal.returns-clause-few
 returns-clause-few c =
-    rw (← c.self.view_is) (omega (arith, c.count.ensures.few, segments_len c.self.inside.segments.items c.self.inside.ends c.self.invariant.counted))
+    rw (← c.self.view_is) (omega (arith, c.count.ensures.few, segments_len c.self.inside.segments c.self.inside.ends c.self.invariant.counted))
