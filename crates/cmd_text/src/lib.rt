@@ -25,4 +25,4 @@ pub use laws::{literals_are_proper, one_meaning, one_offence, structure_is_short
 pub use note::Note;
 pub use reading::read_command;
 pub use refusal::Refusal;
-pub use reply::{Reply, Space, reply_text};
+pub use reply::{Reply, Space, lines_of, reply_text};

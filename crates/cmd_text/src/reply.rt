@@ -1,11 +1,12 @@
 //! The texts of replies.
-ghost use Rattle.std.specs.Prelude.{◌≡◌, ◌≤◌, ◌+◌, ◌++◌, length, IsOk, OnOk, OnErr, decimal, codes};
+ghost use Rattle.std.specs.Prelude.{◌≡◌, ◌≤◌, ◌+◌, ◌++◌, length, IfOk, IsOk, OnOk, OnErr, decimal, codes};
 ghost use Rattle.std.specs.List.{flat_map};
 ghost use Rattle.mk_value.specs.Appending.{Writes};
-ghost use Rattle.cmd_text.specs.Replies.{contents, lines_text, refusal_text, reply_bytes, reply_line};
+ghost use Rattle.cmd_text.specs.Replies.{contents, refusal_text, reply_bytes, reply_line};
 
 use crate::Refusal;
-use mk_value::{Memory, Text, Texts};
+use mk_value::{Memory, Text};
+use std::alloc::Global;
 
 /// What a store takes: the number of its last commit, the end of the file's used part, and the bytes of the extents in use.
 #[derive(Clone, Copy, Debug, PartialEq, Eq)]
@@ -28,8 +29,8 @@ pub enum Reply {
     Pair(u64, u64),
     /// `ok none`.
     NotFound,
-    /// `ok`, the number of the texts, and each on a line of its own.
-    Lines(Texts),
+    /// `ok` and how many lines there are, and these lines, each with its newline.
+    Lines(u64, Text),
     /// `ok` and a text.
     One(Text),
     /// `ok` and the text of a row, which may be longer than a line.
@@ -79,7 +80,7 @@ fn append_reply(reply: &Reply, out: &mut Text) -> Result<(), Memory>
         Reply::Count(number) => append_numbered_line("ok ", *number, out),
         Reply::Pair(first, second) => append_pair_line("ok ", *first, *second, out),
         Reply::NotFound => append_line("ok none", out),
-        Reply::Lines(texts) => append_lines(texts, out),
+        Reply::Lines(count, lines) => append_lines(*count, lines.as_str(), out),
         Reply::One(text) | Reply::Row(text) => append_text_line("ok ", text.as_str(), out),
         Reply::Commit(number) => append_numbered_line("ok commit ", *number, out),
         Reply::Rollback(number) => append_numbered_line("ok rollback ", *number, out),
@@ -117,11 +118,24 @@ fn append_refusal(refusal: Refusal, out: &mut Text) -> Result<(), Memory>
 }
 
 /// Appends the number of the lines on a line of its own, and the lines.
-fn append_lines(texts: &Texts, out: &mut Text) -> Result<(), Memory>
-    ensures { Writes result out.old (lines_text (contents texts.now)) out.new }
+fn append_lines(count: u64, lines: &str, out: &mut Text) -> Result<(), Memory>
+    ensures { Writes result out.old (reply_line (codes "ok " ++ decimal count) ++ lines.now) out.new }
 {
-    append_numbered_line("ok ", texts.len() as u64, out)?;
-    append_texts(texts.as_slice(), out)
+    append_numbered_line("ok ", count, out)?;
+    append(lines, out)
+}
+
+/// The lines of these texts, each with its newline.
+///
+/// # Errors
+///
+/// `Memory`.
+pub fn lines_of(alloc: Global, texts: &[Text]) -> Result<Text, Memory>
+    ensures { IfOk result (λ lines. lines.bytes ≡ flat_map reply_line (contents texts.now)) }
+{
+    let mut lines = Text::new(alloc);
+    append_texts(texts, &mut lines)?;
+    Ok(lines)
 }
 
 /// Appends texts, each on a line of its own.

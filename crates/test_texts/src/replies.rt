@@ -1,8 +1,7 @@
 //! The texts of replies, and notes. How lines are read is seen through the built program: `tests/cases`.
-use cmd_text::{Note, Refusal, Reply, Space, reply_text};
+use cmd_text::{Note, Refusal, Reply, Space, lines_of, reply_text};
 use mk_value::{Text, Texts};
 use std::alloc::Global;
-use std::process::Abort;
 use std::test::Fail;
 
 /// The lines of a reply.
@@ -13,7 +12,7 @@ fn text_of(alloc: Global, reply: &Reply) -> Result<Text, Fail> {
 }
 
 /// The reply has these lines.
-fn says(rt: &impl Abort, alloc: Global, reply: Reply, want: &str) -> Result<(), Fail> {
+fn says(rt: &HostRuntime, alloc: Global, reply: Reply, want: &str) -> Result<(), Fail> {
     assert_eq!(rt; text_of(alloc, &reply)?.as_str(), want);
     Ok(())
 }
@@ -56,7 +55,8 @@ fn lines(alloc: Global, texts: &[&str]) -> Result<Reply, Fail> {
     for text in texts {
         lines.push(Text::from_str(alloc, text)?)?;
     }
-    Ok(Reply::Lines(lines))
+    let bytes = lines_of(alloc, lines.as_slice())?;
+    Ok(Reply::Lines(texts.len() as u64, bytes))
 }
 
 /// Two rows.
