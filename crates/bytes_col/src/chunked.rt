@@ -330,6 +330,7 @@ impl Chunked {
     }
 
     /// These values, which grow in place.
+    #[inline]
     pub(crate) fn of_growing(growing: Growing) -> Chunked
         ensures { result ≡ growing }
     {
@@ -343,6 +344,7 @@ impl Chunked {
     /// # Errors
     ///
     /// The values as they are, if they do not.
+    #[inline]
     pub(crate) fn into_growing(self) -> Result<Growing, Chunked>
         ensures same { IfOk result (λ growing. growing ≡ self) }
         ensures takes { OnOk result (LastTakes self) }
@@ -361,7 +363,7 @@ impl Chunked {
     {
         let _few = self.len();
         match &self.kind {
-            Kind::Empty(alloc) => Spine::of_chunks(Vec::new(*alloc)),
+            Kind::Empty(alloc) => Ok(Spine::new(*alloc)),
             Kind::One(chunk) => spine_of_one(chunk),
             Kind::Many(spine) => Ok(spine.get().clone()?),
             Kind::Growing(growing) => growing.to_spine(),
@@ -373,16 +375,17 @@ impl Chunked {
         ensures { IfOk result (λ chunked. joined chunked ≡ joined spine) }
     {
         let alloc = spine.allocator();
-        if spine.chunks().len() > 1 {
-            return Ok(Chunked {
-                kind: Kind::Many(Shared::of(alloc, spine)?),
-            });
-        }
-        Ok(Chunked::of_one(alloc, spine.into_chunks()))
+        let kind = match spine.count() {
+            0 => Kind::Empty(alloc),
+            1 => Kind::One(spine.into_one()?),
+            _ => Kind::Many(Shared::of(alloc, spine)?),
+        };
+        Ok(Chunked { kind })
     }
 }
 
 /// The values as they grow, if they take one more in place, and else the values as they are.
+#[inline]
 fn growing_if(growing: Growing) -> Result<Growing, Chunked>
     ensures same { IfOk result (λ same. same ≡ growing) }
     ensures takes { OnOk result (LastTakes growing) }

@@ -160,7 +160,7 @@ impl BytesCol {
     /// Inserts copies of a value before a place, or at the end. The home is then none, unless there are no copies.
     ///
     /// The copies of a memo share its bytes, and whole chunks of copies are one chunk, shared. It costs the chunk at the place
-    /// and a walk over the list of chunks.
+    /// and its group, and a walk over the places where chunks end.
     ///
     /// # Errors
     ///
@@ -182,18 +182,23 @@ impl BytesCol {
 
     /// Makes itself ready for one more value at the end: what then is done with it cannot fail.
     ///
-    /// It costs the value in the end where the last chunk was made by such a push and has room. Else the last chunk is copied, and where
-    /// it is full the list of chunks.
+    /// It costs the value in the end where the last chunk was made by such a push and has room. Else the last chunk is copied, if it has
+    /// room, and the list of chunks, for which its groups are counted.
     ///
     /// # Errors
     ///
     /// The column as it was, for want of memory.
+    #[inline]
     pub fn prepare_push(self, value: &[u8]) -> Result<PreparedPush, BytesCol>
         requires { length self.values < 16777216 }
         ensures ok { IfOk result (λ prepared. prepared ≡ record { column = self; values = self.values ++ value.now ∷ [] }) }
         ensures err { IfErr result (λ same. same ≡ self) }
     {
         PreparedPush::of(self, value)
+    }
+
+    pub(crate) fn allocator(&self) -> Global {
+        self.chunks.allocator()
     }
 
     /// The same values and one more, without a home.
@@ -215,6 +220,7 @@ impl BytesCol {
     /// # Errors
     ///
     /// The column as it is, if it does not.
+    #[inline]
     pub(crate) fn into_parts(self) -> Result<GrowingColumn, BytesCol>
         ensures same { IfOk result (λ parts. strings_of parts.growing parts.home ≡ self) }
         ensures takes { IfOk result (λ parts. LastTakes parts.growing) }
@@ -241,6 +247,7 @@ impl BytesCol {
     }
 
     /// The column of these parts.
+    #[inline]
     pub(crate) fn of_parts(parts: GrowingColumn) -> BytesCol
         requires { HasSizes (joined parts.growing) parts.sizes }
         ensures { result ≡ strings_of parts.growing parts.home }
@@ -259,7 +266,7 @@ impl BytesCol {
 
     /// Removes as many values from a place on. The home is then none, unless none are removed.
     ///
-    /// It costs the chunks at both ends of what is removed and a walk over the list of chunks.
+    /// It costs the chunks at both ends of what is removed and their groups, and a walk over the places where chunks end.
     ///
     /// # Errors
     ///

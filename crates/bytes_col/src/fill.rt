@@ -65,9 +65,8 @@ impl Spine {
     {
         let _few = self.len();
         let mut total = 0;
-        let chunks = self.chunks();
-        for shared in chunks {
-            total += shared.get().short_len();
+        for k in 0..self.count() {
+            total += self.chunk(k).short_len();
         }
         total
     }
@@ -81,7 +80,7 @@ impl Spine {
         // The list has few values, so that a row of it fits.
         let _few = self.len();
         let place = self.find(row);
-        let chunk = self.chunks()[place.segment].get();
+        let chunk = self.chunk(place.segment);
         let filled = chunk.fill_short(place.offset, skip, into);
         Filled {
             row: row + (filled.row - place.offset),

@@ -120,7 +120,7 @@ impl Growing {
             return head.find(at);
         }
         Place {
-            segment: head.chunks().len(),
+            segment: head.count(),
             offset: at - before,
         }
     }
@@ -130,9 +130,9 @@ impl Growing {
         requires { k < length self.now }
         ensures { result.now ≡ slice_index_or self.now k result.now }
     {
-        let chunks = self.parts.head.get().chunks();
-        if k < chunks.len() {
-            return chunks[k].get();
+        let head = self.parts.head.get();
+        if k < head.count() {
+            return head.chunk(k);
         }
         &self.parts.tail
     }

@@ -9,13 +9,20 @@ use crate::growing::Growing;
 use crate::home::Home;
 use std::marker::Model;
 
+/// A column, and a copy that has one more value.
+#[derive(Drop)]
+pub(crate) struct Copied {
+    pub(crate) before: BytesCol,
+    pub(crate) longer: BytesCol,
+}
+
 /// How the value is put there.
 #[derive(Drop)]
 pub(crate) enum Way {
     /// It stands in the last chunk, its size is ready, and the column has this home without it.
     InPlace(Growing, int_col::PreparedPush, Option<Home>),
-    /// By a copy with the value, beside the column without it.
-    Copied(BytesCol, BytesCol),
+    /// By a copy. Both columns are in memory of their own, so that a push in place does not move room for them.
+    Copied(Box<Copied>),
 }
 
 /// A column that is ready for one more value: from here on nothing fails. A caller sees the column and the values that it is to have.
@@ -41,6 +48,7 @@ impl PreparedPush {
     /// # Errors
     ///
     /// The column as it was, for want of memory.
+    #[inline]
     pub(crate) fn of(column: BytesCol, value: &[u8]) -> Result<PreparedPush, BytesCol>
         requires { length column.values < 16777216 }
         ensures ok { IfOk result (λ prepared. prepared ≡ record { column = column; values = column.values ++ value.now ∷ [] }) }
@@ -53,6 +61,7 @@ impl PreparedPush {
     }
 
     /// The same in place.
+    #[inline]
     fn in_place(parts: GrowingColumn, value: &[u8]) -> Result<PreparedPush, BytesCol>
         requires takes { LastTakes parts.growing }
         requires sizes { HasSizes (joined parts.growing) parts.sizes }
@@ -91,14 +100,30 @@ impl PreparedPush {
         ensures err { IfErr result (λ same. same ≡ column) }
     {
         match column.grown(value) {
-            Ok(longer) => Ok(PreparedPush {
-                way: Way::Copied(column, longer),
+            Ok(longer) => PreparedPush::of_copy(Copied {
+                before: column,
+                longer,
             }),
             Err(_) => Err(column),
         }
     }
 
+    /// The same with a copy that was made.
+    fn of_copy(copied: Copied) -> Result<PreparedPush, BytesCol>
+        requires { copied.longer.home ≡ None }
+        ensures ok { IfOk result (λ prepared. prepared ≡ record { column = copied.before; values = copied.longer.values }) }
+        ensures err { IfErr result (λ same. same ≡ copied.before) }
+    {
+        match Box::new(copied.before.allocator(), copied) {
+            Ok(copied) => Ok(PreparedPush {
+                way: Way::Copied(copied),
+            }),
+            Err(failed) => Err(failed.value.before),
+        }
+    }
+
     /// The column with the value at its end, and without a home. It takes no memory.
+    #[inline]
     pub fn finish(self) -> BytesCol
         ensures values { result.values ≡ self.values }
         ensures home { result.home ≡ None }
@@ -109,7 +134,7 @@ impl PreparedPush {
                 sizes: sizes.finish(),
                 home: None,
             }),
-            Way::Copied(_column, longer) => longer,
+            Way::Copied(copied) => Box::into_inner(copied).longer,
         }
     }
 
@@ -126,7 +151,7 @@ impl PreparedPush {
                     home,
                 })
             }
-            Way::Copied(column, _longer) => column,
+            Way::Copied(copied) => Box::into_inner(copied).before,
         }
     }
 }

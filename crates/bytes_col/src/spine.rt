@@ -13,14 +13,17 @@ use crate::chunk::{CHUNK_MOST, Chunk, push_shared, set_shared};
 use crate::parts::Parts;
 use int_col::IntCol;
 use mk_value::Memory;
-use segments::{Place, Replaced, Segments, Shared, Splice, replace_parts};
+use segments::{Groups, Place, Replaced, Segments, Shared, Splice};
 use std::alloc::{AllocError, Global};
 use std::marker::Model;
 
-/// The chunks in order, and how they cut the list of values.
+/// The most chunks of one list: as many as it may have values.
+const CHUNKS_MOST: usize = 16_777_216;
+
+/// The chunks in order, in groups that copies share, and how they cut the list of values.
 #[derive(Drop)]
 pub(crate) struct Spine {
-    chunks: Vec<Shared<Chunk>>,
+    chunks: Groups<Chunk>,
     ends: Segments<CHUNK_MOST>,
 }
 
@@ -30,9 +33,9 @@ impl Model for Spine {
 
     ghost Value = { List (List (List ℕ)) };
 
-    ghost view = { λ s. s.chunks.items };
+    ghost view = { λ s. s.chunks };
 
-    ghost invariant = { λ s. s.ends ≡ counts_of s.chunks.items };
+    ghost invariant = { λ s. s.ends ≡ counts_of s.chunks };
 }
 
 impl Clone for Spine {
@@ -42,46 +45,63 @@ impl Clone for Spine {
     #[inline(never)]
     fn clone(&self) -> Result<Spine, AllocError> {
         Ok(Spine {
-            chunks: Vec::from_clones(*self.chunks.allocator(), &self.chunks)?,
+            chunks: self.chunks.clone()?,
             ends: self.ends.clone()?,
         })
     }
 }
 
 impl Spine {
+    /// No chunks. It takes no memory.
+    pub(crate) fn new(alloc: Global) -> Spine
+        ensures { result ≡ [] }
+    {
+        Spine {
+            chunks: Groups::new(alloc),
+            ends: Segments::new(alloc),
+        }
+    }
+
     /// The spine of these chunks.
     pub(crate) fn of_chunks(chunks: Vec<Shared<Chunk>>) -> Result<Spine, Memory>
         requires { length (joined chunks.items) ≤ 16777216 }
         ensures { IfOk result (λ spine. spine ≡ chunks.items) }
     {
-        let alloc = *chunks.allocator();
-        let counts = counts(alloc, &chunks)?;
-        Ok(Spine {
-            chunks,
-            ends: Segments::from_counts(alloc, &counts)?,
-        })
+        let mut spine = Spine::new(*chunks.allocator());
+        spine.put(0, 0, chunks)?;
+        Ok(spine)
     }
 
     pub(crate) fn allocator(&self) -> Global {
-        *self.chunks.allocator()
+        self.chunks.allocator()
     }
 
-    /// The chunks in order.
-    pub(crate) fn chunks(&self) -> &[Shared<Chunk>]
-        ensures { result.now ≡ self.now }
+    /// How many chunks there are.
+    pub(crate) fn count(&self) -> usize
+        ensures { result ≡ length self.now }
     {
-        &self.chunks
+        self.chunks.len()
     }
 
-    /// The chunks themselves.
-    pub(crate) fn into_chunks(self) -> Vec<Shared<Chunk>>
-        ensures { result.items ≡ self }
+    /// The chunk of this number.
+    pub(crate) fn chunk(&self, k: usize) -> &Chunk
+        requires { k < length self.now }
+        ensures { result.now ≡ slice_index_or self.now k result.now }
+    {
+        self.chunks.get(k)
+    }
+
+    /// The chunk of a list of one.
+    pub(crate) fn into_one(self) -> Result<Shared<Chunk>, Memory>
+        requires { length self ≡ 1 }
+        ensures { IfOk result (λ one. self ≡ one ∷ []) }
     {
         let Spine {
-            chunks,
+            mut chunks,
             ends: _ends,
         } = self;
-        chunks
+        let one = chunks.slot(0)?;
+        Ok(one.clone()?)
     }
 
     /// How many values there are.
@@ -107,7 +127,7 @@ impl Spine {
         ensures { result.now ≡ slice_index_or (joined self.now) at [] }
     {
         let place = self.find(at);
-        let chunk = self.chunks[place.segment].get();
+        let chunk = self.chunk(place.segment);
         chunk.value(place.offset)
     }
 
@@ -121,7 +141,7 @@ impl Spine {
         ensures sizes_err { OnErr result (sizes.new ≡ sizes.old) }
     {
         let place = self.find(at);
-        let chunk = &mut self.chunks[place.segment];
+        let chunk = self.chunks.slot(place.segment)?;
         set_shared(chunk, place.offset, value, sizes, at)
     }
 
@@ -132,8 +152,8 @@ impl Spine {
     {
         // The list has few values.
         let _few = self.len();
-        let before = &self.chunks[..self.chunks.len() - 1];
-        Spine::of_chunks(Vec::from_clones(self.allocator(), before)?)
+        let count = self.count();
+        self.with(count - 1, count, Vec::new(self.allocator()))
     }
 
     /// A copy of the last chunk, which takes one more value, with it.
@@ -141,8 +161,8 @@ impl Spine {
         requires { LastTakes self.now }
         ensures { IfOk result (λ chunk. chunk ≡ slice_index_or self.now (length self.now - 1) [] ++ value.now ∷ []) }
     {
-        let last = self.chunks.len() - 1;
-        self.chunks[last].get().with(value)
+        let last = self.chunk(self.count() - 1);
+        last.with(value)
     }
 
     /// A chunk of this value, with room for more that are like those of the last chunk.
@@ -151,7 +171,7 @@ impl Spine {
     {
         let mut chunk = Chunk::new(self.allocator());
         if let Some(last) = self.chunks.last() {
-            chunk.reserve(last.get(), CHUNK_MOST)?;
+            chunk.reserve(last, CHUNK_MOST)?;
         }
         chunk.append(value)?;
         Ok(chunk)
@@ -162,9 +182,8 @@ impl Spine {
         requires { length (joined (self.now ++ last ∷ [])) ≤ 16777216 }
         ensures { IfOk result (λ spine. spine ≡ self.now ++ last ∷ []) }
     {
-        let mut chunks = Vec::from_clones(self.allocator(), &self.chunks)?;
-        chunks.push(last)?;
-        Spine::of_chunks(chunks)
+        let count = self.count();
+        self.with(count, count, Vec::from_array(self.allocator(), [last])?)
     }
 
     /// Whether the last chunk takes one more value.
@@ -173,7 +192,7 @@ impl Spine {
     {
         match self.chunks.last() {
             None => false,
-            Some(last) => last.get().len() < CHUNK_MOST,
+            Some(last) => last.len() < CHUNK_MOST,
         }
     }
 
@@ -188,7 +207,7 @@ impl Spine {
         ensures sizes_err { OnErr result (sizes.new ≡ sizes.old) }
     {
         let last = self.chunks.len() - 1;
-        let chunk = &mut self.chunks[last];
+        let chunk = self.chunks.slot(last)?;
         push_shared(chunk, value, sizes)?;
         self.ends.extend_last();
         Ok(())
@@ -217,7 +236,7 @@ impl Spine {
         ensures values { IfOk result (λ next. added parts.new ≡ added parts.old ++ take (next - from) (drop from (joined self.now))) }
     {
         let place = self.find(from);
-        let chunk = self.chunks[place.segment].get();
+        let chunk = self.chunk(place.segment);
         let count = (chunk.len() - place.offset).min(to - from);
         parts.add(chunk, place.offset, place.offset + count)?;
         Ok(from + count)
@@ -316,7 +335,7 @@ impl Spine {
         if replaced.first == 0 || splice.at < self.len() {
             return Ok(());
         }
-        parts.prepare(self.chunks[replaced.first - 1].get(), CHUNK_MOST)
+        parts.prepare(self.chunk(replaced.first - 1), CHUNK_MOST)
     }
 
     /// The values that stand in place of those of the replaced chunks.
@@ -349,11 +368,44 @@ impl Spine {
         ensures ok { OnOk result (self.new ≡ take first self.old ++ (fresh.items ++ drop after self.old)) }
         ensures err { OnErr result (self.new ≡ self.old) }
     {
-        let counts = counts(self.allocator(), &fresh)?;
-        let ends = self.ends.spliced(first, after, &counts)?;
-        replace_parts(&mut self.chunks, first, after, fresh)?;
+        let ends = self.ends_with(first, after, &fresh)?;
+        self.chunks.replace(first, after, fresh)?;
         self.ends = ends;
         Ok(())
+    }
+
+    /// A copy with chunks in place of those from `first` up to `after`.
+    fn with(&self, first: usize, after: usize, fresh: Vec<Shared<Chunk>>) -> Result<Spine, Memory>
+        requires order { first ≤ after }
+        requires in_range { after ≤ length self.now }
+        requires few { sum (take first (counts_of self.now) ++ (counts_of fresh.items ++ drop after (counts_of self.now))) ≤ 16777216 }
+        ensures { IfOk result (λ spine. spine ≡ take first self.now ++ (fresh.items ++ drop after self.now)) }
+    {
+        let ends = self.ends_with(first, after, &fresh)?;
+        let mut chunks = self.chunks.clone()?;
+        chunks.replace(first, after, fresh)?;
+        Ok(Spine { chunks, ends })
+    }
+
+    /// Where the chunks end, with others in place of those from `first` up to `after`. So many that they cannot be counted are refused.
+    fn ends_with(
+        &self,
+        first: usize,
+        after: usize,
+        fresh: &[Shared<Chunk>],
+    ) -> Result<Segments<CHUNK_MOST>, Memory>
+        requires order { first ≤ after }
+        requires in_range { after ≤ length self.now }
+        requires few { sum (take first (counts_of self.now) ++ (counts_of fresh.now ++ drop after (counts_of self.now))) ≤ 16777216 }
+        ensures ends { IfOk result (λ ends. ends ≡ counts_of (take first self.now ++ (fresh.now ++ drop after self.now))) }
+        ensures countable { OnOk result (first + length fresh.now + (length self.now - after) ≤ 16777216) }
+    {
+        let kept = first + (self.chunks.len() - after);
+        if fresh.len() > CHUNKS_MOST - kept {
+            return Err(Memory);
+        }
+        let counts = counts(self.allocator(), fresh)?;
+        self.ends.spliced(first, after, &counts)
     }
 }
 

@@ -1,4 +1,4 @@
-use Rattle.std.proofs.Common.{◌≡◌, ◌<◌, ℕ, List, length, get_or, take, ap, arith}
+use Rattle.std.proofs.Common.{◌<◌, ℕ, List, length, take, ap, arith}
 use Rattle.std.proofs.lemmas.List.{length-append}
 use Rattle.bytes_col.specs.Strings.{short_bytes}
 use Rattle.segments.specs.Joined.{joined}
@@ -10,15 +10,13 @@ use Rattle.bytes_col.proofs.spine.Spine.short_len.Goals as goal
 pub overflow_add-total : goal.overflow_add-total
 overflow_add-total c =
     let ss : List (List (List ℕ)) = c.args.self.now in
-    let k = c.loop-shared.shared-index in
-    let l : k < length ss = rw c.chunks-chunks.ensures at c.loop-shared-test.true in
-    omega (arith, c.loop-shared.invariant, c.short_len-total.ensures.few, c.len-few.ensures.len, c.len-few.ensures.few, short_few (joined (take k ss)), part_within k ss)
+    let k = c.loop-k.k in
+    omega (arith, c.loop-k.invariant, c.short_len-total.ensures.few, c.len-few.ensures.len, c.len-few.ensures.few, short_few (joined (take k ss)), part_within k ss)
 
-pub loop-shared-preserved : goal.loop-shared-preserved
-loop-shared-preserved c =
+pub loop-k-preserved : goal.loop-k-preserved
+loop-k-preserved c =
     let ss : List (List (List ℕ)) = c.args.self.now in
-    let k = c.loop-shared.shared-index in
-    let s : List (List ℕ) = c.get.result.now in
-    let l : k < length ss = rw c.chunks-chunks.ensures at c.loop-shared-test.true in
-    let here : s ≡ get_or ss k s = rw (← c.get.ensures, c.chunks-chunks.ensures) at c.shared-item.is in
-    omega (arith, c.loop-shared.invariant, c.short_len-total.ensures.count, ap length (short_chunk_more ss k s l here), length-append (short_bytes (joined (take k ss))) (short_bytes s))
+    let k = c.loop-k.k in
+    let s : List (List ℕ) = c.chunk.result.now in
+    let l : k < length ss = omega (arith, c.count-k-end.ensures) in
+    omega (arith, c.loop-k.invariant, c.short_len-total.ensures.count, ap length (short_chunk_more ss k s l c.chunk.ensures), length-append (short_bytes (joined (take k ss))) (short_bytes s))

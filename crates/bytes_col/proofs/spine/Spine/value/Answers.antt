@@ -4,7 +4,4 @@ use Rattle.bytes_col.proofs.spine.Spine.value.Goals as goal
 
 pub returns : goal.returns
 returns c =
-    rw (← c.self.view_is)
-    (c.value.ensures
-    ∙ read_place c.self.inside.chunks.items c.args.at c.find-place.result c.get-chunk.result.now
-    (rw (← c.self.view_is) at c.find-place.ensures.place) (rw (← c.get-chunk.ensures) at c.index.ensures) [])
+    c.value.ensures ∙ read_place c.args.self.now c.args.at c.find-place.result c.chunk-chunk.result.now c.find-place.ensures.place c.chunk-chunk.ensures []
