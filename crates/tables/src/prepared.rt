@@ -28,6 +28,7 @@ pub(crate) enum PreparedColumn {
 
 impl PreparedColumn {
     /// The column with the value at its end. It takes no memory.
+    #[inline]
     fn finish(self) -> Col
         ensures { IsAfter self (stored_of result) }
     {
@@ -89,6 +90,7 @@ pub(crate) fn push_row(
 }
 
 /// Makes a column of so many values ready for one more.
+#[inline]
 fn prepare(
     alloc: Global,
     rows: usize,
@@ -112,6 +114,7 @@ fn prepare(
 }
 
 /// Makes a column of numbers ready for one more.
+#[inline]
 fn prepare_number(col: Col, number: i64) -> Result<PreparedColumn, Col>
     requires { HasRoomForNumber (stored_of col) }
     ensures ok { IfOk result (IsReadyForNumber (stored_of col) number) }
@@ -127,6 +130,7 @@ fn prepare_number(col: Col, number: i64) -> Result<PreparedColumn, Col>
 }
 
 /// Makes a column of texts or byte strings ready for one more.
+#[inline]
 fn prepare_string(col: Col, value: &[u8]) -> Result<PreparedColumn, Col>
     requires { HasRoomForString (stored_of col) }
     ensures ok { IfOk result (IsReadyForString (stored_of col) value.now) }
