@@ -2,6 +2,7 @@
 use expr_text::{ExprError, parse_expr, print_expr};
 use mk_value::Text;
 use std::alloc::Global;
+use std::process::Abort;
 use std::test::Fail;
 
 /// How a text reads: the one spelling of its expression, or where it is refused.
@@ -19,7 +20,7 @@ fn reading(alloc: Global, text: &str) -> Result<String, Fail> {
 }
 
 /// Each text reads, or is refused, as is said beside it.
-fn all_read(rt: &HostRuntime, alloc: Global, table: &[(&str, &str)]) -> Result<(), Fail> {
+fn all_read(rt: &impl Abort, alloc: Global, table: &[(&str, &str)]) -> Result<(), Fail> {
     for (text, want) in table {
         assert_eq!(rt; reading(alloc, text)?.as_str(), *want, "{text}");
     }

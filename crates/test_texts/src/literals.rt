@@ -1,6 +1,7 @@
 //! Tokens, and the literals and paths that stand at the front of them.
 use crate::shown;
 use std::alloc::Global;
+use std::process::Abort;
 use std::test::Fail;
 use tokens::{PartError, Piece, ReadError, Token, cut, literal_at, path_at, read_literal};
 
@@ -64,7 +65,7 @@ fn literal_of(alloc: Global, text: &str) -> Result<(bool, usize), Fail> {
 }
 
 /// Each text is cut as is said beside it.
-fn all_cut(rt: &HostRuntime, alloc: Global, table: &[(&str, &str)]) -> Result<(), Fail> {
+fn all_cut(rt: &impl Abort, alloc: Global, table: &[(&str, &str)]) -> Result<(), Fail> {
     for (text, want) in table {
         assert_eq!(rt; cutting(alloc, text)?.as_str(), *want, "{text}");
     }
@@ -169,7 +170,7 @@ fn only_spaces_part_tokens(rt: HostRuntime) -> Result<(), Fail> {
 }
 
 /// Each text reads as a literal, or is refused, as is said beside it.
-fn all_read(rt: &HostRuntime, alloc: Global, table: &[(&str, &str)]) -> Result<(), Fail> {
+fn all_read(rt: &impl Abort, alloc: Global, table: &[(&str, &str)]) -> Result<(), Fail> {
     for (text, want) in table {
         assert_eq!(rt; reading(alloc, text)?.as_str(), *want, "{text}");
     }

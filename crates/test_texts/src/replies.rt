@@ -2,6 +2,7 @@
 use cmd_text::{Note, Refusal, Reply, Space, lines_of, reply_text};
 use mk_value::{Text, Texts};
 use std::alloc::Global;
+use std::process::Abort;
 use std::test::Fail;
 
 /// The lines of a reply.
@@ -12,7 +13,7 @@ fn text_of(alloc: Global, reply: &Reply) -> Result<Text, Fail> {
 }
 
 /// The reply has these lines.
-fn says(rt: &HostRuntime, alloc: Global, reply: Reply, want: &str) -> Result<(), Fail> {
+fn says(rt: &impl Abort, alloc: Global, reply: Reply, want: &str) -> Result<(), Fail> {
     assert_eq!(rt; text_of(alloc, &reply)?.as_str(), want);
     Ok(())
 }

@@ -5,6 +5,7 @@ use mk_value::{
 };
 use std::alloc::Global;
 use std::cmp::Ordering;
+use std::process::Abort;
 use std::test::Fail;
 use struct_text::parse;
 use tokens::read_literal;
@@ -76,7 +77,7 @@ static VALUES: [(&str, &str, &str, &str); 15] = [
 ];
 
 /// The default of a kind prints so, and a literal becomes that.
-fn has_value(rt: &HostRuntime, alloc: Global, case: &(&str, &str, &str, &str)) -> Result<(), Fail> {
+fn has_value(rt: &impl Abort, alloc: Global, case: &(&str, &str, &str, &str)) -> Result<(), Fail> {
     let (kind, default, literal, want) = *case;
     let schema = schema_of(alloc, kind)?;
     let Some(prop) = schema.as_slice().first() else {
