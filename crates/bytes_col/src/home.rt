@@ -1,5 +1,5 @@
 //! Where a column of byte strings stands in a file.
-ghost use Rattle.std.specs.Prelude.{◌≡◌, IfOk};
+ghost use Rattle.std.specs.Prelude.{◌≡◌, IfOk, IfErr};
 
 use mk_value::{Memory, Span, Spans};
 use segments::Shared;
@@ -104,4 +104,66 @@ fn common_of(home: &Shared<BytesHome>) -> Result<Home, Memory>
     Ok(Home {
         tie: Tie::Common(home.clone()?),
     })
+}
+
+/// Whether a home is put away.
+#[derive(Drop)]
+pub(crate) enum Kept {
+    /// There is none.
+    Nowhere,
+    /// It is in memory of its own.
+    Boxed(Box<Home>),
+}
+
+/// A home, or none, that is put away while a column makes itself ready, so that what is moved meanwhile is small. A caller sees the home.
+#[derive(Drop)]
+pub(crate) struct KeptHome {
+    kept: Kept,
+}
+
+impl Model for KeptHome {
+    ghost use Rattle.std.specs.Prelude.{Option};
+    ghost use Rattle.bytes_col.specs.declared.home.BytesHome.{BytesHome};
+
+    ghost Value = { Option BytesHome };
+
+    ghost use Rattle.bytes_col.specs.Ties.{kept_home};
+
+    ghost view = { λ h. kept_home h.kept };
+}
+
+impl KeptHome {
+    /// Puts a home away. It takes no memory where there is none.
+    ///
+    /// # Errors
+    ///
+    /// The home, for want of memory.
+    #[inline]
+    pub(crate) fn of(alloc: Global, home: Option<Home>) -> Result<KeptHome, Option<Home>>
+        ensures ok { IfOk result (λ kept. kept ≡ home) }
+        ensures err { IfErr result (λ same. same ≡ home) }
+    {
+        let Some(home) = home else {
+            return Ok(KeptHome {
+                kept: Kept::Nowhere,
+            });
+        };
+        match Box::new(alloc, home) {
+            Ok(home) => Ok(KeptHome {
+                kept: Kept::Boxed(home),
+            }),
+            Err(failed) => Err(Some(failed.value)),
+        }
+    }
+
+    /// The home itself. It takes no memory.
+    #[inline]
+    pub(crate) fn take(self) -> Option<Home>
+        ensures { result ≡ self }
+    {
+        match self.kept {
+            Kept::Nowhere => None,
+            Kept::Boxed(home) => Some(Box::into_inner(home)),
+        }
+    }
 }

@@ -6,7 +6,8 @@ ghost use Rattle.bytes_col.specs.Strings.{Push};
 
 use crate::column::{BytesCol, GrowingColumn};
 use crate::growing::Growing;
-use crate::home::Home;
+use crate::home::KeptHome;
+use int_col::IntCol;
 use std::marker::Model;
 
 /// A column, and a copy that has one more value.
@@ -20,7 +21,7 @@ pub(crate) struct Copied {
 #[derive(Drop)]
 pub(crate) enum Way {
     /// It stands in the last chunk, its size is ready, and the column has this home without it.
-    InPlace(Growing, int_col::PreparedPush, Option<Home>),
+    InPlace(Growing, int_col::PreparedPush, KeptHome),
     /// By a copy. Both columns are in memory of their own, so that a push in place does not move room for them.
     Copied(Box<Copied>),
 }
@@ -70,10 +71,34 @@ impl PreparedPush {
         ensures err { IfErr result (λ same. same ≡ strings_of parts.growing parts.home) }
     {
         let GrowingColumn {
-            mut growing,
+            growing,
             sizes,
             home,
         } = parts;
+        match KeptHome::of(growing.allocator(), home) {
+            Ok(home) => PreparedPush::in_last_chunk(growing, sizes, home, value),
+            Err(home) => Err(BytesCol::of_parts(GrowingColumn {
+                growing,
+                sizes,
+                home,
+            })),
+        }
+    }
+
+    /// The same, where the home is put away.
+    #[inline]
+    fn in_last_chunk(
+        mut growing: Growing,
+        sizes: IntCol,
+        home: KeptHome,
+        value: &[u8],
+    ) -> Result<PreparedPush, BytesCol>
+        requires takes { LastTakes growing }
+        requires sizes { HasSizes (joined growing) sizes }
+        requires few { length (joined growing) < 16777216 }
+        ensures ok { IfOk result (λ prepared. prepared ≡ record { column = strings_of growing home; values = joined growing ++ value.now ∷ [] }) }
+        ensures err { IfErr result (λ same. same ≡ strings_of growing home) }
+    {
         match sizes.prepare_push(value.len() as i64) {
             Ok(sizes) => match growing.append(value) {
                 Ok(()) => Ok(PreparedPush {
@@ -82,18 +107,19 @@ impl PreparedPush {
                 Err(_) => Err(BytesCol::of_parts(GrowingColumn {
                     growing,
                     sizes: sizes.cancel(),
-                    home,
+                    home: home.take(),
                 })),
             },
             Err(sizes) => Err(BytesCol::of_parts(GrowingColumn {
                 growing,
                 sizes,
-                home,
+                home: home.take(),
             })),
         }
     }
 
     /// The same by a copy.
+    #[inline(never)]
     fn copied(column: BytesCol, value: &[u8]) -> Result<PreparedPush, BytesCol>
         requires { length column.values < 16777216 }
         ensures ok { IfOk result (λ prepared. prepared ≡ record { column = column; values = column.values ++ value.now ∷ [] }) }
@@ -148,7 +174,7 @@ impl PreparedPush {
                 BytesCol::of_parts(GrowingColumn {
                     growing,
                     sizes: sizes.cancel(),
-                    home,
+                    home: home.take(),
                 })
             }
             Way::Copied(copied) => Box::into_inner(copied).before,

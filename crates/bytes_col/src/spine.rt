@@ -387,7 +387,8 @@ impl Spine {
         Ok(Spine { chunks, ends })
     }
 
-    /// Where the chunks end, with others in place of those from `first` up to `after`. So many that they cannot be counted are refused.
+    /// Where the chunks end, with others in place of those from `first` up to `after`. More than can be counted are refused; so many are
+    /// never made, since no chunk that is made is empty.
     fn ends_with(
         &self,
         first: usize,
