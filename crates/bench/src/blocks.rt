@@ -6,7 +6,6 @@ use bit_pack::Width;
 use bytes_col::{BytesCol, Memos};
 use int_col::{IntCol, PackedBytes};
 use std::alloc::Global;
-use std::rt::Clock;
 use std::time::Instant;
 
 /// How many integers a column has, and how many texts.
@@ -60,7 +59,7 @@ fn write_packed(column: &IntCol, room: &mut [u8]) -> u64 {
 }
 
 /// Prints the megabytes a second since `start`.
-fn print_speed<R: Clock + Print>(rt: &R, what: &str, start: &Instant, bytes: usize) -> Result<()> {
+fn print_speed(rt: &HostRuntime, what: &str, start: &Instant, bytes: usize) -> Result<()> {
     let megabytes = f64::from(u32::try_from(bytes).unwrap_or(u32::MAX)) / 1e6;
     let speed = megabytes / start.elapsed(rt)?.as_secs_f64();
     print!(rt; " {what} {speed:.0}")?;
@@ -68,12 +67,7 @@ fn print_speed<R: Clock + Print>(rt: &R, what: &str, start: &Instant, bytes: usi
 }
 
 /// Times the packed bytes of a column written as many at a time as the room takes. The sum keeps what was written.
-fn time_writing<R: Clock + Print>(
-    rt: &R,
-    what: &str,
-    column: &IntCol,
-    room: &mut [u8],
-) -> Result<()> {
+fn time_writing(rt: &HostRuntime, what: &str, column: &IntCol, room: &mut [u8]) -> Result<()> {
     let start = Instant::now(rt)?;
     let sum = write_packed(column, room);
     print_speed(rt, what, &start, column.packed().len())?;
@@ -82,7 +76,7 @@ fn time_writing<R: Clock + Print>(
 }
 
 /// Times the packed bytes of a column of integers, and prints a line.
-fn time_integers<R: Clock + Print + AllocGlobal>(rt: &R, spread: Spread) -> Result<()> {
+fn time_integers(rt: &HostRuntime, spread: Spread) -> Result<()> {
     print!(rt; "{} bits:", spread.bits)?;
     let column = integers(rt.alloc(), spread)?;
     time_room(rt, "in_pieces", &column, PIECE)?;
@@ -91,12 +85,7 @@ fn time_integers<R: Clock + Print + AllocGlobal>(rt: &R, spread: Spread) -> Resu
 }
 
 /// Times the packed bytes of a column written into room for so many bytes, and gives what was written last.
-fn time_room<R: Clock + Print + AllocGlobal>(
-    rt: &R,
-    what: &str,
-    column: &IntCol,
-    len: usize,
-) -> Result<Vec<u8>> {
+fn time_room(rt: &HostRuntime, what: &str, column: &IntCol, len: usize) -> Result<Vec<u8>> {
     let mut room = room(rt.alloc(), len)?;
     time_writing(rt, what, column, &mut room)?;
     Ok(room)
@@ -108,11 +97,7 @@ fn unpacked(alloc: Global, width: Width, bytes: &[u8]) -> Result<IntCol> {
 }
 
 /// Times a column made of the packed bytes of another, and ends the line.
-fn time_packed<R: Clock + Print + AllocGlobal>(
-    rt: &R,
-    column: &IntCol,
-    bytes: &[u8],
-) -> Result<()> {
+fn time_packed(rt: &HostRuntime, column: &IntCol, bytes: &[u8]) -> Result<()> {
     let start = Instant::now(rt)?;
     let copy = unpacked(rt.alloc(), column.width(), bytes)?;
     print_speed(rt, "from_packed", &start, bytes.len())?;
@@ -121,7 +106,7 @@ fn time_packed<R: Clock + Print + AllocGlobal>(
 }
 
 /// Times a column of texts made of its blocks, and prints a line.
-fn time_texts<R: Clock + Print + AllocGlobal>(rt: &R) -> Result<()> {
+fn time_texts(rt: &HostRuntime) -> Result<()> {
     let sizes = text_sizes(rt.alloc())?;
     let short = room(rt.alloc(), TEXTS * TEXT as usize)?;
     print!(rt; "{TEXT} bytes:")?;
@@ -140,7 +125,7 @@ fn from_blocks(alloc: Global, sizes: &IntCol, short: &[u8]) -> Result<BytesCol> 
 }
 
 /// Times a column made of the sizes of its texts and of their bytes, and ends the line.
-fn time_blocks<R: Clock + Print + AllocGlobal>(rt: &R, sizes: &IntCol, short: &[u8]) -> Result<()> {
+fn time_blocks(rt: &HostRuntime, sizes: &IntCol, short: &[u8]) -> Result<()> {
     let start = Instant::now(rt)?;
     let column = from_blocks(rt.alloc(), sizes, short)?;
     print_speed(rt, "from_blocks", &start, short.len())?;
@@ -149,7 +134,7 @@ fn time_blocks<R: Clock + Print + AllocGlobal>(rt: &R, sizes: &IntCol, short: &[
 }
 
 /// Times the blocks of columns of integers at each width, and of texts.
-pub fn measure_all<R: Clock + Print + AllocGlobal>(rt: &R) -> Result<()> {
+pub fn measure_all(rt: &HostRuntime) -> Result<()> {
     for spread in &SPREADS {
         time_integers(rt, *spread)?;
     }

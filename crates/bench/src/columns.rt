@@ -10,7 +10,6 @@ use self::texts::Texts;
 use crate::clock::nanoseconds_each;
 use anyhow::Result;
 use mk_value::Memory;
-use std::rt::Clock;
 use std::time::Instant;
 
 /// How many values a column has.
@@ -103,8 +102,8 @@ fn carry_out<C: Timed>(column: &mut C, step: Step) -> Result<u64, Memory> {
 }
 
 /// Carries out a step, prints the nanoseconds a call, and gives what was read, added up.
-fn time_step<R: Clock + Print, C: Timed>(
-    rt: &R,
+fn time_step<C: Timed>(
+    rt: &HostRuntime,
     column: &mut C,
     what: &str,
     step: Step,
@@ -118,8 +117,8 @@ fn time_step<R: Clock + Print, C: Timed>(
 }
 
 /// Times the steps of a column that is empty and gets so many values, and ends the line.
-fn time_steps<R: Clock + Print, C: Timed>(
-    rt: &R,
+fn time_steps<C: Timed>(
+    rt: &HostRuntime,
     column: &mut C,
     steps: &[(&str, Step, Option<u32>)],
     count: u32,
@@ -134,25 +133,25 @@ fn time_steps<R: Clock + Print, C: Timed>(
 }
 
 /// Times the calls of a column of these integers.
-fn time_values<R: Clock + Print + AllocGlobal>(rt: &R, values: &[i64]) -> Result<()> {
+fn time_values(rt: &HostRuntime, values: &[i64]) -> Result<()> {
     let mut column = Integers::new(rt.alloc(), values)?;
     time_steps(rt, &mut column, &OF_INTEGERS, COUNT)
 }
 
 /// Times the calls of a column of integers, and prints a line.
-fn time_integers<R: Clock + Print + AllocGlobal>(rt: &R, spread: Spread) -> Result<()> {
+fn time_integers(rt: &HostRuntime, spread: Spread) -> Result<()> {
     print!(rt; "{} bits:", spread.bits)?;
     time_values(rt, &samples(rt.alloc(), spread, COUNT as usize)?)
 }
 
 /// Times the calls of a column of so many copies of a text, which is all but the last byte of a longer one.
-fn time_copies<R: Clock + Print + AllocGlobal>(rt: &R, longer: &[u8], count: u32) -> Result<()> {
+fn time_copies(rt: &HostRuntime, longer: &[u8], count: u32) -> Result<()> {
     let mut column = Texts::new(rt.alloc(), longer, count as usize)?;
     time_steps(rt, &mut column, &OF_TEXTS, count)
 }
 
 /// Times the calls of a column of texts of so many bytes, and prints a line.
-fn time_texts<R: Clock + Print + AllocGlobal>(rt: &R, len: usize, count: u32) -> Result<()> {
+fn time_texts(rt: &HostRuntime, len: usize, count: u32) -> Result<()> {
     print!(rt; "{len} bytes:")?;
     let longer = vec![in rt.alloc(); b'x'; len.saturating_add(1)]?;
     time_copies(rt, &longer, count)
@@ -162,7 +161,7 @@ fn time_texts<R: Clock + Print + AllocGlobal>(rt: &R, len: usize, count: u32) ->
 static LENGTHS: [(usize, u32); 3] = [(5, COUNT), (100, COUNT), (600, MEMOS)];
 
 /// Times all calls, at each width and at three lengths of texts.
-pub fn measure_all<R: Clock + Print + AllocGlobal>(rt: &R) -> Result<()> {
+pub fn measure_all(rt: &HostRuntime) -> Result<()> {
     for spread in &SPREADS {
         time_integers(rt, *spread)?;
     }

@@ -8,7 +8,6 @@ use crate::views::{empty_view, path_to, put_row, set_value};
 use anyhow::{Result, ensure};
 use mk_value::{Name, Path, Row, Text, Value};
 use std::alloc::Global;
-use std::rt::Clock;
 use std::time::Instant;
 use view_store::Root;
 
@@ -121,7 +120,7 @@ fn row(alloc: Global) -> Result<Row> {
 }
 
 /// Times all edits of a view of so many rows, and prints a line.
-fn time_edits<R: Clock + Print + AllocGlobal>(rt: &R, rows: u32) -> Result<()> {
+fn time_edits(rt: &HostRuntime, rows: u32) -> Result<()> {
     let mut edited = Edited::new(rt.alloc(), rows)?;
     print!(rt; "{rows} rows, ns an edit:")?;
     for (what, edit, count) in &TIMED {
@@ -135,7 +134,7 @@ fn time_edits<R: Clock + Print + AllocGlobal>(rt: &R, rows: u32) -> Result<()> {
 }
 
 /// Times the edits at each size.
-pub fn measure_all<R: Clock + Print + AllocGlobal>(rt: &R) -> Result<()> {
+pub fn measure_all(rt: &HostRuntime) -> Result<()> {
     for rows in &SIZES {
         time_edits(rt, *rows)?;
     }

@@ -6,7 +6,6 @@ use crate::views::{empty_view, path_to, put_row};
 use anyhow::Result;
 use mk_value::{Path, Row, Step, Value};
 use std::alloc::Global;
-use std::rt::Clock;
 use std::time::Instant;
 use view_store::Root;
 
@@ -48,7 +47,7 @@ fn views(alloc: Global, count: u32) -> Result<Root> {
 }
 
 /// Times the edits at so many rows, and prints a line.
-fn time_edits<R: Clock + Print + AllocGlobal>(rt: &R, count: u32) -> Result<()> {
+fn time_edits(rt: &HostRuntime, count: u32) -> Result<()> {
     let path = inner(rt.alloc(), count / 2)?;
     let mut root = views(rt.alloc(), count)?;
     let row = row(rt.alloc())?;
@@ -66,7 +65,7 @@ fn time_edits<R: Clock + Print + AllocGlobal>(rt: &R, count: u32) -> Result<()> 
 static SIZES: [u32; 3] = [100_000, 1_000_000, 4_000_000];
 
 /// Times the edits at each size.
-pub fn measure_all<R: Clock + Print + AllocGlobal>(rt: &R) -> Result<()> {
+pub fn measure_all(rt: &HostRuntime) -> Result<()> {
     for size in &SIZES {
         time_edits(rt, *size)?;
     }

@@ -18,7 +18,6 @@ use self::total::{column_total, total};
 use crate::clock::nanoseconds_each;
 use anyhow::Result;
 use mk_value::TableRead;
-use std::rt::Clock;
 use std::time::Instant;
 
 /// The rows that are timed.
@@ -28,7 +27,7 @@ const MANY: u32 = 1_000_000;
 const FEW: u32 = 10_000;
 
 /// Does a task, and prints its name and what is answered.
-fn list<R: Print + AllocGlobal>(rt: &R, tables: &Tables, task: Task) -> Result<()> {
+fn list(rt: &HostRuntime, tables: &Tables, task: Task) -> Result<()> {
     let answer = task.run(rt.alloc(), tables)?;
     let (size, sum) = (answer.size(), total(&answer)?);
     println!(rt; "{task:?} {size} {sum}")?;
@@ -36,7 +35,7 @@ fn list<R: Print + AllocGlobal>(rt: &R, tables: &Tables, task: Task) -> Result<(
 }
 
 /// Does a task, and prints its name, the times and what is answered.
-fn measure<R: Clock + Print + AllocGlobal>(rt: &R, tables: &Tables, task: Task) -> Result<()> {
+fn measure(rt: &HostRuntime, tables: &Tables, task: Task) -> Result<()> {
     let start = Instant::now(rt)?;
     let answer = task.run(rt.alloc(), tables)?;
     let answered = nanoseconds_each(rt, &start, MANY)?;
@@ -47,7 +46,7 @@ fn measure<R: Clock + Print + AllocGlobal>(rt: &R, tables: &Tables, task: Task) 
 }
 
 /// Reads the numbers and then the texts of a table, and prints the times and what the values add up to.
-fn measure_cells<R: Clock + Print>(rt: &R, what: &str, table: &Relation) -> Result<()> {
+fn measure_cells(rt: &HostRuntime, what: &str, table: &Relation) -> Result<()> {
     let start = Instant::now(rt)?;
     let numbers = column_total(table, 0)?;
     let number = nanoseconds_each(rt, &start, MANY)?;
@@ -59,7 +58,7 @@ fn measure_cells<R: Clock + Print>(rt: &R, what: &str, table: &Relation) -> Resu
 }
 
 /// Reads cells of the table alone, and through each chain.
-fn measure_chains<R: Clock + Print + AllocGlobal>(rt: &R, tables: &Tables) -> Result<()> {
+fn measure_chains(rt: &HostRuntime, tables: &Tables) -> Result<()> {
     measure_cells(rt, "alone", &relation(&tables.orders)?)?;
     for chain in &CHAINS {
         let table = chain.over(rt.alloc(), relation(&tables.orders)?)?;
@@ -69,7 +68,7 @@ fn measure_chains<R: Clock + Print + AllocGlobal>(rt: &R, tables: &Tables) -> Re
 }
 
 /// Times each task, and then the chains.
-pub fn measure_all<R: Clock + Print + AllocGlobal>(rt: &R) -> Result<()> {
+pub fn measure_all(rt: &HostRuntime) -> Result<()> {
     let tables = make_tables(rt.alloc(), MANY)?;
     for task in &TASKS {
         measure(rt, &tables, *task)?;
@@ -78,7 +77,7 @@ pub fn measure_all<R: Clock + Print + AllocGlobal>(rt: &R) -> Result<()> {
 }
 
 /// Does each task over a few rows.
-pub fn list_all<R: Print + AllocGlobal>(rt: &R) -> Result<()> {
+pub fn list_all(rt: &HostRuntime) -> Result<()> {
     let tables = make_tables(rt.alloc(), FEW)?;
     for task in &TASKS {
         list(rt, &tables, *task)?;

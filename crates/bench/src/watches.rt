@@ -19,7 +19,6 @@ use crate::columns::random::Random;
 use anyhow::{Result, ensure};
 use mk_value::Steps;
 use std::marker::Brand;
-use std::rt::Clock;
 use std::sync::ledger::{Blank, Ledger};
 
 /// How many events of each kind are timed.
@@ -29,8 +28,8 @@ const EVENTS: u32 = 300;
 const WARM: u32 = 3;
 
 /// Follows so many events of a kind, prints the nanoseconds an event, and gives what has followed them.
-fn time_events<R: Clock + Print + AllocGlobal, F: Follower + Drop, L: Ledger>(
-    rt: &R,
+fn time_events<F: Follower + Drop, L: Ledger>(
+    rt: &HostRuntime,
     follower: F,
     kind: EventKind,
     places: Places,
@@ -55,8 +54,8 @@ fn time_events<R: Clock + Print + AllocGlobal, F: Follower + Drop, L: Ledger>(
 }
 
 /// Times the three kinds of events, and prints a line.
-fn time_follower<R: Clock + Print + AllocGlobal, F: Follower + Drop, L: Ledger>(
-    rt: &R,
+fn time_follower<F: Follower + Drop, L: Ledger>(
+    rt: &HostRuntime,
     what: &str,
     follower: F,
     places: Places,
@@ -91,11 +90,7 @@ static CHAINS: [(&str, &[Shown]); 5] = [
 ];
 
 /// Times each chain of watches.
-fn time_chains<R: Clock + Print + AllocGlobal, L: Ledger>(
-    rt: &R,
-    size: u32,
-    steps: &mut Steps<L>,
-) -> Result<()> {
+fn time_chains<L: Ledger>(rt: &HostRuntime, size: u32, steps: &mut Steps<L>) -> Result<()> {
     for (what, shown) in &CHAINS {
         let table = numbers::table(rt.alloc(), size)?;
         let chain = watch_chain(rt.alloc(), table, shown)?;
@@ -105,11 +100,7 @@ fn time_chains<R: Clock + Print + AllocGlobal, L: Ledger>(
 }
 
 /// Times counts of a key.
-fn time_counts<R: Clock + Print + AllocGlobal, L: Ledger>(
-    rt: &R,
-    size: u32,
-    steps: &mut Steps<L>,
-) -> Result<()> {
+fn time_counts<L: Ledger>(rt: &HostRuntime, size: u32, steps: &mut Steps<L>) -> Result<()> {
     let counts = count_numbers(rt.alloc(), numbers::table(rt.alloc(), size)?)?;
     time_follower(rt, "counts", counts, Places::Anywhere, steps)
 }
@@ -121,11 +112,7 @@ static INDEXES: [(&str, Keys, Places); 2] = [
 ];
 
 /// Times each index of keys.
-fn time_indexes<R: Clock + Print + AllocGlobal, L: Ledger>(
-    rt: &R,
-    size: u32,
-    steps: &mut Steps<L>,
-) -> Result<()> {
+fn time_indexes<L: Ledger>(rt: &HostRuntime, size: u32, steps: &mut Steps<L>) -> Result<()> {
     for (what, keys, places) in &INDEXES {
         let index = index_keys(rt.alloc(), size, *keys)?;
         time_follower(rt, what, index, *places, steps)?;
@@ -137,7 +124,7 @@ fn time_indexes<R: Clock + Print + AllocGlobal, L: Ledger>(
 static SIZES: [u32; 2] = [50_000, 1_000_000];
 
 /// Times all, at each number of rows, with a counter of steps made of a blank ledger.
-fn time_each_size<R: Clock + Print + AllocGlobal, L: Ledger>(rt: &R, blank: Blank) -> Result<()>
+fn time_each_size<L: Ledger>(rt: &HostRuntime, blank: Blank) -> Result<()>
     requires name { blank.name ≡ L.name }
     requires parts { blank.parts ≡ L.parts }
     requires some { 0 < blank.parts }
@@ -152,6 +139,6 @@ fn time_each_size<R: Clock + Print + AllocGlobal, L: Ledger>(rt: &R, blank: Blan
 }
 
 /// Times what follows events, over 50,000 rows and over a million.
-pub fn measure_all<R: Clock + Print + AllocGlobal>(rt: &R) -> Result<()> {
-    time_each_size::<R, Brand>(rt, Blank::new(1))
+pub fn measure_all(rt: &HostRuntime) -> Result<()> {
+    time_each_size::<Brand>(rt, Blank::new(1))
 }

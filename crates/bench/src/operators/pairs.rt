@@ -34,7 +34,7 @@ fn listed(alloc: Global, table: Relation, other: Relation) -> Result<usize> {
 }
 
 /// Prints how many pairs there are, by their size alone or by the join's rows, or without a join how many rows there are.
-pub fn list_pairs<R: Print + AllocGlobal>(rt: &R, what: &str) -> Result<()> {
+pub fn list_pairs(rt: &HostRuntime, what: &str) -> Result<()> {
     let rows = equal_rows(rt.alloc())?;
     let (table, other) = (relation(&rows)?, relation(&rows)?);
     let count = match what {

@@ -14,7 +14,6 @@ use live_counts::LiveCounts;
 use mk_value::{Positions, Row, Steps, TableRead};
 use relations::lookup::is_view;
 use std::alloc::Global;
-use std::rt::Clock;
 use std::sync::ledger::Ledger;
 use std::time::Instant;
 use tables::Table;
@@ -52,9 +51,9 @@ impl Follower for Counted {
         self.table.size()
     }
 
-    fn follow<R: Clock, L: Ledger>(
+    fn follow<L: Ledger>(
         self,
-        rt: &R,
+        rt: &HostRuntime,
         event: &Event,
         row: &Row,
         steps: &mut Steps<L>,

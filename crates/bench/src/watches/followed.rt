@@ -9,7 +9,6 @@ use anyhow::{Result, ensure};
 use live::{Event, Out, Over, WatchOp, Watches};
 use mk_value::{Row, Steps, TableRead};
 use std::alloc::Global;
-use std::rt::Clock;
 use std::sync::ledger::Ledger;
 use std::time::Instant;
 use tables::Table;
@@ -60,9 +59,9 @@ impl Follower for Followed {
         self.table.size()
     }
 
-    fn follow<R: Clock, L: Ledger>(
+    fn follow<L: Ledger>(
         self,
-        rt: &R,
+        rt: &HostRuntime,
         event: &Event,
         row: &Row,
         steps: &mut Steps<L>,

@@ -3,7 +3,6 @@
 use anyhow::Result;
 use live::Event;
 use mk_value::{Row, Steps};
-use std::rt::Clock;
 use std::sync::ledger::Ledger;
 
 /// A table, or the keys of one, with what follows its events.
@@ -12,9 +11,9 @@ pub trait Follower {
     fn size(&self) -> usize;
 
     /// What has followed an event, and the nanoseconds that following took. The row is the one that comes.
-    fn follow<R: Clock, L: Ledger>(
+    fn follow<L: Ledger>(
         self,
-        rt: &R,
+        rt: &HostRuntime,
         event: &Event,
         row: &Row,
         steps: &mut Steps<L>,

@@ -10,7 +10,6 @@ use live::Event;
 use mapped::HashIndex;
 use mk_value::{HeldRows, MAX_ROWS, Row, Rows, Steps, Value, rows_fit};
 use std::alloc::Global;
-use std::rt::Clock;
 use std::sync::ledger::Ledger;
 use std::time::Instant;
 
@@ -64,7 +63,7 @@ pub fn index_keys(alloc: Global, count: u32, keys: Keys) -> Result<Keyed> {
 }
 
 /// A row with a key that no row has comes in. The nanoseconds that following took.
-fn insert<R: Clock>(rt: &R, index: &mut HashIndex, at: usize, key: Row) -> Result<f64> {
+fn insert(rt: &HostRuntime, index: &mut HashIndex, at: usize, key: Row) -> Result<f64> {
     ensure!(at <= index.len() && index.len() < MAX_ROWS, "no place");
     ensure!(index.find(&key).is_none(), "a key that a row has");
     index.reserve(1)?;
@@ -74,7 +73,7 @@ fn insert<R: Clock>(rt: &R, index: &mut HashIndex, at: usize, key: Row) -> Resul
 }
 
 /// A row goes. The nanoseconds that following took.
-fn remove<R: Clock>(rt: &R, index: &mut HashIndex, at: usize) -> Result<f64> {
+fn remove(rt: &HostRuntime, index: &mut HashIndex, at: usize) -> Result<f64> {
     if at >= index.len() {
         bail!("no row");
     }
@@ -85,7 +84,7 @@ fn remove<R: Clock>(rt: &R, index: &mut HashIndex, at: usize) -> Result<f64> {
 }
 
 /// A row gets a key that no other row has. The nanoseconds that following took.
-fn change<R: Clock>(rt: &R, index: &mut HashIndex, at: usize, key: Row) -> Result<f64> {
+fn change(rt: &HostRuntime, index: &mut HashIndex, at: usize, key: Row) -> Result<f64> {
     ensure!(at < index.len(), "no row");
     ensure!(is_free(index, at, &key), "a key that another row has");
     index.reserve(1)?;
@@ -112,9 +111,9 @@ impl Follower for Keyed {
     }
 
     /// Of the row the key alone matters here, and that is the next one.
-    fn follow<R: Clock, L: Ledger>(
+    fn follow<L: Ledger>(
         self,
-        rt: &R,
+        rt: &HostRuntime,
         event: &Event,
         _row: &Row,
         _steps: &mut Steps<L>,
