@@ -3,6 +3,7 @@ mod Firsts
 mod Found
 mod Keys
 mod Levels
+mod Printed
 mod RowsUnder
 mod Sizes
 mod Steps

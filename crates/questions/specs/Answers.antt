@@ -1,7 +1,7 @@
 -- What a question is answered: what it asks for, or the refusal; or memory was wanting.
-use Rattle.std.specs.Prelude.{◌≡◌, ◌⊎◌, ℕ, Bool, if◌then◌else◌, List, length, map, Result, Ok, Err}
+use Rattle.std.specs.Prelude.{◌≡◌, ◌⊎◌, ℕ, Bool, if◌then◌else◌, List, [], ◌∷◌, ◌++◌, length, map, Result, Ok, Err}
+use Rattle.std.specs.List.{flat_map}
 use Rattle.std.specs.Result.{result_map_both}
-use Rattle.mk_value.specs.Buffer.{Buffer}
 use Rattle.mk_value.specs.Literals.{row_text}
 use Rattle.mk_value.specs.Tables.{Table}
 use Rattle.computing.specs.Computed.{Computations, alone, shown_of}
@@ -40,9 +40,12 @@ size_due names viewers q = continued (answer names viewers q) (λ t. Ok (length 
 abbrev pub rows_due : List Named → List Meaning → Query → Result (List (List ℕ)) QuestionError
 rows_due names viewers q = continued (answer names viewers q) (λ t. Ok (map row_text t.rows))
 
--- the bytes of texts
-abbrev pub contents : List Buffer → List (List ℕ)
-contents texts = map (λ (text : Buffer). text.bytes) texts
+-- texts as they are printed: how many there are, and each with a newline behind it
+abbrev pub printed : List (List ℕ) → ℕ × List ℕ
+printed texts = (length texts, flat_map (λ text. text ++ (10 ∷ [])) texts)
+
+abbrev pub printed_due : List Named → List Meaning → Query → Result (ℕ × List ℕ) QuestionError
+printed_due names viewers q = continued (answer names viewers q) (λ t. Ok (printed (map row_text t.rows)))
 
 -- the operator of a join, by whether it is an outer one
 abbrev pub joining : Bool → Operator

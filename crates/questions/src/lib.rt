@@ -23,6 +23,7 @@ pub use cursor::{
 pub use error::QuestionError;
 pub use known::Known;
 pub use places::Located;
+pub use rows::PrintedRows;
 pub use scope::Scope;
 pub use snapshot::{MAX_SNAPSHOTS, Snapshot, Snapshots, is_snapshot, take_out_snapshot};
 pub use watching::{computed_by, operand, operation};

@@ -10,7 +10,7 @@ ghost use Rattle.expr_text.specs.declared.operator.Operator.TheVariants as opera
 ghost use Rattle.eval.specs.Parts.{IsWhole};
 ghost use Rattle.mk_value.specs.Literals.{row_text};
 ghost use Rattle.mk_value.specs.Names.{same_bytes};
-ghost use Rattle.questions.specs.Answers.{Answers, answer, contents, joining, rows_due, size_due};
+ghost use Rattle.questions.specs.Answers.{Answers, answer, joining, printed, printed_due, size_due};
 ghost use Rattle.questions.specs.Kept.{asked_names, stored, table_of};
 ghost use Rattle.questions.specs.Told.{told_of_operator};
 
@@ -20,11 +20,18 @@ use derived::Derived;
 use expr_text::Expr;
 use grouping::{counts_size, group_by_size};
 use joins::join_size;
-use mk_value::{Memory, Name, Path, Row, TableRead, Text, Texts, print_row};
-use relations::{DerivedError, copy_row, copy_rows};
+use mk_value::{Memory, Name, Path, Row, TableRead, Text, print_row, print_row_of};
+use relations::{DerivedError, copy_rows};
 use std::alloc::Global;
 use tables::{Shared, from_rows, share};
 use viewers::Viewer;
+
+/// Rows as they are printed: how many there are, and the text of each with a newline behind it.
+#[derive(Debug, Drop)]
+pub struct PrintedRows {
+    pub count: u64,
+    pub lines: Text,
+}
 
 impl<V: Viewer> Scope<'_, V> {
     /// The number of rows. Where the expression is a sorting, groups, counts or a join, none of its rows is made.
@@ -108,16 +115,17 @@ impl<V: Viewer> Scope<'_, V> {
         told_size(join_size(alloc, &a, &b, keys, outer), a.size() as u64)
     }
 
-    /// The texts of the rows, in order. Beside the texts and what the expression takes, one row at a time takes memory.
+    /// The rows as they are printed, in order. They are read where they stand: beside their text and what the expression takes, one view in a
+    /// row at a time takes memory.
     ///
     /// # Errors
     ///
     /// The first refusal of the expression. Else `Memory`.
-    pub fn rows(&self, alloc: Global, expr: &Expr) -> Result<Texts, QuestionError>
+    pub fn rows(&self, alloc: Global, expr: &Expr) -> Result<PrintedRows, QuestionError>
         requires { IsWhole (query_of expr.now) }
-        ensures { Answers contents (rows_due (asked_names self.now.names (map V.meaning self.now.viewers.now) self.now.computed.now) (map V.meaning self.now.viewers.now) (query_of expr.now)) result }
+        ensures { Answers (λ rows. (rows.count, rows.lines.bytes)) (printed_due (asked_names self.now.names (map V.meaning self.now.viewers.now) self.now.computed.now) (map V.meaning self.now.viewers.now) (query_of expr.now)) result }
     {
-        Ok(row_texts(alloc, &self.value(alloc, expr)?)?)
+        Ok(print_rows(alloc, &self.value(alloc, expr)?)?)
     }
 
     /// The table, which keeps its rows whatever becomes of the views. That of a view or a snapshot is shared; that of a watch or an operator
@@ -172,16 +180,20 @@ fn gathered(alloc: Global, table: &Derived<Shared>) -> Result<Shared, Memory>
     share(alloc, from_rows(alloc, schema, &rows)?)
 }
 
-/// The texts of the rows of a table, in order.
-fn row_texts(alloc: Global, table: &Derived<Shared>) -> Result<Texts, Memory>
-    ensures { IfOk result (λ texts. contents texts ≡ map row_text table.now.rows) }
+/// Prints the rows of a table, in order.
+fn print_rows(alloc: Global, table: &Derived<Shared>) -> Result<PrintedRows, Memory>
+    ensures { IfOk result (λ rows. (rows.count, rows.lines.bytes) ≡ printed (map row_text table.now.rows)) }
 {
-    let mut texts = Texts::new(alloc);
-    for at in 0..table.size() {
-        let row = copy_row(alloc, table, at)?;
-        texts.push(text_of_row(alloc, &row)?)?;
+    let count = table.size();
+    let mut lines = Text::new(alloc);
+    for at in 0..count {
+        print_row_of(table, at, &mut lines)?;
+        lines.push_str("\n")?;
     }
-    Ok(texts)
+    Ok(PrintedRows {
+        count: count as u64,
+        lines,
+    })
 }
 
 pub(crate) fn text_of_row(alloc: Global, row: &Row) -> Result<Text, Memory>
