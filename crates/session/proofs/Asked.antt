@@ -18,7 +18,7 @@ use Rattle.session.specs.Saying.{IsOneLine, IsUnbounded}
 use Rattle.session.specs.World.{World}
 
 bounded : (reply : Reply) → IsOneLine reply → IsUnbounded reply → ⊥
-bounded (Lines texts) line unbounded = line
+bounded (Lines count lines) line unbounded = line
 bounded (Row text) line unbounded = line
 bounded reply line unbounded = unbounded
 
@@ -48,8 +48,9 @@ unanswered viewers command w reply due done e takes is (inr refused) reply_is li
     (inl (subst (λ (o : Outcome). IsGiven o (reply_bytes reply) w) (sym (is ∙ ap (λ d. told d w done) refused)) (ap reply_bytes reply_is, refl)))
 
 -- a reply of any length, which leaves the world as it is
-pub of_lines : (viewers : List Meaning) (command : Command) (w : World) (texts : List Buffer) → takes_memory command ≡ true → IsGiven (outcome_in viewers w command) (reply_bytes (Lines texts)) w → Answered viewers command w (Lines texts) w
-of_lines viewers command w texts takes answer = record { answers = inl answer; fits = inl tt; kept = λ _. (takes, refl); silent = λ is. cc }
+pub of_lines : (viewers : List Meaning) (command : Command) (w : World) (count : ℕ) (lines : Buffer) → takes_memory command ≡ true
+    → IsGiven (outcome_in viewers w command) (reply_bytes (Lines count lines)) w → Answered viewers command w (Lines count lines) w
+of_lines viewers command w count lines takes answer = record { answers = inl answer; fits = inl tt; kept = λ _. (takes, refl); silent = λ is. cc }
 
 pub of_row : (viewers : List Meaning) (command : Command) (w : World) (text : Buffer) → takes_memory command ≡ true → IsGiven (outcome_in viewers w command) (reply_bytes (Row text)) w → Answered viewers command w (Row text) w
 of_row viewers command w text takes answer = record { answers = inl answer; fits = inl tt; kept = λ _. (takes, refl); silent = λ is. cc }

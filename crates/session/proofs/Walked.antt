@@ -1,9 +1,8 @@
 -- Texts that were made of a list one by one.
 use Rattle.std.proofs.Common.{◌≡◌, ℕ, ◌+◌, ◌≤◌, List, [], ◌∷◌, ◌++◌, length, map, drop, refl, ap, sym, ◌∙◌, arith, append_assoc, append-nil}
-use Rattle.std.specs.List.{flat_map}
-use Rattle.std.proofs.lemmas.List.{length-append, drop_all}
+use Rattle.std.proofs.lemmas.List.{drop_all}
 use Rattle.mk_value.specs.Buffer.{Buffer}
-use Rattle.cmd_text.specs.Replies.{contents, reply_line}
+use Rattle.cmd_text.specs.Replies.{contents}
 use Rattle.struct_text.specs.Spelling.{spelling}
 use Rattle.tables.specs.Tables.{StoredTable}
 use Rattle.view_store.specs.Views.{NamedTable, view_names}
@@ -44,19 +43,7 @@ pub structures_of : (root : List NamedTable) → structure_texts (view_names roo
 structures_of [] = refl
 structures_of (v ∷ rest) = ap (λ texts. spelling v.name v.table.schema ∷ texts) (structures_of rest)
 
--- how many bytes lines take
-abbrev pub lines_length : List Buffer → ℕ
-lines_length texts = length (flat_map reply_line (contents texts))
-
-pub lines_length-read : (texts : List Buffer) (i : ℕ) (t : Buffer) → drop i texts ≡ t ∷ drop (i + 1) texts → lines_length (drop i texts) ≡ length t.bytes + 1 + lines_length (drop (i + 1) texts)
-lines_length-read texts i t e =
-    ap lines_length e
-    ∙ (let whole = length-append (reply_line t.bytes) (flat_map reply_line (contents (drop (i + 1) texts))) in
-    let line = length-append t.bytes (10 ∷ []) in omega (arith, whole, line))
-
-pub lines_length-none : (texts : List Buffer) (i : ℕ) → length texts ≤ i → lines_length (drop i texts) ≡ 0
-lines_length-none texts i p = ap lines_length (drop_all i texts p)
-
+-- there are as many lines as texts
 pub length-contents : (texts : List Buffer) → length (contents texts) ≡ length texts
 length-contents [] = refl
 length-contents (t ∷ texts) = let e = length-contents texts in omega (arith, e)

@@ -11,7 +11,7 @@ KeepsRoom old new = old.spare + length old.bytes ≤ new.spare + length new.byte
 
 -- a reply of lines or of a row, which may be of any length
 abbrev pub IsUnbounded : Reply → Type 0
-IsUnbounded (Lines texts) = Unit {0}
+IsUnbounded (Lines count lines) = Unit {0}
 IsUnbounded (Row text) = Unit {0}
 IsUnbounded _ = ⊥
 
@@ -22,6 +22,6 @@ FitsIn room reply = IsUnbounded reply ⊎ (length (reply_bytes reply) ≤ room)
 -- a reply of one line that is no row
 abbrev pub IsOneLine : Reply → Type 0
 IsOneLine Silent = ⊥
-IsOneLine (Lines texts) = ⊥
+IsOneLine (Lines count lines) = ⊥
 IsOneLine (Row text) = ⊥
 IsOneLine _ = Unit {0}

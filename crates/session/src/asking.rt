@@ -52,7 +52,7 @@ impl Session {
         ensures { Answered (map V.meaning viewers.now) (commands.Show expr.now) self.now result self.now }
     {
         match self.scope(viewers).rows(self.alloc, expr) {
-            Ok(texts) => Reply::Lines(texts),
+            Ok(rows) => Reply::Lines(rows.count, rows.lines),
             Err(error) => replies::unanswered(error),
         }
     }

@@ -1,7 +1,7 @@
 //! Looking at views, their sizes and their structures, and at the notes of commits.
 ghost use Rattle.std.specs.Prelude.{◌≡◌, map, length, IfOk, None};
 ghost use Rattle.std.specs.Result.{result_err};
-ghost use Rattle.cmd_text.specs.Replies.{contents};
+ghost use Rattle.cmd_text.specs.Replies.{contents, lines_text, reply_bytes};
 ghost use Rattle.struct_text.specs.Spelling.{spelling};
 ghost use Rattle.dir_codec.specs.Values.{note_of};
 ghost use Rattle.session.specs.Commands.{note_text, note_texts, note_texts as texts_of_notes};
@@ -11,7 +11,7 @@ ghost use Rattle.session.specs.Values.{size_named};
 
 use crate::Session;
 use crate::refusals::{of_edit, of_memory};
-use cmd_text::Refusal;
+use cmd_text::{Refusal, Reply, lines_of};
 use dir_codec::Note;
 use mk_value::{Memory, Name, Path, Schema, TableRead, Text, Texts, Value, print_value};
 use std::alloc::Global;
@@ -29,25 +29,47 @@ impl Session {
         }
     }
 
-    /// The structure texts of the views, in the order in which they were made.
-    pub(crate) fn structures(&self) -> Result<Texts, Refusal>
+    /// How many views there are, and the lines of their structure texts, in the order in which they were made.
+    pub(crate) fn structures(&self) -> Result<(u64, Text), Refusal>
         ensures due { AnswersDue None result }
-        ensures texts { IfOk result (λ texts. contents texts ≡ structures self.now.store.views) }
+        ensures lines { IfOk result (λ lines. reply_bytes (Reply.Lines lines.0 lines.1) ≡ lines_text (structures self.now.store.views)) }
     {
         let views = self.store.views();
-        match structure_texts(self.alloc, views.names().as_slice(), views.tables()) {
-            Ok(texts) => Ok(texts),
+        match structure_lines(self.alloc, views.names().as_slice(), views.tables()) {
+            Ok(lines) => Ok(lines),
             Err(error) => Err(of_memory(error)),
         }
     }
 
-    /// The texts of the notes of the commits, the newest first.
-    pub(crate) fn notes(&self) -> Result<Texts, Refusal>
+    /// How many commits have notes, and the lines of these, the newest first.
+    pub(crate) fn notes(&self) -> Result<(u64, Text), Refusal>
         ensures due { AnswersDue None result }
-        ensures texts { IfOk result (λ texts. contents texts ≡ note_texts self.now.store.kept.notes) }
+        ensures lines { IfOk result (λ lines. reply_bytes (Reply.Lines lines.0 lines.1) ≡ lines_text (note_texts self.now.store.kept.notes)) }
     {
-        note_texts(self.alloc, self.store.notes().as_slice()).map_err(of_memory)
+        note_lines(self.alloc, self.store.notes().as_slice()).map_err(of_memory)
     }
+}
+
+/// How many texts there are, and each on a line of its own.
+fn listed(alloc: Global, texts: &Texts) -> Result<(u64, Text), Memory>
+    ensures { IfOk result (λ lines. reply_bytes (Reply.Lines lines.0 lines.1) ≡ lines_text (contents texts.now)) }
+{
+    Ok((texts.len() as u64, lines_of(alloc, texts.as_slice())?))
+}
+
+/// The notes on lines, the last first.
+fn note_lines(alloc: Global, notes: &[Note]) -> Result<(u64, Text), Memory>
+    ensures { IfOk result (λ lines. reply_bytes (Reply.Lines lines.0 lines.1) ≡ lines_text (texts_of_notes (map note_of notes.now))) }
+{
+    listed(alloc, &note_texts(alloc, notes)?)
+}
+
+/// The structure texts of names and their tables on lines.
+fn structure_lines(alloc: Global, names: &[Name], tables: &[Shared]) -> Result<(u64, Text), Memory>
+    requires { length names.now ≡ length tables.now }
+    ensures { IfOk result (λ lines. reply_bytes (Reply.Lines lines.0 lines.1) ≡ lines_text (texts_of names.now tables.now)) }
+{
+    listed(alloc, &structure_texts(alloc, names, tables)?)
 }
 
 /// The texts of notes, the last first.

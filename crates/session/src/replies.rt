@@ -9,7 +9,7 @@ ghost use Rattle.session.specs.Saying.{IsOneLine, IsUnbounded};
 use crate::refusals::of_question;
 use crate::saying::{is_short_number, is_short_refusal};
 use cmd_text::{Refusal, Reply, Space};
-use mk_value::{Text, Texts};
+use mk_value::Text;
 use questions::{Located, QuestionError};
 
 /// Nothing but that it was done, or the refusal.
@@ -46,13 +46,13 @@ pub fn text(answer: Result<Text, Refusal>) -> Reply
     }
 }
 
-/// Lines, or the refusal.
-pub fn lines(answer: Result<Texts, Refusal>) -> Reply
-    ensures value { result ≡ reply_of (λ texts. Reply.Lines texts) answer }
+/// How many lines there are, and these lines, or the refusal.
+pub fn lines(answer: Result<(u64, Text), Refusal>) -> Reply
+    ensures value { result ≡ reply_of (λ lines. Reply.Lines lines.0 lines.1) answer }
     ensures short { IsUnbounded result ⊎ (length (reply_bytes result) ≤ max_line) }
 {
     match answer {
-        Ok(texts) => Reply::Lines(texts),
+        Ok((count, lines)) => Reply::Lines(count, lines),
         Err(refusal) => refused(refusal),
     }
 }

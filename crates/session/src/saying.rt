@@ -1,10 +1,10 @@
 //! Writing replies into the room that was made for them.
-ghost use Rattle.std.specs.Prelude.{◌≡◌, ◌⊎◌, ◌≤◌, ◌++◌, decimal, length, IsOk, MatchOption, OnErr, OnOk};
-ghost use Rattle.cmd_text.specs.Replies.{contents, lines_text, reply_bytes};
+ghost use Rattle.std.specs.Prelude.{◌≡◌, ◌⊎◌, ◌≤◌, ◌++◌, decimal, length, IsOk, OnErr, OnOk};
+ghost use Rattle.cmd_text.specs.Replies.{reply_bytes};
 ghost use Rattle.session.specs.Saying.{FitsIn, IsUnbounded, KeepsRoom};
 
 use cmd_text::{Refusal, Reply, reply_text};
-use mk_value::{Memory, Text, Texts};
+use mk_value::{Memory, Text};
 
 /// The most bytes of a refusal's reply: its words, and two numbers of at most 20 digits.
 pub const MAX_REFUSAL: usize = 60;
@@ -72,26 +72,17 @@ fn make_room(reply: &Reply, out: &mut Text) -> Result<(), Memory>
     ensures spare { out.old.spare ≤ out.new.spare }
 {
     match reply {
-        Reply::Lines(lines) => match lines_size(lines) {
-            Some(size) => out.reserve(size),
-            None => Err(Memory),
-        },
+        Reply::Lines(count, lines) => {
+            is_short_number(*count);
+            match lines.len().checked_add(24) {
+                Some(size) => out.reserve(size),
+                None => Err(Memory),
+            }
+        }
         Reply::Row(text) => match text.len().checked_add(4) {
             Some(size) => out.reserve(size),
             None => Err(Memory),
         },
         _ => Ok(()),
     }
-}
-
-/// At least the number of bytes of a reply of these lines, where it is a number of the program.
-fn lines_size(lines: &Texts) -> Option<usize>
-    ensures { MatchOption result (Unit {0}) (λ size. length (lines_text (contents lines.now)) ≤ size) }
-{
-    is_short_number(lines.len() as u64);
-    let mut size = 24usize;
-    for line in lines.as_slice() {
-        size = size.checked_add(line.len())?.checked_add(1)?;
-    }
-    Some(size)
 }
