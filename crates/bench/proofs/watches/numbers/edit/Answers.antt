@@ -1,4 +1,4 @@
-use Rattle.std.proofs.Common.{◌≡◌, ◌++◌, List, take, drop, ap, sym, subst, ◌∙◌, add-one}
+use Rattle.std.proofs.Common.{◌++◌, List, take, drop, ap, sym, subst, ◌∙◌, add-one}
 use Rattle.std.specs.List.{insert}
 use Rattle.std.proofs.lemmas.Result.{on_ok_weaker}
 use Rattle.mk_value.specs.Data.{Datum}
