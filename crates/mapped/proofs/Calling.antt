@@ -8,7 +8,8 @@ use Rattle.std.proofs.lemmas.Option.{slice_get-get_or}
 use Rattle.mk_value.specs.Data.{Datum, integer, IsRowOf}
 use Rattle.mk_value.specs.Heading.{Attribute}
 use Rattle.mk_value.specs.Tables.{IsComparable, domain_at}
-use Rattle.relations.proofs.Cells.{comparable, value_fits}
+use Rattle.mk_value.proofs.Cells.{value_is_of}
+use Rattle.relations.proofs.Comparable.{comparable}
 use Rattle.mk_value.specs.Limits.{max_rows}
 use Rattle.mk_value.proofs.Relations.{row_fits_length}
 use Rattle.mapped.specs.Index.{AreKeys}
@@ -116,5 +117,5 @@ key_of_row count schema row fits none =
           let q : i < count = omega arith in
           let inside : i < length schema = omega (arith, h.few) in
           subst (λ d. IsComparable d (domain_at schema i)) (sym (get_or-take count row i (integer (pos 0)) q))
-          (comparable (get_or row i (integer (pos 0))) (domain_at schema i) (value_fits row schema i fits inside) (plain_at count schema h i q));
+          (comparable (get_or row i (integer (pos 0))) (domain_at schema i) (value_is_of row schema i fits inside) (plain_at count schema h i q));
     }

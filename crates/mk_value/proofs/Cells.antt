@@ -1,8 +1,9 @@
 -- The values of a table by row and column.
 use Rattle.std.proofs.Common.{◌≡◌, ℕ, zero, suc, ◌<◌, List, [], ◌∷◌, length, get_or, map, pos, ap, sym, subst, ◌∙◌, arith}
 use Rattle.std.proofs.lemmas.List.{length-map}
-use Rattle.mk_value.specs.Heading.{Domain, Attribute}
+use Rattle.mk_value.specs.Heading.{Attribute}
 use Rattle.mk_value.specs.Data.{Datum, integer, AreRowsOf, IsOf, IsRowOf, cell}
+use Rattle.mk_value.specs.Tables.{domain_at}
 use Rattle.mk_value.specs.Values.{datum_of}
 use Rattle.mk_value.specs.declared.value.Value.{Value}
 use Rattle.mk_value.proofs.Relations.{row_fits_length}
@@ -31,15 +32,14 @@ column_in rows schema i j row values whole p q e f =
 pub row_length : (rows : List (List Datum)) (schema : List Attribute) (i : ℕ) → AreRowsOf rows schema → i < length rows → length (get_or rows i []) ≡ length schema
 row_length rows schema i whole p = row_fits_length (get_or rows i []) schema (whole.whole i [] p)
 
--- a value of a row is of its property
-pub value_is_of : (row : List Datum) (schema : List Attribute) (j : ℕ) → IsRowOf row schema → j < length row
-    → IsOf (get_or row j (integer (pos 0))) (get_or schema j (record { name = []; domain = Domain.integer })).domain
-value_is_of [] schema j h p = absurd (omega arith)
+-- a value of a row is of its property's domain
+pub value_is_of : (row : List Datum) (schema : List Attribute) (j : ℕ) → IsRowOf row schema → j < length schema → IsOf (get_or row j (integer (pos 0))) (domain_at schema j)
+value_is_of [] [] j h p = absurd (omega arith)
+value_is_of [] (a ∷ schema) j h p = absurd h
 value_is_of (d ∷ row) [] j h p = absurd h
 value_is_of (d ∷ row) (a ∷ schema) zero h p = h.0
 value_is_of (d ∷ row) (a ∷ schema) (suc j) h p = value_is_of row schema j h.1 (omega arith)
 
--- a value of a table is of its property
-pub cell_is_of : (rows : List (List Datum)) (schema : List Attribute) (i j : ℕ) → AreRowsOf rows schema → i < length rows → j < length schema
-    → IsOf (cell rows i j) (get_or schema j (record { name = []; domain = Domain.integer })).domain
-cell_is_of rows schema i j whole p q = value_is_of (get_or rows i []) schema j (whole.whole i [] p) (omega (arith, row_length rows schema i whole p))
+-- a value of a table is of its property's domain
+pub cell_is_of : (rows : List (List Datum)) (schema : List Attribute) (i j : ℕ) → AreRowsOf rows schema → i < length rows → j < length schema → IsOf (cell rows i j) (domain_at schema j)
+cell_is_of rows schema i j whole p q = value_is_of (get_or rows i []) schema j (whole.whole i [] p) q

@@ -16,7 +16,7 @@ use Rattle.relations.specs.Columns.{column_of}
 use Rattle.relations.specs.Positions.{AreResolved, IsUsable}
 use Rattle.relations.specs.Refusals.{absent, a_view, unfit, range_due}
 use Rattle.relations.specs.Rows.{has, domain_of, value_of}
-use Rattle.relations.proofs.Cells.{comparable}
+use Rattle.relations.proofs.Comparable.{comparable}
 use Rattle.relations.proofs.Fitting.{fitting}
 use Rattle.relations.proofs.Names.{column_in, has_at, item_present, item_plain, property_at_column, value_at_column}
 use Rattle.relations.proofs.Faults.{none_refused, not_false}

@@ -1,7 +1,7 @@
 pub use Rattle.key_sort.proofs.Ascending
 pub use Rattle.key_sort.proofs.Numbers
 pub mod Asking
-pub mod Cells
+pub mod Comparable
 pub mod Equal
 pub mod Faults
 pub mod Filtering

@@ -8,7 +8,7 @@ use Rattle.mk_value.specs.Data.{Datum, integer, AreRowsOf, IsRowOf, IsOf}
 use Rattle.mk_value.specs.Tables.{domain_at}
 use Rattle.relations.specs.Columns.{AreColumns, values_at}
 use Rattle.relations.specs.Rows.{rows_at}
-use Rattle.relations.proofs.Cells.{value_fits}
+use Rattle.mk_value.proofs.Cells.{value_is_of}
 
 pub rows_at_fit : (rows : List (List Datum)) (schema : List Attribute) (positions : List ℕ) → AreRowsOf rows schema → All (λ i. i < length rows) positions → length positions ≤ max_rows → AreRowsOf (rows_at rows positions) schema
 rows_at_fit rows schema positions whole within few = record {
@@ -25,7 +25,7 @@ values_at_fit row schema (j ∷ columns) [] h within e = absurd (let n = ap leng
 values_at_fit row schema (j ∷ columns) (a ∷ properties) h within e =
     let first : a.domain ≡ domain_at schema j = ap (λ (ds : List Domain). get_or ds 0 Domain.integer) e in
     let rest : map (λ (a : Attribute). a.domain) properties ≡ map (λ j. domain_at schema j) columns = ap (λ (ds : List Domain). drop 1 ds) e in (
-      subst (λ (d : Domain). IsOf (get_or row j (integer (pos 0))) d) (sym first) (value_fits row schema j h (All-head (λ j. j < length schema) j columns within)),
+      subst (λ (d : Domain). IsOf (get_or row j (integer (pos 0))) d) (sym first) (value_is_of row schema j h (All-head (λ j. j < length schema) j columns within)),
       values_at_fit row schema columns properties h (All-tail (λ j. j < length schema) j columns within) rest,
     )
 

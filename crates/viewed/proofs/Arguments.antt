@@ -13,7 +13,7 @@ use Rattle.relations.specs.Rows.{domain_of, has, values_of}
 use Rattle.relations.specs.declared.error.DerivedError.{DerivedError}
 use Rattle.relations.specs.declared.error.DerivedError.TheVariants.{WrongKind}
 use Rattle.relations.proofs.Asking.{domain_here}
-use Rattle.relations.proofs.Cells.{value_fits}
+use Rattle.mk_value.proofs.Cells.{value_is_of}
 use Rattle.relations.proofs.Names.{value_at_column}
 use Rattle.relations.proofs.Projections.{columns_in}
 use Rattle.relations.proofs.SameSchemas.{same_schema_is, same_schema_tells}
@@ -25,7 +25,7 @@ values_fit : (schema : List Attribute) (columns : List ℕ) (row : List Datum) �
     → AllZip IsOf (values_at columns row) (map (λ j. domain_at schema j) columns)
 values_fit schema [] row all whole = tt
 values_fit schema (j ∷ columns) row all whole =
-    (value_fits row schema j whole (All-head (λ j. j < length schema) j columns all), values_fit schema columns row (All-tail (λ j. j < length schema) j columns all) whole)
+    (value_is_of row schema j whole (All-head (λ j. j < length schema) j columns all), values_fit schema columns row (All-tail (λ j. j < length schema) j columns all) whole)
 
 pub arguments : (schema : List Attribute) (takes : List Domain) (columns : List ℕ) (row : List Datum) → AreAsked schema takes columns → IsRowOf row schema → AreArguments takes (values_at columns row)
 arguments schema takes columns row asked whole = subst (λ ds. AllZip IsOf (values_at columns row) ds) asked.kinds (values_fit schema columns row asked.in_range whole)

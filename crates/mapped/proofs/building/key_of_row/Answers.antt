@@ -1,7 +1,7 @@
 use Rattle.std.proofs.Common.{◌++◌, ◌∷◌, [], List, get_or, pos, ap, sym, ◌∙◌, arith}
 use Rattle.std.proofs.lemmas.List.{take_more}
 use Rattle.mk_value.specs.Data.{Datum, integer}
-use Rattle.relations.proofs.Cells.{row_length}
+use Rattle.mk_value.proofs.Cells.{row_length}
 use Rattle.mapped.proofs.building.key_of_row.Goals as goal
 
 pub loop-col-preserved : goal.loop-col-preserved

@@ -2,7 +2,7 @@ use Rattle.std.proofs.Common.{◌<◌, ℕ, [], get_or, take, pos, ap, sym, ◌�
 use Rattle.std.proofs.lemmas.List.{get_or-take, length-take-le}
 use Rattle.mk_value.specs.Data.{integer}
 use Rattle.mk_value.specs.Order.{value_cmp}
-use Rattle.relations.proofs.Cells.{row_length}
+use Rattle.mk_value.proofs.Cells.{row_length}
 use Rattle.mapped.proofs.Keyed.{count_from, plain_at}
 use Rattle.mapped.proofs.Prefixes.{decides, ties}
 use Rattle.mapped.proofs.ordered.cmp_rows_by_key.Goals as goal

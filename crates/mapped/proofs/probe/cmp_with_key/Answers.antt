@@ -1,6 +1,6 @@
 use Rattle.std.proofs.Common.{ℕ, [], length, get_or, take, sym, ◌∙◌, arith}
 use Rattle.mapped.proofs.Prefixes.{beside}
-use Rattle.relations.proofs.Cells.{row_length}
+use Rattle.mk_value.proofs.Cells.{row_length}
 use Rattle.mapped.proofs.Prefixes.{decides, ties}
 use Rattle.mapped.proofs.probe.cmp_with_key.Goals as goal
 

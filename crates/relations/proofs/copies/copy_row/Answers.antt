@@ -2,7 +2,7 @@ use Rattle.std.proofs.Common.{◌++◌, ◌∷◌, [], List, length, get_or, pos
 use Rattle.std.proofs.lemmas.List.{take_more, take_all}
 use Rattle.mk_value.specs.Data.{Datum, integer}
 use Rattle.mk_value.specs.Heading.{Attribute}
-use Rattle.relations.proofs.Cells.{row_length}
+use Rattle.mk_value.proofs.Cells.{row_length}
 use Rattle.relations.proofs.copies.copy_row.Goals as goal
 
 pub loop-col-preserved : goal.loop-col-preserved
