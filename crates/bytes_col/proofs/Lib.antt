@@ -1,5 +1,5 @@
 pub mod Short
-pub mod Chunks
+pub mod CellLaws
 pub mod PartLaws
 pub mod Splices
 pub mod Columns

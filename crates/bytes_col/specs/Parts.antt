@@ -5,4 +5,4 @@ use Rattle.segments.specs.Joined.{joined}
 
 -- the values added so far
 abbrev pub added : Parts → List (List ℕ)
-added p = joined p.done.items ++ p.last
+added p = joined p.done ++ p.last

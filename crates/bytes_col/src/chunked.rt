@@ -8,6 +8,7 @@ ghost use Rattle.bytes_col.specs.Spine.{HasSizes, LastTakes};
 
 use crate::blocks::{BlocksError, Memos, parts_of};
 use crate::chunk::{CHUNK_MOST, Chunk, push_shared, set_shared};
+use crate::chunks::Chunks;
 use crate::growing::Growing;
 use crate::parts::Parts;
 use crate::spine::Spine;
@@ -99,9 +100,9 @@ impl Chunked {
     }
 
     /// These chunks.
-    pub(crate) fn of_chunks(alloc: Global, chunks: Vec<Shared<Chunk>>) -> Result<Chunked, Memory>
-        requires { length (joined chunks.items) ≤ 16777216 }
-        ensures { IfOk result (λ chunked. chunked ≡ chunks.items) }
+    pub(crate) fn of_chunks(alloc: Global, chunks: Chunks) -> Result<Chunked, Memory>
+        requires { length (joined chunks) ≤ 16777216 }
+        ensures { IfOk result (λ chunked. chunked ≡ chunks) }
     {
         if chunks.len() > 1 {
             let spine = Spine::of_chunks(chunks)?;
@@ -109,7 +110,7 @@ impl Chunked {
                 kind: Kind::Many(Shared::of(alloc, spine)?),
             });
         }
-        Ok(Chunked::of_one(alloc, chunks))
+        Ok(Chunked::of_one(alloc, chunks.into_items()))
     }
 
     /// At most one chunk.
@@ -357,7 +358,7 @@ impl Chunked {
         }
     }
 
-    /// A list of the same chunks.
+    /// A list of the same values.
     fn to_spine(&self) -> Result<Spine, Memory>
         ensures { IfOk result (λ spine. joined spine ≡ joined self.now) }
     {
@@ -398,14 +399,15 @@ fn growing_if(growing: Growing) -> Result<Growing, Chunked>
     }
 }
 
-/// A list of one chunk.
+/// A list of one chunk, or of none where that is empty.
 fn spine_of_one(chunk: &Shared<Chunk>) -> Result<Spine, Memory>
-    ensures { IfOk result (λ spine. spine ≡ chunk.now ∷ []) }
+    ensures { IfOk result (λ spine. joined spine ≡ joined (chunk.now ∷ [])) }
 {
-    let mut chunks = Vec::with_capacity(chunk.get().allocator(), 1)?;
-    let _few = chunk.get().len();
-    chunks.push(chunk.clone()?)?;
-    Spine::of_chunks(chunks)
+    let alloc = chunk.get().allocator();
+    if chunk.get().len() == 0 {
+        return Ok(Spine::new(alloc));
+    }
+    Spine::of_chunks(Chunks::of_one(alloc, chunk.clone()?)?)
 }
 
 /// Whether a value at this place is one more of the chunk, which has room for it.

@@ -82,12 +82,16 @@ impl Growing {
         Growing::of(Shared::of(self.allocator(), spine)?, next)
     }
 
-    /// A list of the same chunks.
+    /// A list of the same values, which has the last chunk only where that has some.
     pub(crate) fn to_spine(&self) -> Result<Spine, Memory>
-        ensures { IfOk result (λ spine. spine ≡ self.now) }
+        ensures { IfOk result (λ spine. joined spine ≡ joined self.now) }
     {
+        let head = self.parts.head.get();
+        if self.parts.tail.len() == 0 {
+            return Ok(head.clone()?);
+        }
         let last = Shared::of(self.allocator(), self.parts.tail.clone()?)?;
-        self.parts.head.get().with_last(last)
+        head.with_last(last)
     }
 
     pub(crate) fn allocator(&self) -> Global {

@@ -16,6 +16,7 @@ mod blocks;
 mod cell;
 mod chunk;
 mod chunked;
+mod chunks;
 mod column;
 mod fill;
 mod growing;

@@ -3,6 +3,7 @@ ghost use Rattle.std.specs.Prelude.{◌≡◌, ℕ, ◌+◌, ◌-◌, ◌*◌, �
 ghost use Rattle.segments.specs.Joined.{joined};
 
 use crate::chunk::{CHUNK_MOST, Chunk};
+use crate::chunks::Chunks;
 use crate::memo::Memo;
 use mk_value::Memory;
 use segments::Shared;
@@ -12,7 +13,7 @@ use std::mem::replace;
 /// Chunks under construction: those that are done, and the last, which takes more values.
 #[derive(Drop)]
 pub(crate) struct Parts {
-    done: Vec<Shared<Chunk>>,
+    done: Chunks,
     last: Chunk,
 }
 
@@ -24,20 +25,20 @@ impl Parts {
         ensures { added result ≡ [] }
     {
         Parts {
-            done: Vec::new(alloc),
+            done: Chunks::new(alloc),
             last: Chunk::new(alloc),
         }
     }
 
-    /// Ends the last chunk.
+    /// Ends the last chunk, which has some value.
     fn close(&mut self) -> Result<(), Memory>
+        requires { 0 < length self.old.last }
         ensures values { OnOk result (added self.new ≡ added self.old) }
         ensures empty { OnOk result (self.new.last ≡ []) }
     {
-        let alloc = *self.done.allocator();
+        let alloc = self.done.allocator();
         let last = replace(&mut self.last, Chunk::new(alloc));
-        self.done.push(Shared::of(alloc, last)?)?;
-        Ok(())
+        self.done.push(Shared::of(alloc, last)?)
     }
 
     /// Sees to it that the last chunk takes a value.
@@ -125,34 +126,20 @@ impl Parts {
         if count == 0 {
             return Ok(());
         }
-        let alloc = *self.done.allocator();
+        let alloc = self.done.allocator();
         let mut whole = Chunk::new(alloc);
         whole.add_copies(one, 0, CHUNK_MOST)?;
-        push_clones(&mut self.done, &Shared::of(alloc, whole)?, count)
+        self.done.push_clones(&Shared::of(alloc, whole)?, count)
     }
 
     /// The chunks.
-    pub(crate) fn finish(self) -> Result<Vec<Shared<Chunk>>, Memory>
-        ensures { IfOk result (λ chunks. joined chunks.items ≡ added self) }
+    pub(crate) fn finish(self) -> Result<Chunks, Memory>
+        ensures { IfOk result (λ chunks. joined chunks ≡ added self) }
     {
         let Parts { mut done, last } = self;
         if last.len() > 0 {
-            done.push(Shared::of(*done.allocator(), last)?)?;
+            done.push(Shared::of(done.allocator(), last)?)?;
         }
         Ok(done)
     }
-}
-
-/// Adds owners of a chunk.
-fn push_clones(
-    chunks: &mut Vec<Shared<Chunk>>,
-    chunk: &Shared<Chunk>,
-    count: usize,
-) -> Result<(), Memory>
-    ensures { OnOk result (chunks.new.items ≡ chunks.old.items ++ replicate count chunk.now) }
-{
-    for _copy in 0..count {
-        chunks.push(chunk.clone()?)?;
-    }
-    Ok(())
 }

@@ -5,11 +5,12 @@ ghost use Rattle.segments.specs.Segments.{IsPlace};
 ghost use Rattle.segments.specs.Splices.{Applies, Covers, items_after, spliced};
 ghost use Rattle.segments.specs.Joined.{joined, counts_of};
 ghost use Rattle.bytes_col.specs.Strings.{short_bytes, sizes_of};
-ghost use Rattle.bytes_col.specs.Spine.{HasSizes, LastTakes};
+ghost use Rattle.bytes_col.specs.Spine.{IsSpine, HasSizes, LastTakes};
 ghost use Rattle.bytes_col.specs.Growing.{front};
 ghost use Rattle.bytes_col.specs.Parts.{added};
 
 use crate::chunk::{CHUNK_MOST, Chunk, push_shared, set_shared};
+use crate::chunks::Chunks;
 use crate::parts::Parts;
 use int_col::IntCol;
 use mk_value::Memory;
@@ -17,10 +18,7 @@ use segments::{Groups, Place, Replaced, Segments, Shared, Splice};
 use std::alloc::{AllocError, Global};
 use std::marker::Model;
 
-/// The most chunks of one list: as many as it may have values.
-const CHUNKS_MOST: usize = 16_777_216;
-
-/// The chunks in order, in groups that copies share, and how they cut the list of values.
+/// The chunks in order, none of which is empty, in groups that copies share, and how they cut the list of values.
 #[derive(Drop)]
 pub(crate) struct Spine {
     chunks: Groups<Chunk>,
@@ -28,14 +26,14 @@ pub(crate) struct Spine {
 }
 
 impl Model for Spine {
-    ghost use Rattle.std.specs.Prelude.{◌≡◌, List, ℕ};
-    ghost use Rattle.segments.specs.Joined.{counts_of};
+    ghost use Rattle.std.specs.Prelude.{List, ℕ};
+    ghost use Rattle.bytes_col.specs.Spine.{IsSpine};
 
     ghost Value = { List (List (List ℕ)) };
 
     ghost view = { λ s. s.chunks };
 
-    ghost invariant = { λ s. s.ends ≡ counts_of s.chunks };
+    ghost invariant = { λ s. IsSpine s.chunks s.ends };
 }
 
 impl Clone for Spine {
@@ -63,11 +61,11 @@ impl Spine {
     }
 
     /// The spine of these chunks.
-    pub(crate) fn of_chunks(chunks: Vec<Shared<Chunk>>) -> Result<Spine, Memory>
-        requires { length (joined chunks.items) ≤ 16777216 }
-        ensures { IfOk result (λ spine. spine ≡ chunks.items) }
+    pub(crate) fn of_chunks(chunks: Chunks) -> Result<Spine, Memory>
+        requires { length (joined chunks) ≤ 16777216 }
+        ensures { IfOk result (λ spine. spine ≡ chunks) }
     {
-        let mut spine = Spine::new(*chunks.allocator());
+        let mut spine = Spine::new(chunks.allocator());
         spine.put(0, 0, chunks)?;
         Ok(spine)
     }
@@ -153,7 +151,7 @@ impl Spine {
         // The list has few values.
         let _few = self.len();
         let count = self.count();
-        self.with(count - 1, count, Vec::new(self.allocator()))
+        self.with(count - 1, count, Chunks::new(self.allocator()))
     }
 
     /// A copy of the last chunk, which takes one more value, with it.
@@ -177,13 +175,14 @@ impl Spine {
         Ok(chunk)
     }
 
-    /// The list of these chunks and one more.
+    /// The list of these chunks and one more, which is not empty.
     pub(crate) fn with_last(&self, last: Shared<Chunk>) -> Result<Spine, Memory>
-        requires { length (joined (self.now ++ last ∷ [])) ≤ 16777216 }
+        requires some { 0 < length last }
+        requires few { length (joined (self.now ++ last ∷ [])) ≤ 16777216 }
         ensures { IfOk result (λ spine. spine ≡ self.now ++ last ∷ []) }
     {
         let count = self.count();
-        self.with(count, count, Vec::from_array(self.allocator(), [last])?)
+        self.with(count, count, Chunks::of_one(self.allocator(), last)?)
     }
 
     /// Whether the last chunk takes one more value.
@@ -361,51 +360,47 @@ impl Spine {
     }
 
     /// Puts chunks in place of those from `first` up to `after`.
-    fn put(&mut self, first: usize, after: usize, fresh: Vec<Shared<Chunk>>) -> Result<(), Memory>
+    fn put(&mut self, first: usize, after: usize, fresh: Chunks) -> Result<(), Memory>
         requires order { first ≤ after }
         requires in_range { after ≤ length self.old }
-        requires few { sum (take first (counts_of self.old) ++ (counts_of fresh.items ++ drop after (counts_of self.old))) ≤ 16777216 }
-        ensures ok { OnOk result (self.new ≡ take first self.old ++ (fresh.items ++ drop after self.old)) }
+        requires few { sum (take first (counts_of self.old) ++ (counts_of fresh ++ drop after (counts_of self.old))) ≤ 16777216 }
+        ensures ok { OnOk result (self.new ≡ take first self.old ++ (fresh ++ drop after self.old)) }
         ensures err { OnErr result (self.new ≡ self.old) }
     {
         let ends = self.ends_with(first, after, &fresh)?;
-        self.chunks.replace(first, after, fresh)?;
+        self.chunks.replace(first, after, fresh.into_items())?;
         self.ends = ends;
         Ok(())
     }
 
     /// A copy with chunks in place of those from `first` up to `after`.
-    fn with(&self, first: usize, after: usize, fresh: Vec<Shared<Chunk>>) -> Result<Spine, Memory>
+    fn with(&self, first: usize, after: usize, fresh: Chunks) -> Result<Spine, Memory>
         requires order { first ≤ after }
         requires in_range { after ≤ length self.now }
-        requires few { sum (take first (counts_of self.now) ++ (counts_of fresh.items ++ drop after (counts_of self.now))) ≤ 16777216 }
-        ensures { IfOk result (λ spine. spine ≡ take first self.now ++ (fresh.items ++ drop after self.now)) }
+        requires few { sum (take first (counts_of self.now) ++ (counts_of fresh ++ drop after (counts_of self.now))) ≤ 16777216 }
+        ensures { IfOk result (λ spine. spine ≡ take first self.now ++ (fresh ++ drop after self.now)) }
     {
         let ends = self.ends_with(first, after, &fresh)?;
         let mut chunks = self.chunks.clone()?;
-        chunks.replace(first, after, fresh)?;
+        chunks.replace(first, after, fresh.into_items())?;
         Ok(Spine { chunks, ends })
     }
 
-    /// Where the chunks end, with others in place of those from `first` up to `after`. More than can be counted are refused; so many are
-    /// never made, since no chunk that is made is empty.
+    /// Where the chunks end, with others in place of those from `first` up to `after`. There are at most as many chunks as values, since none
+    /// is empty.
     fn ends_with(
         &self,
         first: usize,
         after: usize,
-        fresh: &[Shared<Chunk>],
+        fresh: &Chunks,
     ) -> Result<Segments<CHUNK_MOST>, Memory>
         requires order { first ≤ after }
         requires in_range { after ≤ length self.now }
         requires few { sum (take first (counts_of self.now) ++ (counts_of fresh.now ++ drop after (counts_of self.now))) ≤ 16777216 }
-        ensures ends { IfOk result (λ ends. ends ≡ counts_of (take first self.now ++ (fresh.now ++ drop after self.now))) }
-        ensures countable { OnOk result (first + length fresh.now + (length self.now - after) ≤ 16777216) }
+        ensures ends { IfOk result (IsSpine (take first self.now ++ (fresh.now ++ drop after self.now))) }
+        ensures few { first + length fresh.now + (length self.now - after) ≤ 16777216 }
     {
-        let kept = first + (self.chunks.len() - after);
-        if fresh.len() > CHUNKS_MOST - kept {
-            return Err(Memory);
-        }
-        let counts = counts(self.allocator(), fresh)?;
+        let counts = counts(self.chunks.allocator(), fresh.as_slice())?;
         self.ends.spliced(first, after, &counts)
     }
 }

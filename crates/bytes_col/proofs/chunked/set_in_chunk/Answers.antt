@@ -1,4 +1,4 @@
-use Rattle.bytes_col.proofs.Chunks.{both_ok}
+use Rattle.bytes_col.proofs.CellLaws.{both_ok}
 use Rattle.bytes_col.proofs.Sizes.{sizes_set}
 use Rattle.bytes_col.proofs.chunked.set_in_chunk.Goals as goal
 

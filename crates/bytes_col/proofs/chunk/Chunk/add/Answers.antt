@@ -1,7 +1,7 @@
 use Rattle.std.proofs.Common.{◌<◌, length, ap, ◌∙◌, arith}
 use Rattle.std.proofs.lemmas.List.{length-map}
 use Rattle.bytes_col.specs.Chunk.{cell_value}
-use Rattle.bytes_col.proofs.Chunks.{cell_added, short_bound, value_read}
+use Rattle.bytes_col.proofs.CellLaws.{cell_added, short_bound, value_read}
 use Rattle.bytes_col.proofs.chunk.Chunk.add.Goals as goal
 
 pub overflow_add-self : goal.overflow_add-self

@@ -1,5 +1,5 @@
 use Rattle.std.proofs.Common.{arith}
-use Rattle.bytes_col.proofs.Chunks.{cell_added, short_bound}
+use Rattle.bytes_col.proofs.CellLaws.{cell_added, short_bound}
 use Rattle.bytes_col.proofs.chunk.Chunk.append.Goals as goal
 
 pub overflow_add-self : goal.overflow_add-self

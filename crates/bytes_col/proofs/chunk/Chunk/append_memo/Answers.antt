@@ -1,6 +1,4 @@
-use Rattle.std.proofs.Common.{◌≡◌, ◌++◌, ◌∷◌, [], List, ap, ◌∙◌}
-use Rattle.bytes_col.specs.declared.cell.Cell.{Cell}
-use Rattle.bytes_col.proofs.Chunks.{memo_added}
+use Rattle.bytes_col.proofs.CellLaws.{memo_added}
 use Rattle.bytes_col.proofs.chunk.Chunk.append_memo.Goals as goal
 
 pub invariant_of-self-2 : goal.invariant_of-self-2

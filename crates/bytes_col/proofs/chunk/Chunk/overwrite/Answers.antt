@@ -1,7 +1,7 @@
 use Rattle.std.proofs.Common.{◌<◌, length, arith}
 use Rattle.std.proofs.lemmas.List.{length-map}
 use Rattle.bytes_col.specs.Chunk.{cell_value}
-use Rattle.bytes_col.proofs.Chunks.{piece_over, memo_over}
+use Rattle.bytes_col.proofs.CellLaws.{piece_over, memo_over}
 use Rattle.bytes_col.proofs.chunk.Chunk.overwrite.Goals as goal
 
 pub invariant_of-self : goal.invariant_of-self

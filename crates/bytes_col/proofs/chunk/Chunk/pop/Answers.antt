@@ -1,8 +1,8 @@
-use Rattle.std.proofs.Common.{◌≡◌, ◌∙◌, ◌-◌, ◌<◌, [], ◌∷◌, length, get_or, take, ap, sym, arith}
+use Rattle.std.proofs.Common.{◌≡◌, ◌∙◌, ◌-◌, [], ◌∷◌, length, get_or, take, ap, sym, arith}
 use Rattle.std.proofs.lemmas.List.{length-map}
 use Rattle.bytes_col.specs.Chunk.{cell_value, cell_values}
 use Rattle.bytes_col.specs.Strings.{short_bytes}
-use Rattle.bytes_col.proofs.Chunks.{set_fits}
+use Rattle.bytes_col.proofs.CellLaws.{set_fits}
 use Rattle.bytes_col.proofs.Grown.{cell_removed}
 use Rattle.bytes_col.proofs.chunk.Chunk.pop.Goals as goal
 

@@ -1,5 +1,5 @@
 use Rattle.std.proofs.Common.{arith}
-use Rattle.bytes_col.proofs.Chunks.{on_err_holds, cell_added, chunk_stays, short_bound}
+use Rattle.bytes_col.proofs.CellLaws.{on_err_holds, cell_added, chunk_stays, short_bound}
 use Rattle.bytes_col.proofs.chunk.Chunk.push.Goals as goal
 
 pub invariant_of-self-in_err-insert : goal.invariant_of-self-in_err-insert

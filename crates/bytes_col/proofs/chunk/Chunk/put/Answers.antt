@@ -2,7 +2,7 @@ use Rattle.std.proofs.Common.{◌≡◌, ◌+◌, ◌-◌, ◌∷◌, [], length
 use Rattle.std.proofs.lemmas.List.{length-map}
 use Rattle.bytes_col.specs.Strings.{short_bytes}
 use Rattle.bytes_col.specs.Chunk.{cell_value}
-use Rattle.bytes_col.proofs.Chunks.{on_err_holds, cell_set, chunk_stays, set_fits, short_bound}
+use Rattle.bytes_col.proofs.CellLaws.{on_err_holds, cell_set, chunk_stays, set_fits, short_bound}
 use Rattle.bytes_col.proofs.chunk.Chunk.put.Goals as goal
 
 pub overflow_sub-short : goal.overflow_sub-short

@@ -1,4 +1,4 @@
-use Rattle.bytes_col.proofs.Chunks.{short_bound}
+use Rattle.bytes_col.proofs.CellLaws.{short_bound}
 use Rattle.bytes_col.proofs.chunk.Chunk.short_len.Goals as goal
 
 pub returns-clause-few : goal.returns-clause-few

@@ -7,4 +7,4 @@ use Rattle.bytes_col.proofs.spine.Spine.of_chunks.Goals as goal
 pub put-requires-clause-few : goal.put-requires-clause-few
 put-requires-clause-few c =
     rw c.new-spine.ensures
-    (omega (arith, c.requires, length-joined c.args.chunks.items, ap sum (append-nil (counts_of c.args.chunks.items))))
+    (omega (arith, c.requires, length-joined c.args.chunks, ap sum (append-nil (counts_of c.args.chunks))))

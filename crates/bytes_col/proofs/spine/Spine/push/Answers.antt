@@ -1,8 +1,8 @@
 use Rattle.std.proofs.Common.{◌≡◌, ◌-◌, suc, arith, length}
 use Rattle.segments.specs.Joined.{joined}
 use Rattle.segments.proofs.Joined.{joined-pushed}
-use Rattle.segments.proofs.Counted.{segments_len, segments_count, last_count, segments_pushed}
-use Rattle.bytes_col.proofs.Columns.{last_room}
+use Rattle.segments.proofs.Counted.{segments_len, segments_count, last_count}
+use Rattle.bytes_col.proofs.Columns.{IsSpine-pushed, last_room}
 use Rattle.bytes_col.proofs.Sizes.{sizes_pushed}
 use Rattle.bytes_col.proofs.spine.Spine.push.Goals as goal
 
@@ -13,11 +13,11 @@ extend_last-requires c =
     let last = c.len-last.result - 1 in
     let len : suc last ≡ length c.self.inside.chunks = omega (arith, c.len-last.ensures.len, takes.some) in
     let room = last_room c.self.inside.chunks c.in_ok-chunk.chunk.now last takes len c.in_ok-chunk.ensures.value in
-    let count = last_count c.self.inside.chunks c.self.inside.ends c.self.invariant c.in_ok-chunk.chunk.now last len c.in_ok-chunk.ensures.value in (
+    let count = last_count c.self.inside.chunks c.self.inside.ends c.self.invariant.counted c.in_ok-chunk.chunk.now last len c.in_ok-chunk.ensures.value in (
       omega arith,
       (
-        omega (arith, takes.some, segments_count c.self.inside.chunks c.self.inside.ends c.self.invariant),
-        (omega (arith, room, count), omega (arith, segments_len c.self.inside.chunks c.self.inside.ends c.self.invariant)),
+        omega (arith, takes.some, segments_count c.self.inside.chunks c.self.inside.ends c.self.invariant.counted),
+        (omega (arith, room, count), omega (arith, segments_len c.self.inside.chunks c.self.inside.ends c.self.invariant.counted)),
       ),
     )
 
@@ -27,8 +27,8 @@ invariant_of-self-2 c =
     let last = c.len-last.result - 1 in
     let len : suc last ≡ length c.self.inside.chunks = omega (arith, c.len-last.ensures.len, takes.some) in
     rw c.in_ok-push_shared.ensures.ok
-    (segments_pushed c.self.inside.chunks c.self.inside.ends c.self.invariant c.in_ok-chunk.chunk.now last len c.in_ok-chunk.ensures.value
-    c.extend_last.new.self c.args.value.now c.extend_last.ensures)
+    (IsSpine-pushed c.self.inside.chunks c.self.inside.ends c.extend_last.new.self c.in_ok-chunk.chunk.now c.args.value.now last
+    c.self.invariant len c.in_ok-chunk.ensures.value c.extend_last.ensures)
 
 pub returns-clause-ok : goal.returns-clause-ok
 returns-clause-ok c =

@@ -4,9 +4,9 @@ use Rattle.segments.proofs.Counted.{applies_to_segments}
 use Rattle.bytes_col.proofs.spine.Spine.replaced.Goals as goal
 
 pub replaced-requires : goal.replaced-requires
-replaced-requires c = (omega arith, applies_to_segments c.self.inside.chunks c.self.inside.ends c.self.invariant c.args.splice.now (rw (← c.self.view_is) at c.requires))
+replaced-requires c = (omega arith, applies_to_segments c.self.inside.chunks c.self.inside.ends c.self.invariant.counted c.args.splice.now (rw (← c.self.view_is) at c.requires))
 
 pub returns : goal.returns
 returns c =
     let P : List ℕ → Type 0 = λ cs. Covers cs c.args.splice.now c.replaced.result in
-    rw (← c.self.view_is) (subst P c.self.invariant c.replaced.ensures.covers)
+    rw (← c.self.view_is) (subst P c.self.invariant.counted c.replaced.ensures.covers)

@@ -1,16 +1,16 @@
-use Rattle.std.proofs.Common.{[], sym, ◌∙◌}
+use Rattle.std.proofs.Common.{[]}
 use Rattle.std.proofs.lemmas.Result.{on_ok_weaker}
 use Rattle.segments.specs.Joined.{joined}
-use Rattle.segments.proofs.Joined.{same_counts, set_place, read_place}
-use Rattle.bytes_col.proofs.Chunks.{both_ok}
+use Rattle.segments.proofs.Joined.{set_place, read_place}
+use Rattle.bytes_col.proofs.CellLaws.{both_ok}
+use Rattle.bytes_col.proofs.Columns.{IsSpine-set}
 use Rattle.bytes_col.proofs.Sizes.{sizes_set, size_at}
 use Rattle.bytes_col.proofs.spine.Spine.set.Goals as goal
 
 pub invariant_of-self-2 : goal.invariant_of-self-2
 invariant_of-self-2 c =
-    c.self.invariant
-    ∙ sym (same_counts c.self.inside.chunks c.args.at c.find-place.result c.in_ok-chunk.chunk.now
-    (rw (← c.self.view_is) at c.find-place.ensures.place) c.in_ok-chunk.ensures.value c.set_shared.new.chunk c.set_shared.ensures.len)
+    IsSpine-set c.self.inside.chunks c.self.inside.ends c.args.at c.find-place.result c.in_ok-chunk.chunk.now c.set_shared.new.chunk
+    c.self.invariant (rw (← c.self.view_is) at c.find-place.ensures.place) c.in_ok-chunk.ensures.value c.set_shared.ensures.len
 
 pub returns-clause-ok : goal.returns-clause-ok
 returns-clause-ok c =

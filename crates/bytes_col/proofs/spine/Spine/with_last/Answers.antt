@@ -7,5 +7,5 @@ with-requires-clause-few c =
     let ss : List (List (List ℕ)) = c.args.self.now in
     let last : List (List ℕ) = c.args.last in
     let n : ℕ = c.count-count.result in
-    rw c.in_ok-from_array.ensures.items
-    (put_few ss (last ∷ []) n n (rw (one_at_end ss last n c.count-count.ensures) c.requires))
+    rw c.in_ok-of_one.ensures
+    (put_few ss (last ∷ []) n n (rw (one_at_end ss last n c.count-count.ensures) c.requires.few))

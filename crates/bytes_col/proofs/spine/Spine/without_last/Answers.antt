@@ -10,4 +10,4 @@ with-requires-clause-few c =
     let ss : List (List (List ℕ)) = c.args.self.now in
     let n : ℕ = c.count-count.result in
     let few : length (joined (front ss)) ≤ 16777216 = omega (arith, part_within (length ss - 1) ss, c.len-few.ensures.few, c.len-few.ensures.len) in
-    rw c.new.ensures.items (put_few ss [] (n - 1) n (rw (none_at_last ss n c.count-count.ensures) few))
+    rw c.new.ensures (put_few ss [] (n - 1) n (rw (none_at_last ss n c.count-count.ensures) few))
