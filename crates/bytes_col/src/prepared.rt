@@ -49,7 +49,7 @@ impl PreparedPush {
     /// # Errors
     ///
     /// The column as it was, for want of memory.
-    #[inline]
+    #[inline(always)]
     pub(crate) fn of(column: BytesCol, value: &[u8]) -> Result<PreparedPush, BytesCol>
         requires { length column.values < 16777216 }
         ensures ok { IfOk result (λ prepared. prepared ≡ record { column = column; values = column.values ++ value.now ∷ [] }) }
@@ -62,7 +62,7 @@ impl PreparedPush {
     }
 
     /// The same in place.
-    #[inline]
+    #[inline(always)]
     fn in_place(parts: GrowingColumn, value: &[u8]) -> Result<PreparedPush, BytesCol>
         requires takes { LastTakes parts.growing }
         requires sizes { HasSizes (joined parts.growing) parts.sizes }
@@ -86,7 +86,7 @@ impl PreparedPush {
     }
 
     /// The same, where the home is put away.
-    #[inline]
+    #[inline(always)]
     fn in_last_chunk(
         mut growing: Growing,
         sizes: IntCol,
@@ -149,7 +149,7 @@ impl PreparedPush {
     }
 
     /// The column with the value at its end, and without a home. It takes no memory.
-    #[inline]
+    #[inline(always)]
     pub fn finish(self) -> BytesCol
         ensures values { result.values ≡ self.values }
         ensures home { result.home ≡ None }

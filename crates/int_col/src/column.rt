@@ -174,7 +174,7 @@ impl IntCol {
     /// # Errors
     ///
     /// The column as it was, for want of memory.
-    #[inline]
+    #[inline(always)]
     pub fn prepare_push(self, value: i64) -> Result<PreparedPush, IntCol>
         requires { length self.values < 16777216 }
         ensures ok { IfOk result (λ prepared. prepared ≡ record { column = self; value = value }) }
@@ -204,6 +204,7 @@ impl IntCol {
     /// # Errors
     ///
     /// The column as it is, if it does not.
+    #[inline(always)]
     pub(crate) fn into_growing(self, value: i64) -> Result<(Growing, Option<Span>), IntCol>
         ensures same { IfOk result (λ parts. numbers_of parts.0 parts.1 ≡ self) }
         ensures takes { IfOk result (λ parts. LastTakes parts.0 value) }
@@ -217,6 +218,7 @@ impl IntCol {
     }
 
     /// The column of these values, and where it stands in a file.
+    #[inline(always)]
     pub(crate) fn of_growing(growing: Growing, home: Option<Span>) -> IntCol
         ensures { result ≡ numbers_of growing home }
     {

@@ -48,7 +48,7 @@ impl PreparedPush {
     /// # Errors
     ///
     /// The column as it was, for want of memory.
-    #[inline]
+    #[inline(always)]
     pub(crate) fn of(column: IntCol, value: i64) -> Result<PreparedPush, IntCol>
         requires { length column.values < 16777216 }
         ensures ok { IfOk result (λ prepared. prepared ≡ record { column = column; value = value }) }
@@ -88,7 +88,7 @@ impl PreparedPush {
     }
 
     /// The column with the value at its end, and without a home. It takes no memory.
-    #[inline]
+    #[inline(always)]
     pub fn finish(self) -> IntCol
         ensures values { result.values ≡ self.column.values ++ self.value ∷ [] }
         ensures home { result.home ≡ None }
