@@ -331,7 +331,7 @@ impl Chunked {
     }
 
     /// These values, which grow in place.
-    #[inline]
+    #[inline(always)]
     pub(crate) fn of_growing(growing: Growing) -> Chunked
         ensures { result ≡ growing }
     {
@@ -345,7 +345,7 @@ impl Chunked {
     /// # Errors
     ///
     /// The values as they are, if they do not.
-    #[inline]
+    #[inline(always)]
     pub(crate) fn into_growing(self) -> Result<Growing, Chunked>
         ensures same { IfOk result (λ growing. growing ≡ self) }
         ensures takes { OnOk result (LastTakes self) }
@@ -386,7 +386,7 @@ impl Chunked {
 }
 
 /// The values as they grow, if they take one more in place, and else the values as they are.
-#[inline]
+#[inline(always)]
 fn growing_if(growing: Growing) -> Result<Growing, Chunked>
     ensures same { IfOk result (λ same. same ≡ growing) }
     ensures takes { OnOk result (LastTakes growing) }

@@ -188,7 +188,7 @@ impl BytesCol {
     /// # Errors
     ///
     /// The column as it was, for want of memory.
-    #[inline]
+    #[inline(always)]
     pub fn prepare_push(self, value: &[u8]) -> Result<PreparedPush, BytesCol>
         requires { length self.values < 16777216 }
         ensures ok { IfOk result (λ prepared. prepared ≡ record { column = self; values = self.values ++ value.now ∷ [] }) }
@@ -220,7 +220,7 @@ impl BytesCol {
     /// # Errors
     ///
     /// The column as it is, if it does not.
-    #[inline]
+    #[inline(always)]
     pub(crate) fn into_parts(self) -> Result<GrowingColumn, BytesCol>
         ensures same { IfOk result (λ parts. strings_of parts.growing parts.home ≡ self) }
         ensures takes { IfOk result (λ parts. LastTakes parts.growing) }
@@ -247,7 +247,7 @@ impl BytesCol {
     }
 
     /// The column of these parts.
-    #[inline]
+    #[inline(always)]
     pub(crate) fn of_parts(parts: GrowingColumn) -> BytesCol
         requires { HasSizes (joined parts.growing) parts.sizes }
         ensures { result ≡ strings_of parts.growing parts.home }

@@ -138,7 +138,7 @@ impl KeptHome {
     /// # Errors
     ///
     /// The home, for want of memory.
-    #[inline]
+    #[inline(always)]
     pub(crate) fn of(alloc: Global, home: Option<Home>) -> Result<KeptHome, Option<Home>>
         ensures ok { IfOk result (λ kept. kept ≡ home) }
         ensures err { IfErr result (λ same. same ≡ home) }
@@ -157,7 +157,7 @@ impl KeptHome {
     }
 
     /// The home itself. It takes no memory.
-    #[inline]
+    #[inline(always)]
     pub(crate) fn take(self) -> Option<Home>
         ensures { result ≡ self }
     {
