@@ -9,12 +9,13 @@ use Rattle.mk_value.specs.Names.{same_bytes}
 use Rattle.mk_value.specs.Heading.{Domain, Heading, no_attributes, attribute, Attribute, attributes_of, heading_of, find, HaveDistinctNames, IsDomain, AreAttributes, IsHeading}
 use Rattle.mk_value.specs.Data.{Datum, integer, long, text, bytes, relation, relation_of, rows_of, IsOf, IsRowOf, AreRowsOf}
 use Rattle.mk_value.specs.Tables.{domain_at}
+use Rattle.mk_value.proofs.Cells.{value_is_of}
 use Rattle.mk_value.proofs.Converting.{relation_of-rows_of}
 use Rattle.mk_value.proofs.Headings.{AreAttributes-heading_of, attributes_of-heading_of}
 use Rattle.mk_value.proofs.Relations.{row_fits_length}
 use Rattle.tables.proofs.Lists.{drop_at}
 use Rattle.restructure.specs.Restructuring.{restructured_value, row_under, value_under, restructured_row, restructured_rows}
-use Rattle.tables.proofs.Values.{rows_inside, value_is_of}
+use Rattle.tables.proofs.Values.{rows_inside}
 
 abbrev pub no_attribute : Attribute
 no_attribute = record { name = []; domain = Domain.integer }

@@ -8,6 +8,7 @@ use Rattle.mk_value.specs.Limits.{max_bytes}
 use Rattle.mk_value.specs.Heading.{Domain, Heading, no_attributes, attribute, Attribute, heading_of, find}
 use Rattle.mk_value.specs.Data.{Datum, integer, long, text, bytes, relation, tuple_of, relation_of, IsText, IsOf, IsTupleOf, AreTuplesOf, IsRowOf, AreRowsOf}
 use Rattle.mk_value.specs.Tables.{domain_at}
+use Rattle.mk_value.proofs.Cells.{value_is_of}
 use Rattle.mk_value.proofs.Converting.{default_is_of}
 use Rattle.mk_value.proofs.Relations.{rows_of-relation_of, IsOf-relation, row_fits}
 use Rattle.tables.specs.Homes.{rows_in}
@@ -15,7 +16,7 @@ use Rattle.tables.specs.Tables.{inner_schema}
 use Rattle.view_store.specs.Fitting.{is_within}
 use Rattle.view_store.proofs.Fitting.{is_of_tells}
 use Rattle.view_store.proofs.Walking.{place_within}
-use Rattle.tables.proofs.Values.{rows_inside, value_is_of}
+use Rattle.tables.proofs.Values.{rows_inside}
 use Rattle.restructure.specs.Restructuring.{narrowed, text_or_empty, converted, restructured_value, row_under, value_under, restructured_row, restructured_rows}
 
 -- a value is of some domain: what that says of the value alone

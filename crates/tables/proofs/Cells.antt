@@ -1,12 +1,13 @@
 -- The values at one place of rows, as a loop over the rows reads them one by one.
-use Rattle.std.proofs.Common.{◌≡◌, ℕ, zero, suc, ◌+◌, ◌<◌, ◌≤◌, List, [], ◌∷◌, ◌++◌, length, get_or, take, map, pos, Result, Ok, Err, ap, sym, ◌∙◌, arith}
+use Rattle.std.proofs.Common.{◌≡◌, ℕ, ◌+◌, ◌<◌, ◌≤◌, List, [], ◌∷◌, ◌++◌, length, get_or, take, map, pos, Result, Ok, Err, ap, sym, ◌∙◌, arith}
 use Rattle.std.specs.Prelude.{IfOk}
 use Rattle.std.proofs.lemmas.List.{length-map, get_or-map, take_more, take_all, map-append}
 use Rattle.mk_value.specs.Heading.{Attribute}
-use Rattle.mk_value.specs.Data.{Datum, integer, IsOf, IsRowOf, AreRowsOf}
+use Rattle.mk_value.specs.Data.{Datum, integer, AreRowsOf}
 use Rattle.mk_value.specs.Tables.{domain_at}
 use Rattle.mk_value.specs.Values.{datum_of}
 use Rattle.mk_value.specs.declared.value.Value.{Value}
+use Rattle.mk_value.proofs.Cells.{value_is_of}
 use Rattle.mk_value.proofs.Relations.{row_fits_length}
 use Rattle.mk_value.proofs.Walks.{same_default, map_read}
 use Rattle.tables.specs.Homes.{column_of}
@@ -50,13 +51,6 @@ column_read f rows items at i done same p before =
     let rest = ap length same in
     before ∙ ap (λ xs. map f xs) (take_all i ds (omega (arith, long, rest)))
 
-pub value_fits : (row : List Datum) (schema : List Attribute) (k : ℕ) → IsRowOf row schema → k < length schema → IsOf (get_or row k (integer (pos 0))) (domain_at schema k)
-value_fits [] [] k h p = absurd (omega arith)
-value_fits [] (a ∷ schema) k h p = absurd h
-value_fits (d ∷ row) [] k h p = absurd h
-value_fits (d ∷ row) (a ∷ schema) zero h p = h.0
-value_fits (d ∷ row) (a ∷ schema) (suc k) h p = value_fits row schema k h.1 (omega arith)
-
 -- rows of a schema have a value of each property at its place
 pub cells_of_rows : (rows : List (List Datum)) (schema : List Attribute) (at : ℕ) → AreRowsOf rows schema → at < length schema → AreCells rows at (domain_at schema at)
 cells_of_rows rows schema at whole p = record {
@@ -64,7 +58,7 @@ cells_of_rows rows schema at whole p = record {
     few = whole.few;
     wide = λ i d q. let long = row_fits_length (get_or rows i d) schema (whole.whole i d q) in omega (arith, long);
   };
-  fit = λ i d q. value_fits (get_or rows i d) schema at (whole.whole i d q) p;
+  fit = λ i d q. value_is_of (get_or rows i d) schema at (whole.whole i d q) p;
 }
 
 -- a fact of the value that a call gives, from another

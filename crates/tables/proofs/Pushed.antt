@@ -1,5 +1,5 @@
 -- Columns at whose end a row was put, and those that were made ready for it.
-use Rattle.std.proofs.Common.{◌≡◌, ℕ, zero, suc, ◌+◌, ◌-◌, ◌<◌, ℤ, List, [], ◌∷◌, ◌++◌, length, get_or, take, drop, map, pos, refl, ap, sym, subst, ◌∙◌, arith}
+use Rattle.std.proofs.Common.{Box, Global, ◌≡◌, ℕ, zero, suc, ◌+◌, ◌-◌, ◌<◌, ℤ, List, [], ◌∷◌, ◌++◌, length, get_or, take, drop, map, pos, refl, ap, sym, subst, ◌∙◌, arith}
 use Rattle.std.specs.List.{AllZip}
 use Rattle.std.proofs.lemmas.List.{length-map, get_or-map, take_all, drop_all}
 use Rattle.mk_value.specs.Heading.{Domain, Attribute}
@@ -12,6 +12,7 @@ use Rattle.tables.specs.Rows.{inserted, home_inserted, with_rows_inserted}
 use Rattle.tables.specs.Shapes.{HasHomes}
 use Rattle.tables.specs.Tables.{StoredTable, IsTable}
 use Rattle.tables.specs.Columns.{StoredColumn, integers, texts, views, no_column, column_values, home_of, table_of_columns, IsColumnOf, IsColumnWith, AreColumnsOf, AreColumnsIn}
+use Rattle.tables.specs.declared.prepared.Copied.{Copied}
 use Rattle.tables.specs.declared.prepared.PreparedColumn.{PreparedColumn}
 use Rattle.tables.specs.declared.prepared.PreparedColumn.TheVariants.{Ints, Blobs, Listed, Views}
 use Rattle.tables.specs.Prepared.{IsPushed, AreReady, ArePushed, HasRoomForNumber, HasRoomForString, IsAfter, IsReadyFor, IsReadyForNumber, IsReadyForString, IsLonger}
@@ -61,7 +62,7 @@ ready_integer e n z (integers old) (Ints q) fits whole h = record {
   after (views new) made = absurd made
 ready_integer e n z (integers old) (Blobs q) fits whole h = absurd h
 ready_integer e n z (integers old) (Listed l) fits whole h = absurd h
-ready_integer e n z (integers old) (Views a b) fits whole h = absurd h
+ready_integer e n z (integers old) (Views a) fits whole h = absurd h
 ready_integer e n z (texts old) p fits whole h = absurd h
 ready_integer e n z (views old) p fits whole h = absurd h
 
@@ -78,7 +79,7 @@ ready_long e n z (integers old) (Ints q) fits whole h = record {
   after (views new) made = absurd made
 ready_long e n z (integers old) (Blobs q) fits whole h = absurd h
 ready_long e n z (integers old) (Listed l) fits whole h = absurd h
-ready_long e n z (integers old) (Views a b) fits whole h = absurd h
+ready_long e n z (integers old) (Views a) fits whole h = absurd h
 ready_long e n z (texts old) p fits whole h = absurd h
 ready_long e n z (views old) p fits whole h = absurd h
 
@@ -94,7 +95,7 @@ ready_text e n v (texts old) (Blobs q) fits whole h = record {
   after (views new) made = absurd made
 ready_text e n v (texts old) (Ints q) fits whole h = absurd h
 ready_text e n v (texts old) (Listed l) fits whole h = absurd h
-ready_text e n v (texts old) (Views a b) fits whole h = absurd h
+ready_text e n v (texts old) (Views a) fits whole h = absurd h
 ready_text e n v (integers old) p fits whole h = absurd h
 ready_text e n v (views old) p fits whole h = absurd h
 
@@ -110,20 +111,20 @@ ready_bytes e n v (texts old) (Blobs q) fits whole h = record {
   after (views new) made = absurd made
 ready_bytes e n v (texts old) (Ints q) fits whole h = absurd h
 ready_bytes e n v (texts old) (Listed l) fits whole h = absurd h
-ready_bytes e n v (texts old) (Views a b) fits whole h = absurd h
+ready_bytes e n v (texts old) (Views a) fits whole h = absurd h
 ready_bytes e n v (integers old) p fits whole h = absurd h
 ready_bytes e n v (views old) p fits whole h = absurd h
 
-pub ready_table : (e : Domain) (n : ℕ) (rows : List (List Datum)) (ts longer : List StoredTable) → IsOf (Datum.relation (relation_of rows)) e → IsColumnOf n e (views ts) → IsLonger e rows ts longer
-    → IsReadyFor n e (Datum.relation (relation_of rows)) (views ts) (Views ts longer)
-ready_table e n rows ts longer fits whole h = record {
-  before = refl;
+pub ready_table : (e : Domain) (n : ℕ) (rows : List (List Datum)) (ts longer : List StoredTable) (copied : Box Copied Global) → copied.value ≡ record { before = ts; longer = longer } → IsOf (Datum.relation (relation_of rows)) e → IsColumnOf n e (views ts) → IsLonger e rows ts longer
+    → IsReadyFor n e (Datum.relation (relation_of rows)) (views ts) (Views copied)
+ready_table e n rows ts longer copied is fits whole h = record {
+  before = ap (λ (c : Copied). views c.before) is;
   after = after;
 } where
-  after : (c : StoredColumn) → IsAfter (Views ts longer) c → IsPushed n e (Datum.relation (relation_of rows)) (views ts) c
+  after : (c : StoredColumn) → IsAfter (Views copied) c → IsPushed n e (Datum.relation (relation_of rows)) (views ts) c
   after (views new) made =
       views_inserted e n n 1 (views ts) ts new rows h.table whole refl
-      (made ∙ h.put ∙ at_end n h.table ts (views_many e n (views ts) ts whole refl)) h.made fits
+      (made ∙ ap (λ (c : Copied). c.longer) is ∙ h.put ∙ at_end n h.table ts (views_many e n (views ts) ts whole refl)) h.made fits
   after (integers new) made = absurd made
   after (texts new) made = absurd made
 

@@ -1,22 +1,15 @@
 -- Values of whole rows.
-use Rattle.std.proofs.Common.{ℕ, zero, suc, ◌<◌, List, [], ◌∷◌, length, get_or, All, pos, sym, subst, arith}
+use Rattle.std.proofs.Common.{ℕ, ◌<◌, List, [], ◌∷◌, length, get_or, All, pos, sym, subst, arith}
 use Rattle.std.proofs.lemmas.List.Elements.{All-head, All-tail, All-cons, All-nil}
 use Rattle.mk_value.specs.Heading.{Domain, Attribute, attributes_of}
 use Rattle.mk_value.specs.Data.{Datum, integer, long, text, bytes, relation, relation_of, rows_of, IsOf, IsRowOf, AreRowsOf}
 use Rattle.mk_value.specs.Tables.{domain_at}
+use Rattle.mk_value.proofs.Cells.{value_is_of}
 use Rattle.mk_value.proofs.Converting.{relation_of-rows_of}
 use Rattle.mk_value.proofs.Headings.{heading_of-attributes_of}
 use Rattle.mk_value.proofs.Relations.{IsOf-relation}
 use Rattle.tables.specs.Homes.{column_of, rows_in}
 use Rattle.tables.specs.Tables.{inner_schema}
-
--- the value of a row at a place is of the property there
-pub value_is_of : (row : List Datum) (schema : List Attribute) (k : ℕ) → IsRowOf row schema → k < length schema → IsOf (get_or row k (integer (pos 0))) (domain_at schema k)
-value_is_of [] [] k h p = absurd (omega arith)
-value_is_of [] (a ∷ schema) k h p = absurd h
-value_is_of (d ∷ row) [] k h p = absurd h
-value_is_of (d ∷ row) (a ∷ schema) zero h p = h.0
-value_is_of (d ∷ row) (a ∷ schema) (suc k) h p = value_is_of row schema k h.1 (omega arith)
 
 no_rows : (schema : List Attribute) → AreRowsOf [] schema
 no_rows schema = record { few = omega arith; whole = All-nil (λ row. IsRowOf row schema) }

@@ -8,7 +8,7 @@ use Rattle.mk_value.specs.Heading.{Domain, Heading, no_attributes, attribute, At
 use Rattle.tables.specs.Tables.{StoredTable}
 use Rattle.tables.specs.Columns.{StoredColumn, integers, texts, views, IsTableOf, IsColumnOf, AreColumnsOf}
 use Rattle.segments.specs.Joined.{joined}
-use Rattle.tables.specs.Sizes.{shared_size, list_size, chunk_size, spine_size, growing_size, tables_size, column_size, columns_size}
+use Rattle.tables.specs.Sizes.{shared_size, list_size, chunk_size, chunks_size, group_size, groups_size, spine_size, growing_size, tables_size, column_size, columns_size}
 use Rattle.tables.specs.Stored.{stored_of}
 use Rattle.tables.specs.Lists.{head_tables, tables_of}
 use Rattle.tables.specs.declared.cols.Col.{Col}
@@ -17,9 +17,12 @@ use Rattle.tables.specs.declared.growing.Head.{Head}
 use Rattle.tables.specs.declared.growing.Head.TheVariants.{Empty, Chunks}
 use Rattle.tables.specs.declared.tables.Kind.{Kind}
 use Rattle.tables.specs.declared.tables.Kind.TheVariants.{One, Growing}
-use Rattle.tables.specs.declared.chunk.Chunk.TheDeep.{deep-Chunk, deep-Col, deep-Cols, deep-Growing, deep-Head, deep-Kind, deep-Shared, deep-Spine, deep-Table, deep-TableList, deep-Tables}
+use Rattle.tables.specs.declared.chunk.Chunk.TheDeep.{deep-Chunk, deep-ChunkList, deep-Col, deep-Cols, deep-Group, deep-Groups, deep-Growing, deep-Head, deep-Kind, deep-Shared, deep-Spine, deep-Table, deep-TableList, deep-Tables}
 use Rattle.tables.specs.declared.chunk.Chunk.TheInside as chunk
 use Rattle.tables.specs.declared.cols.Cols.TheInside as cols
+use Rattle.tables.specs.declared.groups.ChunkList.TheInside as chunks
+use Rattle.tables.specs.declared.groups.Group.TheInside as group
+use Rattle.tables.specs.declared.groups.Groups.TheInside as groups
 use Rattle.tables.specs.declared.growing.Growing.TheInside as growing
 use Rattle.tables.specs.declared.shared.Shared.TheInside as shared
 use Rattle.tables.specs.declared.spine.Spine.TheInside as spine
@@ -52,12 +55,34 @@ list_falls a = omega (arith, most-shared a.items.items)
 pub chunk_falls : (a : chunk.Inside) → deep-Chunk a ≤ chunk_size a.list.value
 chunk_falls a = omega arith
 
-most-chunks : (chunks : List (List StoredTable)) → most (λ ts. chunk_size ts + 1) chunks ≤ spine_size chunks
+most-chunks : (chunks : List (List StoredTable)) → most (λ ts. chunk_size ts + 1) chunks ≤ chunks_size chunks
 most-chunks [] = omega arith
 most-chunks (c ∷ rest) = omega (arith, most-chunks rest)
 
-pub spine_falls : (a : spine.Inside) → deep-Spine a ≤ spine_size a.chunks.items
-spine_falls a = omega (arith, most-chunks a.chunks.items)
+pub chunks_fall : (a : chunks.Inside) → deep-ChunkList a ≤ chunks_size a.items.items
+chunks_fall a = omega (arith, most-chunks a.items.items)
+
+pub group_falls : (a : group.Inside) → deep-Group a ≤ group_size a.list.value
+group_falls a = omega arith
+
+chunks_size-left : (xs ys : List (List StoredTable)) → chunks_size xs ≤ chunks_size (xs ++ ys)
+chunks_size-left [] ys = omega arith
+chunks_size-left (x ∷ xs) ys = omega (arith, chunks_size-left xs ys)
+
+chunks_size-right : (xs ys : List (List StoredTable)) → chunks_size ys ≤ chunks_size (xs ++ ys)
+chunks_size-right [] ys = omega arith
+chunks_size-right (x ∷ xs) ys = omega (arith, chunks_size-right xs ys)
+
+-- the groups together are as deep as the deepest of them
+groups_bound : (groups : List (List (List StoredTable))) → most (λ chunks. group_size chunks + 1) groups ≤ groups_size (joined groups)
+groups_bound [] = omega arith
+groups_bound (g ∷ rest) = omega (arith, chunks_size-left g (joined rest), chunks_size-right g (joined rest), groups_bound rest)
+
+pub groups_fall : (a : groups.Inside) → deep-Groups a ≤ groups_size (joined a.groups.items)
+groups_fall a = omega (arith, groups_bound a.groups.items)
+
+pub spine_falls : (a : spine.Inside) → deep-Spine a ≤ spine_size a.chunks
+spine_falls a = omega arith
 
 list_size-left : (xs ys : List StoredTable) → list_size xs ≤ list_size (xs ++ ys)
 list_size-left [] ys = omega arith
@@ -68,13 +93,13 @@ list_size-right [] ys = omega arith
 list_size-right (x ∷ xs) ys = omega (arith, list_size-right xs ys)
 
 -- the chunks together are as deep as the deepest of them
-spine_bound : (chunks : List (List StoredTable)) → spine_size chunks ≤ list_size (joined chunks) + 2
-spine_bound [] = omega arith
-spine_bound (c ∷ rest) = omega (arith, list_size-left c (joined rest), list_size-right c (joined rest), spine_bound rest)
+chunks_bound : (chunks : List (List StoredTable)) → chunks_size chunks ≤ list_size (joined chunks) + 2
+chunks_bound [] = omega arith
+chunks_bound (c ∷ rest) = omega (arith, list_size-left c (joined rest), list_size-right c (joined rest), chunks_bound rest)
 
 head_bound : (h : Head) → deep-Head h ≤ growing_size (head_tables h)
 head_bound Empty = omega arith
-head_bound (Chunks spine) = omega (arith, spine_bound spine.value)
+head_bound (Chunks spine) = omega (arith, chunks_bound spine.value)
 
 pub growing_falls : (a : growing.Inside) → deep-Growing a ≤ growing_size (head_tables a.head ++ a.last)
 growing_falls a =
@@ -91,14 +116,14 @@ attributes_weight-attributes_of : (h : Heading) → attributes_weight (attribute
 attributes_weight-attributes_of no_attributes = refl
 attributes_weight-attributes_of (attribute n d rest) = let e = attributes_weight-attributes_of rest in omega (arith, e)
 
-inner_bound : (h : Heading) (ts : List StoredTable) → All (IsTableOf (attributes_of h)) ts → list_size ts ≤ 4 * heading_weight h + 18
+inner_bound : (h : Heading) (ts : List StoredTable) → All (IsTableOf (attributes_of h)) ts → list_size ts ≤ 6 * heading_weight h + 18
 inner_bound h [] whole = omega arith
 inner_bound h (t ∷ rest) whole =
     let first = All-head (IsTableOf (attributes_of h)) t rest whole in
     let weight = ap attributes_weight first.same_schema ∙ attributes_weight-attributes_of h in
     omega (arith, weight, inner_bound h rest (All-tail (IsTableOf (attributes_of h)) t rest whole))
 
-stored_bound : (n : ℕ) (e : Domain) (c : StoredColumn) → IsColumnOf n e c → column_size c ≤ 4 * domain_weight e + 15
+stored_bound : (n : ℕ) (e : Domain) (c : StoredColumn) → IsColumnOf n e c → column_size c ≤ 6 * domain_weight e + 15
 stored_bound n e (integers c) h = omega arith
 stored_bound n e (texts c) h = omega arith
 stored_bound n Domain.integer (views ts) h = absurd h
@@ -107,11 +132,11 @@ stored_bound n Domain.text (views ts) h = absurd h
 stored_bound n Domain.bytes (views ts) h = absurd h
 stored_bound n (Domain.relation inner) (views ts) h = omega (arith, inner_bound inner ts h.whole)
 
-columns_bound : (n : ℕ) (schema : List Attribute) (cols : List StoredColumn) → AllZip (λ a c. IsColumnOf n a.domain c) schema cols → most column_size cols ≤ 4 * attributes_weight schema + 15
+columns_bound : (n : ℕ) (schema : List Attribute) (cols : List StoredColumn) → AllZip (λ a c. IsColumnOf n a.domain c) schema cols → most column_size cols ≤ 6 * attributes_weight schema + 15
 columns_bound n [] [] h = omega arith
 columns_bound n [] (c ∷ cols) h = absurd h
 columns_bound n (a ∷ schema) [] h = absurd h
 columns_bound n (a ∷ schema) (c ∷ cols) h = omega (arith, stored_bound n a.domain c h.0, columns_bound n schema cols h.1)
 
-pub table_falls : (a : table.Inside) → AreColumnsOf a.rows a.schema a.cols → deep-Table a ≤ 4 * attributes_weight a.schema + 16
+pub table_falls : (a : table.Inside) → AreColumnsOf a.rows a.schema a.cols → deep-Table a ≤ 6 * attributes_weight a.schema + 16
 table_falls a h = omega (arith, columns_bound a.rows a.schema a.cols h.each)

@@ -39,14 +39,14 @@ abbrev pub column_before : PreparedColumn → StoredColumn
 column_before (Ints p) = integers p.column
 column_before (Blobs p) = texts p.column
 column_before (Listed list) = views (take (length list - 1) list)
-column_before (Views before after) = views before
+column_before (Views copied) = views copied.value.before
 
 -- a column with it
 abbrev pub IsAfter : PreparedColumn → StoredColumn → Type 0
 IsAfter (Ints p) (integers c) = (c.values ≡ p.column.values ++ p.value ∷ []) × (c.home ≡ None)
 IsAfter (Blobs p) (texts c) = (c.values ≡ p.values) × (c.home ≡ None)
 IsAfter (Listed list) (views ts) = ts ≡ list
-IsAfter (Views before after) (views ts) = ts ≡ after
+IsAfter (Views copied) (views ts) = ts ≡ copied.value.longer
 IsAfter _ _ = ⊥
 
 -- a column that is ready for a number, and for a byte string

@@ -6,7 +6,7 @@ use Rattle.tables.specs.Tables.{StoredTable}
 use Rattle.tables.specs.Columns.{StoredColumn, integers, texts, views}
 
 abbrev pub table_size : StoredTable → ℕ
-table_size t = 4 * attributes_weight t.schema + 16
+table_size t = 6 * attributes_weight t.schema + 16
 
 abbrev pub shared_size : StoredTable → ℕ
 shared_size t = table_size t + 1
@@ -15,15 +15,25 @@ shared_size t = table_size t + 1
 abbrev pub list_size : List StoredTable → ℕ
 list_size ts = most (λ t. table_size t + 2) ts
 
--- of a chunk, of the chunks of a spine, and of a list that is a spine and a chunk behind it
+-- of a chunk, of a list of chunks, of a group of them, of the groups of a spine, of a spine, and of a list that is a spine and a chunk
+-- behind it
 abbrev pub chunk_size : List StoredTable → ℕ
 chunk_size ts = list_size ts + 1
 
+abbrev pub chunks_size : List (List StoredTable) → ℕ
+chunks_size chunks = most (λ ts. chunk_size ts + 1) chunks
+
+abbrev pub group_size : List (List StoredTable) → ℕ
+group_size chunks = chunks_size chunks + 1
+
+abbrev pub groups_size : List (List StoredTable) → ℕ
+groups_size chunks = chunks_size chunks + 2
+
 abbrev pub spine_size : List (List StoredTable) → ℕ
-spine_size chunks = most (λ ts. chunk_size ts + 1) chunks
+spine_size chunks = groups_size chunks + 1
 
 abbrev pub growing_size : List StoredTable → ℕ
-growing_size ts = list_size ts + 3
+growing_size ts = list_size ts + 6
 
 abbrev pub tables_size : List StoredTable → ℕ
 tables_size ts = growing_size ts + 1

@@ -9,8 +9,7 @@ use std::alloc::{AllocError, Global};
 use std::marker::Model;
 use std::rc::Rc;
 
-/// How many tables a chunk of a spine has at most. An edit of a shared list copies a count for each chunk and one for each table of a
-/// chunk, and of a million tables in chunks of 1,024 there are about as many chunks as tables in one.
+/// How many tables a chunk of a spine has at most. An edit of a shared list copies a count for each table of a chunk.
 pub(crate) const CHUNK_MOST: usize = 1024;
 
 /// The tables of a chunk, one after another.
@@ -272,9 +271,10 @@ impl Chunk {
     }
 }
 
-/// Tables cut into full chunks and a last one of what is left.
+/// Tables cut into full chunks and a last one of what is left. No chunk is empty.
 pub(crate) fn cut(list: TableList) -> Result<Vec<Chunk>, Memory>
     ensures tables { IfOk result (λ chunks. joined chunks.items ≡ list) }
+    ensures some { IfOk result (λ chunks. All (λ n. 0 < n) (counts_of chunks.items)) }
     ensures few { IfOk result (λ chunks. All (λ n. n ≤ 1024) (counts_of chunks.items)) }
 {
     if list.len() > CHUNK_MOST {
@@ -290,6 +290,7 @@ pub(crate) fn cut(list: TableList) -> Result<Vec<Chunk>, Memory>
 /// The same of tables that stay where they are.
 fn cut_copies(list: &TableList) -> Result<Vec<Chunk>, Memory>
     ensures tables { IfOk result (λ chunks. joined chunks.items ≡ list.now) }
+    ensures some { IfOk result (λ chunks. All (λ n. 0 < n) (counts_of chunks.items)) }
     ensures few { IfOk result (λ chunks. All (λ n. n ≤ 1024) (counts_of chunks.items)) }
 {
     let mut chunks = Vec::new(list.allocator());

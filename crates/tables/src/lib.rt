@@ -8,6 +8,7 @@ mod build;
 mod chunk;
 mod cols;
 mod column;
+mod groups;
 mod growing;
 mod prepared;
 mod shared;

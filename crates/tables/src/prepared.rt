@@ -15,6 +15,13 @@ use mk_value::{Kind, Memory, Prop, Rows, Value};
 use std::alloc::Global;
 use std::mem::replace;
 
+/// Tables, and a copy of them with one more.
+#[derive(Drop)]
+pub(crate) struct Copied {
+    before: Tables,
+    longer: Tables,
+}
+
 /// A column that is ready for one more value.
 #[derive(Drop)]
 pub(crate) enum PreparedColumn {
@@ -22,13 +29,13 @@ pub(crate) enum PreparedColumn {
     Blobs(bytes_col::PreparedPush),
     /// The list of the tables, which has the one more already.
     Listed(Longer),
-    /// The tables, and the same with one more.
-    Views(Tables, Tables),
+    /// By a copy. It is boxed, so that a value that is put in place moves no room for it.
+    Views(Box<Copied>),
 }
 
 impl PreparedColumn {
     /// The column with the value at its end. It takes no memory.
-    #[inline]
+    #[inline(always)]
     fn finish(self) -> Col
         ensures { IsAfter self (stored_of result) }
     {
@@ -36,7 +43,7 @@ impl PreparedColumn {
             PreparedColumn::Ints(push) => Col::Ints(push.finish()),
             PreparedColumn::Blobs(push) => Col::Blobs(push.finish()),
             PreparedColumn::Listed(list) => Col::Views(Tables::of_list(list.finish())),
-            PreparedColumn::Views(_tables, longer) => Col::Views(longer),
+            PreparedColumn::Views(copied) => Col::Views(Box::into_inner(copied).longer),
         }
     }
 
@@ -48,7 +55,7 @@ impl PreparedColumn {
             PreparedColumn::Ints(push) => Col::Ints(push.cancel()),
             PreparedColumn::Blobs(push) => Col::Blobs(push.cancel()),
             PreparedColumn::Listed(list) => Col::Views(Tables::of_list(list.cancel())),
-            PreparedColumn::Views(tables, _longer) => Col::Views(tables),
+            PreparedColumn::Views(copied) => Col::Views(Box::into_inner(copied).before),
         }
     }
 }
@@ -90,7 +97,7 @@ pub(crate) fn push_row(
 }
 
 /// Makes a column of so many values ready for one more.
-#[inline]
+#[inline(always)]
 fn prepare(
     alloc: Global,
     rows: usize,
@@ -114,7 +121,7 @@ fn prepare(
 }
 
 /// Makes a column of numbers ready for one more.
-#[inline]
+#[inline(always)]
 fn prepare_number(col: Col, number: i64) -> Result<PreparedColumn, Col>
     requires { HasRoomForNumber (stored_of col) }
     ensures ok { IfOk result (IsReadyForNumber (stored_of col) number) }
@@ -130,7 +137,7 @@ fn prepare_number(col: Col, number: i64) -> Result<PreparedColumn, Col>
 }
 
 /// Makes a column of texts or byte strings ready for one more.
-#[inline]
+#[inline(always)]
 fn prepare_string(col: Col, value: &[u8]) -> Result<PreparedColumn, Col>
     requires { HasRoomForString (stored_of col) }
     ensures ok { IfOk result (IsReadyForString (stored_of col) value.now) }
@@ -199,9 +206,16 @@ fn put_in_copy(
     ensures ok { IfOk result (IsReadyFor rows (domain_of kind.now) (datum_of (Value.V inner.now)) (views tables)) }
     ensures err { IfErr result (λ same. stored_of same ≡ views tables) }
 {
-    match longer(alloc, &tables, kind, inner) {
-        Ok(longer) => Ok(PreparedColumn::Views(tables, longer)),
-        Err(Memory) => Err(Col::Views(tables)),
+    let Ok(longer) = longer(alloc, &tables, kind, inner) else {
+        return Err(Col::Views(tables));
+    };
+    let copied = Copied {
+        before: tables,
+        longer,
+    };
+    match Box::new(alloc, copied) {
+        Ok(copied) => Ok(PreparedColumn::Views(copied)),
+        Err(failed) => Err(Col::Views(failed.value.before)),
     }
 }
 

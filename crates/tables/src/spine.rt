@@ -8,19 +8,20 @@ ghost use Rattle.tables.specs.Rows.{inserted, removed};
 
 use crate::Shared;
 use crate::chunk::{CHUNK_MOST, Chunk, TableList, cut};
+use crate::groups::Groups;
 use mk_value::Memory;
-use segments::{Place, Replaced, Segments, Splice, replace_parts};
+use segments::{Place, Replaced, Segments, Splice};
 use std::alloc::{AllocError, Global};
 use std::marker::Model;
 
 /// How many tables a spine has at most, as many as a table has rows.
 pub(crate) const SPINE_MOST: usize = 16_777_216;
 
-/// The chunks in order, and where each ends. A caller sees the tables of each.
+/// The chunks in order, and where each ends. No chunk is empty. A caller sees the tables of each.
 #[cycle(table)]
 #[derive(Drop)]
 pub(crate) struct Spine {
-    chunks: Vec<Chunk>,
+    chunks: Groups,
     ends: Segments<CHUNK_MOST>,
 }
 
@@ -35,9 +36,9 @@ impl Model for Spine {
 
     ghost coded = { chunks_code };
 
-    ghost view = { λ s. s.chunks.items };
+    ghost view = { λ s. s.chunks };
 
-    ghost invariant = { λ s. IsSpine s.chunks.items s.ends };
+    ghost invariant = { λ s. IsSpine s.chunks s.ends };
 
     ghost size = { spine_size };
 
@@ -53,7 +54,7 @@ impl Clone for Spine {
     #[inline(never)]
     fn clone(&self) -> Result<Spine, AllocError> {
         Ok(Spine {
-            chunks: Vec::from_clones(*self.chunks.allocator(), &self.chunks)?,
+            chunks: self.chunks.clone()?,
             ends: self.ends.clone()?,
         })
     }
@@ -62,6 +63,7 @@ impl Clone for Spine {
 impl Spine {
     /// The spine of these chunks.
     fn of_chunks(chunks: Vec<Chunk>) -> Result<Spine, Memory>
+        requires some { All (λ n. 0 < n) (counts_of chunks.items) }
         requires each { All (λ n. n ≤ 1024) (counts_of chunks.items) }
         requires few { length (joined chunks.items) ≤ 16777216 }
         ensures { IfOk result (λ spine. spine ≡ chunks.items) }
@@ -69,7 +71,7 @@ impl Spine {
         let alloc = *chunks.allocator();
         let counts = counts(alloc, &chunks)?;
         Ok(Spine {
-            chunks,
+            chunks: Groups::of_chunks(chunks)?,
             ends: Segments::from_counts(alloc, &counts)?,
         })
     }
@@ -89,11 +91,11 @@ impl Spine {
         if self.chunks.len() != 1 {
             return Ok(None);
         }
-        Ok(Some(self.chunks[0].clone()?))
+        Ok(Some(self.chunks.get(0).clone()?))
     }
 
     pub(crate) fn allocator(&self) -> Global {
-        *self.chunks.allocator()
+        self.chunks.allocator()
     }
 
     /// How many tables there are.
@@ -119,7 +121,7 @@ impl Spine {
         ensures { slice_get (joined self.now) at ≡ Some result.now }
     {
         let place = self.find(at);
-        let chunk = self.chunks[place.segment].list();
+        let chunk = self.chunks.get(place.segment).list();
         chunk.get(place.offset)
     }
 
@@ -130,8 +132,7 @@ impl Spine {
         ensures err { OnErr result (self.new ≡ self.old) }
     {
         let place = self.find(at);
-        let chunk = &mut self.chunks[place.segment];
-        chunk.set(place.offset, table)
+        self.chunks.set(place.segment, place.offset, table)
     }
 
     /// Adds so many tables from a place on behind those of a list.
@@ -162,7 +163,7 @@ impl Spine {
         ensures tables { IfOk result (λ count. list.new ≡ list.old ++ take count (drop from (joined self.now))) }
     {
         let place = self.find(from);
-        let chunk = self.chunks[place.segment].list();
+        let chunk = self.chunks.get(place.segment).list();
         let count = (chunk.len() - place.offset).min(most);
         list.push_part(chunk, place.offset, count)?;
         Ok(count)
@@ -253,13 +254,14 @@ impl Spine {
     fn put(&mut self, first: usize, after: usize, fresh: Vec<Chunk>) -> Result<(), Memory>
         requires order { first ≤ after }
         requires in_range { after ≤ length self.old }
+        requires some { All (λ n. 0 < n) (counts_of fresh.items) }
         requires each { All (λ n. n ≤ 1024) (counts_of fresh.items) }
         requires few { sum (take first (counts_of self.old) ++ (counts_of fresh.items ++ drop after (counts_of self.old))) ≤ 16777216 }
         ensures { OnOk result (self.new ≡ take first self.old ++ (fresh.items ++ drop after self.old)) }
     {
-        let counts = counts(*self.chunks.allocator(), &fresh)?;
+        let counts = counts(self.allocator(), &fresh)?;
         let ends = self.ends.spliced(first, after, &counts)?;
-        replace_parts(&mut self.chunks, first, after, fresh)?;
+        self.chunks.replace(first, after, fresh)?;
         self.ends = ends;
         Ok(())
     }
@@ -275,10 +277,8 @@ impl Spine {
     pub(crate) fn is_last_full(&self) -> bool
         ensures { OnFalse result (0 < length self.now) }
     {
-        match self.chunks.last() {
-            None => true,
-            Some(last) => last.list().len() >= CHUNK_MOST,
-        }
+        let count = self.chunks();
+        count == 0 || self.chunks.get(count - 1).list().len() >= CHUNK_MOST
     }
 
     /// The tables of the last chunk.
@@ -286,7 +286,7 @@ impl Spine {
         requires { 0 < length self.now }
         ensures { result.now ≡ slice_index_or self.now (length self.now - 1) [] }
     {
-        self.chunks[self.chunks.len() - 1].list()
+        self.chunks.get(self.chunks() - 1).list()
     }
 
     /// The chunks before the last.
@@ -296,12 +296,10 @@ impl Spine {
     {
         // The spine has few tables.
         let _few = self.len();
-        let Spine {
-            mut chunks,
-            ends: _ends,
-        } = self;
-        let _last = chunks.pop();
-        Spine::of_chunks(chunks)
+        let mut spine = self;
+        let count = spine.chunks();
+        spine.put(count - 1, count, Vec::new(spine.allocator()))?;
+        Ok(spine)
     }
 }
 

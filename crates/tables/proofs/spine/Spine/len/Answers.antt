@@ -4,4 +4,4 @@ use Rattle.tables.proofs.spine.Spine.len.Goals as goal
 
 pub returns-clause-len : goal.returns-clause-len
 returns-clause-len c =
-    rw (← c.self.view_is) (c.len.ensures.len ∙ segments_len c.self.inside.chunks.items c.self.inside.ends c.self.invariant.counted)
+    rw (← c.self.view_is) (c.len.ensures.len ∙ segments_len c.self.inside.chunks c.self.inside.ends c.self.invariant.counted)

@@ -4,7 +4,7 @@ use Rattle.segments.proofs.Counted.{applies_to_segments}
 use Rattle.tables.proofs.spine.Spine.replaced.Goals as goal
 
 pub replaced-requires : goal.replaced-requires
-replaced-requires c = (omega arith, applies_to_segments c.self.inside.chunks.items c.self.inside.ends c.self.invariant.counted c.args.splice.now (rw (← c.self.view_is) at c.requires))
+replaced-requires c = (omega arith, applies_to_segments c.self.inside.chunks c.self.inside.ends c.self.invariant.counted c.args.splice.now (rw (← c.self.view_is) at c.requires))
 
 pub returns : goal.returns
 returns c =

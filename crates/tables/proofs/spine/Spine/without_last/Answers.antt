@@ -1,11 +1,8 @@
-use Rattle.std.proofs.Common.{◌≡◌, ◌-◌, List, length, take, rules, ap, arith}
-use Rattle.segments.specs.Joined.{joined}
-use Rattle.segments.proofs.Joined.{part_within}
-use Rattle.tables.specs.Tables.{StoredTable}
+use Rattle.std.proofs.Common.{◌≡◌, [], rules, arith}
+use Rattle.tables.proofs.Chunks.{few_front}
 use Rattle.tables.proofs.spine.Spine.without_last.Goals as goal
 
-pub of_chunks-requires-clause-few : goal.of_chunks-requires-clause-few
-of_chunks-requires-clause-few c =
-    let cs : List (List StoredTable) = c.self.inside.chunks.items in
-    let same : c.pop-last.new.self.items ≡ take (length cs - 1) cs = search rules in
-    rw same (omega (arith, part_within (length cs - 1) cs, c.len-few.ensures.few, c.len-few.ensures.len, ap (λ xs. length (joined xs)) c.self.view_is))
+pub put-requires-clause-few : goal.put-requires-clause-few
+put-requires-clause-few c =
+    let none : c.new.result.items ≡ [] = search rules in
+    few_front c.args.self c.new.result.items c.chunks-count.result none c.chunks-count.ensures (omega (arith, c.len-few.ensures.few, c.len-few.ensures.len))

@@ -4,12 +4,13 @@ use Rattle.mk_value.specs.Data.{IsOf}
 use Rattle.mk_value.specs.Kinds.{domain_of}
 use Rattle.mk_value.specs.Tables.{domain_at}
 use Rattle.mk_value.specs.Values.{datum_of}
+use Rattle.mk_value.proofs.Cells.{value_is_of}
 use Rattle.mk_value.proofs.Relations.{row_fits_length}
 use Rattle.tables.specs.Columns.{home_of}
 use Rattle.tables.specs.Read.{values_read}
 use Rattle.tables.specs.Rows.{with_rows_inserted}
 use Rattle.tables.specs.Stored.{stored_of}
-use Rattle.tables.proofs.Cells.{value_fits, row_value}
+use Rattle.tables.proofs.Cells.{row_value}
 use Rattle.tables.proofs.Reading.{length-column_of}
 use Rattle.tables.proofs.Rebuilding.{no_first_columns, inserted_more, inserted_all}
 use Rattle.tables.proofs.table.Table.cols_inserted.Goals as goal
@@ -30,7 +31,7 @@ inserted-requires c =
     let long = ap length c.column.ensures.values ∙ length-column_of c.args.self.now.rows c.loop-col.col in
     let wide = row_fits_length c.args.row.now c.args.self.now.schema c.requires.row in
     let value = row_value c.args.row.now c.as_slice-values.result.now c.loop-col.col c.index-values-col.result (omega (arith, wide)) c.as_slice-values.ensures c.index-values-col.is in
-    let fits = value_fits c.args.row.now c.args.self.now.schema c.loop-col.col c.requires.row within in
+    let fits = value_is_of c.args.row.now c.args.self.now.schema c.loop-col.col c.requires.row within in
     let at = c.requires.at in
     let few = c.requires.few in
     record {

@@ -1,0 +1,7 @@
+use Rattle.std.proofs.Common.{◌∙◌}
+use Rattle.segments.proofs.Counted.{segments_len}
+use Rattle.tables.proofs.groups.Groups.len.Goals as goal
+
+pub returns-clause-len : goal.returns-clause-len
+returns-clause-len c =
+    rw (← c.self.view_is) (c.len.ensures.len ∙ segments_len c.self.inside.groups.items c.self.inside.ends c.self.invariant)
