@@ -1,13 +1,14 @@
 -- An edit that nothing refuses: what is known of it, and what it leaves.
-use Rattle.std.proofs.Common.{◌≡◌, ℕ, zero, suc, ◌+◌, ◌<◌, ◌≤◌, Bool, true, false, cond, ltb, List, [], ◌∷◌, length, Option, Some, None, Result, Ok, Err, OnOk, OnErr, refl, ap, sym, subst, ◌∙◌, arith}
+use Rattle.std.proofs.Common.{◌≡◌, ℕ, zero, suc, ◌+◌, ◌<◌, ◌≤◌, Bool, true, false, cond, ltb, List, [], ◌∷◌, ◌++◌, length, map, Option, Some, None, Result, Ok, Err, OnOk, OnErr, refl, ap, sym, subst, ◌∙◌, arith}
 use Rattle.std.specs.Prelude.{IfOk, IsOk}
 use Rattle.std.specs.Option.{option_or}
 use Rattle.std.specs.Result.{IsErrAnd}
 use Rattle.std.proofs.lemmas.Bool.Decides.{nat_tests}
+use Rattle.std.proofs.lemmas.List.{append-nil, drop_all}
 use Rattle.mk_value.specs.declared.path.Step.{Step}
 use Rattle.mk_value.specs.Limits.{max_rows}
 use Rattle.mk_value.specs.Heading.{Domain, Attribute, attributes_of, heading_of, find}
-use Rattle.mk_value.specs.Data.{Datum, IsOf, IsRowOf}
+use Rattle.mk_value.specs.Data.{Datum, IsOf, IsRowOf, default_of}
 use Rattle.mk_value.specs.Tables.{domain_at}
 use Rattle.view_store.specs.declared.error.EditError.{EditError}
 use Rattle.view_store.specs.declared.error.EditError.TheVariants.{NoProp, WrongKind, OutOfRange}
@@ -69,6 +70,11 @@ may_insert t at n values e =
 -- the row that is put in is one of the schema
 pub completed_row_fits : (t : StoredTable) (at n : ℕ) (values full : List Datum) → MayInsert t.schema (length t.rows) at values n → full ≡ completed t.schema values → IsRowOf full t.schema
 completed_row_fits t at n values full may e = subst (λ row. IsRowOf row t.schema) (sym e) (completed_fits values t.schema may.few_values may.fit)
+
+-- a row that has a value for each property is completed
+pub completed_whole : (schema : List Attribute) (row : List Datum) → length row ≡ length schema → completed schema row ≡ row
+completed_whole schema row e =
+    ap (λ rest. row ++ map (λ a. default_of a.domain) rest) (drop_all (length row) schema (omega (arith, e))) ∙ append-nil row
 
 -- a value that may be set
 pub record MaySet (schema : List Attribute) (size i k : ℕ) (d : Datum) : Type 0 where

@@ -1,11 +1,11 @@
 //! Edits that nothing refuses.
-ghost use Rattle.std.specs.Prelude.{◌≡◌, [], None, IfOk, OnOk, OnErr};
+ghost use Rattle.std.specs.Prelude.{◌≡◌, [], length, None, IfOk, OnOk, OnErr};
 ghost use Rattle.tables.specs.Rests.{RestsOn};
 ghost use Rattle.tables.specs.Rows.{completed};
 ghost use Rattle.tables.specs.Shapes.{HasHomes};
 ghost use Rattle.tables.specs.Tables.{IsTable};
 ghost use Rattle.view_store.specs.Changes.{edit_of};
-ghost use Rattle.view_store.specs.Edits.{edited, edited_here};
+ghost use Rattle.view_store.specs.Edits.{Edit, edited, edited_here};
 ghost use Rattle.view_store.specs.Refusals.{due_in};
 
 use crate::change::Change;
@@ -84,16 +84,45 @@ fn edit_here(alloc: Global, table: &mut Table, change: Change<'_>) -> Result<(),
     ensures rests { RestsOn table.new table.old }
 {
     match change {
-        Change::Insert(at, row, count) => {
-            let row = completed_row(alloc, row, table.schema())?;
-            table.insert_rows(at, &row, count)
-        }
+        Change::Insert(at, row, count) => insert_here(alloc, table, at, row, count),
         Change::Set(row, prop, value) => {
             let col = table.schema().find(prop.as_str()).unwrap();
             table.set_cell(row, col, value)
         }
         Change::Remove(at, count) => table.remove_rows(at, count),
     }
+}
+
+/// Puts a row in among these very rows. One that has a value for each property is not copied.
+fn insert_here(
+    alloc: Global,
+    table: &mut Table,
+    at: usize,
+    row: &Row,
+    count: usize,
+) -> Result<(), Memory>
+    requires { due_in table.old [] (Edit.insert at row.now count) ≡ None }
+    ensures ok { OnOk result (table.new ≡ edited_here (Edit.insert at row.now count) table.old) }
+    ensures err { OnErr result (table.new ≡ table.old) }
+    ensures rests { RestsOn table.new table.old }
+{
+    if row.len() == table.schema().len() {
+        return insert_whole(table, at, row, count);
+    }
+    let full = completed_row(alloc, row, table.schema())?;
+    table.insert_rows(at, &full, count)
+}
+
+/// Puts a row in that has a value for each property.
+#[tactic(auto, using(crate::proofs::Editing::completed_whole))]
+fn insert_whole(table: &mut Table, at: usize, row: &Row, count: usize) -> Result<(), Memory>
+    requires due { due_in table.old [] (Edit.insert at row.now count) ≡ None }
+    requires whole { length row.now ≡ length table.old.schema }
+    ensures ok { OnOk result (table.new ≡ edited_here (Edit.insert at row.now count) table.old) }
+    ensures err { OnErr result (table.new ≡ table.old) }
+    ensures rests { RestsOn table.new table.old }
+{
+    table.insert_rows(at, row, count)
 }
 
 /// A copy of the row, with defaults for the values that are missing at its end.
