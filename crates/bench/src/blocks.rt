@@ -1,5 +1,6 @@
 //! Times the blocks of columns: their bytes written whole and in pieces, and columns made of them, in megabytes a second.
 
+use crate::clock::nanoseconds_since;
 use crate::columns::{SPREADS, Spread, samples};
 use anyhow::{Result, ensure};
 use bit_pack::Width;
@@ -60,9 +61,9 @@ fn write_packed(column: &IntCol, room: &mut [u8]) -> u64 {
 
 /// Prints the megabytes a second since `start`.
 fn print_speed(rt: &HostRuntime, what: &str, start: &Instant, bytes: usize) -> Result<()> {
-    let megabytes = f64::from(u32::try_from(bytes).unwrap_or(u32::MAX)) / 1e6;
-    let speed = megabytes / start.elapsed(rt)?.as_secs_f64();
-    print!(rt; " {what} {speed:.0}")?;
+    let spent = nanoseconds_since(rt, start)?;
+    let speed = (bytes as u64).saturating_mul(1_000) / spent.max(1);
+    print!(rt; " {what} {speed}")?;
     Ok(())
 }
 

@@ -7,7 +7,7 @@ mod texts;
 use self::integers::Integers;
 pub use self::integers::{SPREADS, Spread, samples};
 use self::texts::Texts;
-use crate::clock::nanoseconds_each;
+use crate::clock::{nanoseconds_since, print_each};
 use anyhow::Result;
 use mk_value::Memory;
 use std::time::Instant;
@@ -111,8 +111,9 @@ fn time_step<C: Timed>(
 ) -> Result<u64> {
     let start = Instant::now(rt)?;
     let sum = carry_out(column, step)?;
-    let ns = nanoseconds_each(rt, &start, calls)?;
-    print!(rt; " {what} {ns:.1}")?;
+    let spent = nanoseconds_since(rt, &start)?;
+    print!(rt; " {what}")?;
+    print_each(rt, spent, calls)?;
     Ok(sum)
 }
 

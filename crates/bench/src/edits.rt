@@ -1,7 +1,7 @@
 //! Times edits of a long view that nobody else holds: a number and a text that are set all over it, a row put in at its end, and one
 //! put into its middle.
 
-use crate::clock::nanoseconds_each;
+use crate::clock::{nanoseconds_since, print_each};
 use crate::columns::random::Random;
 use crate::structures::name;
 use crate::views::{empty_view, path_to, put_row, set_value};
@@ -126,8 +126,9 @@ fn time_edits(rt: &HostRuntime, rows: u32) -> Result<()> {
     for (what, edit, count) in &TIMED {
         let start = Instant::now(rt)?;
         edited.edit(rt.alloc(), *edit, *count)?;
-        let spent = nanoseconds_each(rt, &start, *count)?;
-        print!(rt; " {what} {spent:.0}")?;
+        let spent = nanoseconds_since(rt, &start)?;
+        print!(rt; " {what}")?;
+        print_each(rt, spent, *count)?;
     }
     println!(rt; "")?;
     Ok(())

@@ -1,6 +1,6 @@
 //! Times rows put into a view inside the middle row of a long one, while another copy of all is held.
 
-use crate::clock::nanoseconds_each;
+use crate::clock::{nanoseconds_since, print_each};
 use crate::structures::name;
 use crate::views::{empty_view, path_to, put_row};
 use anyhow::Result;
@@ -53,11 +53,10 @@ fn time_edits(rt: &HostRuntime, count: u32) -> Result<()> {
     let row = row(rt.alloc())?;
     let start = Instant::now(rt)?;
     put_rows(&mut root, &path, &row)?;
-    let us = nanoseconds_each(rt, &start, EDITS)? / 1e3;
-    println!(rt;
-        "{count} rows: {us:.1} us, {} rows inside",
-        root.size(&path)?
-    )?;
+    let spent = nanoseconds_since(rt, &start)?;
+    print!(rt; "{count} rows, ns an edit:")?;
+    print_each(rt, spent, EDITS)?;
+    println!(rt; ", {} rows inside", root.size(&path)?)?;
     Ok(())
 }
 

@@ -15,7 +15,7 @@ pub use self::pairs::list_pairs;
 use self::rows::{Relation, Tables, make_tables, relation};
 use self::task::{TASKS, Task};
 use self::total::{column_total, total};
-use crate::clock::nanoseconds_each;
+use crate::clock::{nanoseconds_since, print_each};
 use anyhow::Result;
 use mk_value::TableRead;
 use std::time::Instant;
@@ -38,23 +38,32 @@ fn list(rt: &HostRuntime, tables: &Tables, task: Task) -> Result<()> {
 fn measure(rt: &HostRuntime, tables: &Tables, task: Task) -> Result<()> {
     let start = Instant::now(rt)?;
     let answer = task.run(rt.alloc(), tables)?;
-    let answered = nanoseconds_each(rt, &start, MANY)?;
+    let answered = nanoseconds_since(rt, &start)?;
     let sum = total(&answer)?;
-    let read = nanoseconds_each(rt, &start, MANY)?;
-    println!(rt; "{task:?} {answered:.1} {read:.1} {} {sum}", answer.size())?;
+    let read = nanoseconds_since(rt, &start)?;
+    print!(rt; "{task:?}")?;
+    print_each(rt, answered, MANY)?;
+    print_each(rt, read, MANY)?;
+    println!(rt; " {} {sum}", answer.size())?;
     Ok(())
 }
 
 /// Reads the numbers and then the texts of a table, and prints the times and what the values add up to.
 fn measure_cells(rt: &HostRuntime, what: &str, table: &Relation) -> Result<()> {
-    let start = Instant::now(rt)?;
-    let numbers = column_total(table, 0)?;
-    let number = nanoseconds_each(rt, &start, MANY)?;
-    let start = Instant::now(rt)?;
-    let texts = column_total(table, 1)?;
-    let text = nanoseconds_each(rt, &start, MANY)?;
-    println!(rt; "cells {what} {number:.2} {text:.2} {numbers} {texts}")?;
+    print!(rt; "cells {what}")?;
+    let numbers = measure_column(rt, table, 0)?;
+    let texts = measure_column(rt, table, 1)?;
+    println!(rt; " {numbers} {texts}")?;
     Ok(())
+}
+
+/// Reads a column of a table, prints the nanoseconds a row, and gives what its values add up to.
+fn measure_column(rt: &HostRuntime, table: &Relation, col: usize) -> Result<u64> {
+    let start = Instant::now(rt)?;
+    let sum = column_total(table, col)?;
+    let spent = nanoseconds_since(rt, &start)?;
+    print_each(rt, spent, MANY)?;
+    Ok(sum)
 }
 
 /// Reads cells of the table alone, and through each chain.

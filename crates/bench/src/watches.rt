@@ -37,7 +37,7 @@ fn time_events<F: Follower + Drop, L: Ledger>(
 ) -> Result<F> {
     let mut random = Random::new();
     let mut follower = follower;
-    let mut spent = 0.0;
+    let mut spent = 0u64;
     for count in 0..WARM + EVENTS {
         let size = follower.size();
         ensure!(size > 0, "no rows");
@@ -46,10 +46,10 @@ fn time_events<F: Follower + Drop, L: Ledger>(
         let (after, nanoseconds) = follower.follow(rt, &event, &row, steps)?;
         follower = after;
         if count >= WARM {
-            spent += nanoseconds;
+            spent = spent.saturating_add(nanoseconds);
         }
     }
-    print!(rt; " {:.0}", spent / f64::from(EVENTS))?;
+    print!(rt; " {}", spent / u64::from(EVENTS))?;
     Ok(follower)
 }
 

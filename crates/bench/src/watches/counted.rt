@@ -7,7 +7,7 @@ ghost use Rattle.live_counts.specs.Counting.{AreCounts};
 use super::events::is_place;
 use super::follower::Follower;
 use super::numbers::edit;
-use crate::clock::nanoseconds_each;
+use crate::clock::nanoseconds_since;
 use anyhow::{Context, Result, ensure};
 use live::{Event, Over};
 use live_counts::LiveCounts;
@@ -57,7 +57,7 @@ impl Follower for Counted {
         event: &Event,
         row: &Row,
         steps: &mut Steps<L>,
-    ) -> Result<(Counted, f64)> {
+    ) -> Result<(Counted, u64)> {
         let Counted {
             mut table,
             mut counts,
@@ -66,11 +66,11 @@ impl Follower for Counted {
         counts.reserve(1)?;
         let start = Instant::now(rt)?;
         counts.before(&Over { rows: &table }, event, steps);
-        let before = nanoseconds_each(rt, &start, 1)?;
+        let before = nanoseconds_since(rt, &start)?;
         edit(&mut table, event, row)?;
         let start = Instant::now(rt)?;
         counts.after(&Over { rows: &table }, event, steps);
-        let after = nanoseconds_each(rt, &start, 1)?;
-        Ok((Counted { table, counts }, before + after))
+        let after = nanoseconds_since(rt, &start)?;
+        Ok((Counted { table, counts }, before.saturating_add(after)))
     }
 }

@@ -4,7 +4,7 @@ ghost use Rattle.live.specs.Chains.{AreNow};
 use super::events::is_place;
 use super::follower::Follower;
 use super::numbers::edit;
-use crate::clock::nanoseconds_each;
+use crate::clock::nanoseconds_since;
 use anyhow::{Result, ensure};
 use live::{Event, Out, Over, WatchOp, Watches};
 use mk_value::{Row, Steps, TableRead};
@@ -65,7 +65,7 @@ impl Follower for Followed {
         event: &Event,
         row: &Row,
         steps: &mut Steps<L>,
-    ) -> Result<(Followed, f64)> {
+    ) -> Result<(Followed, u64)> {
         let Followed {
             mut table,
             mut watches,
@@ -76,18 +76,18 @@ impl Follower for Followed {
         out.reserve(watches.count())?;
         let start = Instant::now(rt)?;
         watches.before(&Over { rows: &table }, event, steps);
-        let before = nanoseconds_each(rt, &start, 1)?;
+        let before = nanoseconds_since(rt, &start)?;
         edit(&mut table, event, row)?;
         let start = Instant::now(rt)?;
         watches.after(&Over { rows: &table }, event, &mut out, steps);
-        let after = nanoseconds_each(rt, &start, 1)?;
+        let after = nanoseconds_since(rt, &start)?;
         Ok((
             Followed {
                 table,
                 watches,
                 out,
             },
-            before + after,
+            before.saturating_add(after),
         ))
     }
 }

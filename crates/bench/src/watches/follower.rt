@@ -17,7 +17,7 @@ pub trait Follower {
         event: &Event,
         row: &Row,
         steps: &mut Steps<L>,
-    ) -> Result<(Self, f64)>
+    ) -> Result<(Self, u64)>
     where
         Self: Sized;
 }

@@ -3,7 +3,7 @@ ghost use Rattle.std.specs.Prelude.{◌<◌, length, slice_set, IsTrue};
 ghost use Rattle.mapped.specs.Index.{AreKeys};
 
 use super::follower::Follower;
-use crate::clock::nanoseconds_each;
+use crate::clock::nanoseconds_since;
 use crate::structures::schema;
 use anyhow::{Result, bail, ensure};
 use live::Event;
@@ -63,34 +63,34 @@ pub fn index_keys(alloc: Global, count: u32, keys: Keys) -> Result<Keyed> {
 }
 
 /// A row with a key that no row has comes in. The nanoseconds that following took.
-fn insert(rt: &HostRuntime, index: &mut HashIndex, at: usize, key: Row) -> Result<f64> {
+fn insert(rt: &HostRuntime, index: &mut HashIndex, at: usize, key: Row) -> Result<u64> {
     ensure!(at <= index.len() && index.len() < MAX_ROWS, "no place");
     ensure!(index.find(&key).is_none(), "a key that a row has");
     index.reserve(1)?;
     let start = Instant::now(rt)?;
     index.follow(&mapped::Event::Insert(at), Some(key));
-    nanoseconds_each(rt, &start, 1)
+    nanoseconds_since(rt, &start)
 }
 
 /// A row goes. The nanoseconds that following took.
-fn remove(rt: &HostRuntime, index: &mut HashIndex, at: usize) -> Result<f64> {
+fn remove(rt: &HostRuntime, index: &mut HashIndex, at: usize) -> Result<u64> {
     if at >= index.len() {
         bail!("no row");
     }
     index.reserve(1)?;
     let start = Instant::now(rt)?;
     index.follow(&mapped::Event::Remove(at), None);
-    nanoseconds_each(rt, &start, 1)
+    nanoseconds_since(rt, &start)
 }
 
 /// A row gets a key that no other row has. The nanoseconds that following took.
-fn change(rt: &HostRuntime, index: &mut HashIndex, at: usize, key: Row) -> Result<f64> {
+fn change(rt: &HostRuntime, index: &mut HashIndex, at: usize, key: Row) -> Result<u64> {
     ensure!(at < index.len(), "no row");
     ensure!(is_free(index, at, &key), "a key that another row has");
     index.reserve(1)?;
     let start = Instant::now(rt)?;
     index.follow(&mapped::Event::Change(at), Some(key));
-    nanoseconds_each(rt, &start, 1)
+    nanoseconds_since(rt, &start)
 }
 
 /// Whether no row but the one at a position has the key.
@@ -117,7 +117,7 @@ impl Follower for Keyed {
         event: &Event,
         _row: &Row,
         _steps: &mut Steps<L>,
-    ) -> Result<(Keyed, f64)> {
+    ) -> Result<(Keyed, u64)> {
         let mut keyed = self;
         let key = keyed.keys.key(keyed.alloc, keyed.next)?;
         keyed.next = keyed.next.wrapping_add(1);
