@@ -4,7 +4,7 @@
 ghost use Rattle.std.specs.Prelude.{◌+◌, ◌≤◌, length};
 
 use segments::{Replaced, Segments, Shared, Splice, replace_parts};
-use std::alloc::Global;
+use std::alloc::{AllocError, Global};
 use std::process::Abort;
 use std::test::Fail;
 
@@ -142,13 +142,19 @@ fn a_size_after(rt: HostRuntime) {
     assert!(rt; splice.size_after(&nothing) == 3);
 }
 
+/// Makes a shared value its holder's own, and another.
+fn change(shared: &mut Shared<u8>, value: u8) -> Result<(), AllocError> {
+    *shared.own()? = value;
+    Ok(())
+}
+
 /// A shared value that one of its holders makes its own.
 #[test]
 fn shared_values(rt: HostRuntime) -> Result<(), Fail> {
     let shared = Shared::of(rt.alloc(), 7u8)?;
     let mut other = shared.clone()?;
     assert!(rt; other.sole().is_none());
-    *other.own()? = 8;
+    change(&mut other, 8)?;
     assert!(rt; *shared.get() == 7 && *other.get() == 8);
     Ok(())
 }
