@@ -95,13 +95,24 @@ fn repeated(alloc: Global, bytes: &[u8], byte: u8, count: usize) -> Result<Vec<u
     Ok(all)
 }
 
+/// The column of numbers is written as these bytes, and so many zeros.
+fn writes_as(
+    rt: &impl Abort,
+    alloc: Global,
+    column: &IntCol,
+    front: &[u8],
+    zeros: usize,
+) -> Result<(), Fail> {
+    let wanted = repeated(alloc, front, 0, zeros)?;
+    let bytes = written_numbers(rt, alloc, column)?;
+    assert_eq!(rt; bytes.as_slice(), wanted.as_slice());
+    Ok(())
+}
+
 #[test]
 fn writes_numbers(rt: HostRuntime) -> Result<(), Fail> {
     let column = IntCol::from_values(rt.alloc(), &[31, 3, -1], None)?;
-    let bytes = written_numbers(&rt, rt.alloc(), &column)?;
-    let wanted = repeated(rt.alloc(), &[0x1f, 0x03, 0xff], 0, 13)?;
-    assert_eq!(rt; bytes.as_slice(), wanted.as_slice());
-    Ok(())
+    writes_as(&rt, rt.alloc(), &column, &[0x1f, 0x03, 0xff], 13)
 }
 
 /// The column of Ann, a long text, and Bo.
@@ -114,17 +125,47 @@ fn texts(alloc: Global, long: &[u8]) -> Result<BytesCol, Fail> {
     Ok(BytesCol::from_values(alloc, &values, None)?)
 }
 
+/// The short texts are written as these bytes, and so many zeros.
+fn writes_short_as(
+    rt: &impl Abort,
+    alloc: Global,
+    column: &BytesCol,
+    front: &[u8],
+    zeros: usize,
+) -> Result<(), Fail> {
+    let wanted = repeated(alloc, front, 0, zeros)?;
+    let bytes = written_short(rt, alloc, column)?;
+    assert_eq!(rt; bytes.as_slice(), wanted.as_slice());
+    Ok(())
+}
+
+/// The memo at place 1 is written as these bytes, and so many zeros.
+fn writes_memo_as(
+    rt: &impl Abort,
+    alloc: Global,
+    column: &BytesCol,
+    front: &[u8],
+    zeros: usize,
+) -> Result<(), Fail> {
+    let wanted = repeated(alloc, front, 0, zeros)?;
+    let bytes = written_memo(rt, alloc, column, 1)?;
+    assert_eq!(rt; bytes.as_slice(), wanted.as_slice());
+    Ok(())
+}
+
+/// A text that is a memo.
+static LONG: [u8; 600] = [b'x'; 600];
+
+/// The column of Ann, the long text and Bo is written so.
+fn writes_all(rt: &impl Abort, alloc: Global, column: &BytesCol) -> Result<(), Fail> {
+    writes_short_as(rt, alloc, column, b"AnnBo", 11)?;
+    writes_memo_as(rt, alloc, column, &LONG, 8)
+}
+
 #[test]
 fn writes_texts(rt: HostRuntime) -> Result<(), Fail> {
-    let long = repeated(rt.alloc(), b"", b'x', 600)?;
-    let column = texts(rt.alloc(), &long)?;
-    let short = written_short(&rt, rt.alloc(), &column)?;
-    let wanted = repeated(rt.alloc(), b"AnnBo", 0, 11)?;
-    assert_eq!(rt; short.as_slice(), wanted.as_slice());
-    let memo = written_memo(&rt, rt.alloc(), &column, 1)?;
-    let wanted = repeated(rt.alloc(), &long, 0, 8)?;
-    assert_eq!(rt; memo.as_slice(), wanted.as_slice());
-    Ok(())
+    let column = texts(rt.alloc(), &LONG)?;
+    writes_all(&rt, rt.alloc(), &column)
 }
 
 // How many bytes, and how many with their rounding. No bytes take no place; the second and the last take more than one piece.
@@ -137,15 +178,25 @@ static LENGTHS: [(usize, usize); 6] = [
     (8200, 8208),
 ];
 
+/// So many bytes from the start of this file, read as a block.
+fn read_of(rt: &impl Abort, alloc: Global, file: &[u8], len: usize) -> Result<Bytes, Fail> {
+    let mut host = host_over(alloc, file, &[])?;
+    Ok(read(rt, alloc, &mut host, len)?)
+}
+
+/// A block of this file reads so.
+fn reads(rt: &impl Abort, alloc: Global, file: &[u8], want: &[u8]) -> Result<(), Fail> {
+    let back = read_of(rt, alloc, file, want.len())?;
+    assert_eq!(rt; back.as_slice(), want);
+    Ok(())
+}
+
 /// So many bytes come back as they were written, and take so many with their rounding.
 fn comes_back(rt: &impl Abort, alloc: Global, len: usize, rounded: usize) -> Result<(), Fail> {
     let bytes = repeated(alloc, b"", b'm', len)?;
     let image = written_raw(rt, alloc, &bytes)?;
     assert_eq!(rt; image.len(), rounded);
-    let mut host = host_over(alloc, &image, &[])?;
-    let back = read(rt, alloc, &mut host, len)?;
-    assert_eq!(rt; back.as_slice(), bytes.as_slice());
-    Ok(())
+    reads(rt, alloc, &image, &bytes)
 }
 
 #[test]

@@ -165,14 +165,35 @@ fn run(rt: &impl Abort, host: &mut MemHost, steps: &[Step]) {
     }
 }
 
-fn crash(rt: &impl Abort, host: &MemHost, after: u64, images: &[&[u8]; 3]) -> Result<(), Fail> {
+/// What a crash leaves of what was pending.
+static EFFECTS: [Effect; 3] = [Effect::Nothing, Effect::Whole, Effect::Ones];
+
+/// A crash after so many calls leaves this image.
+fn leaves(
+    rt: &impl Abort,
+    host: &MemHost,
+    after: u64,
+    choice: Effect,
+    image: &[u8],
+) -> Result<(), Fail> {
     assert!(rt; after <= host.calls());
-    for (choice, image) in [Effect::Nothing, Effect::Whole, Effect::Ones]
-        .iter()
-        .zip(images)
-    {
-        let left = host.crash(after, *choice)?;
-        assert_eq!(rt; left.as_slice(), *image, "after {after}");
+    let left = host.crash(after, choice)?;
+    assert_eq!(rt; left.as_slice(), image, "after {after}");
+    Ok(())
+}
+
+/// A crash after so many calls leaves an image of these, by what it leaves of what was pending.
+fn crash(rt: &impl Abort, host: &MemHost, after: u64, images: &[&[u8]; 3]) -> Result<(), Fail> {
+    for (choice, image) in EFFECTS.iter().zip(images) {
+        leaves(rt, host, after, *choice, image)?;
+    }
+    Ok(())
+}
+
+/// Each crash leaves its images.
+fn crash_all(rt: &impl Abort, host: &MemHost) -> Result<(), Fail> {
+    for (after, images) in &IMAGES {
+        crash(rt, host, *after, images)?;
     }
     Ok(())
 }
@@ -182,10 +203,7 @@ fn fails_and_crashes_by_the_script(rt: HostRuntime) -> Result<(), Fail> {
     let mut host = MemHost::new(rt.alloc(), b"abcd", b"xyz", &SCRIPT, 2, 99)?;
     run(&rt, &mut host, &SCRIPTED);
     assert_eq!(rt; host.said(), b"he".as_slice());
-    for (after, images) in &IMAGES {
-        crash(&rt, &host, *after, images)?;
-    }
-    Ok(())
+    crash_all(&rt, &host)
 }
 
 #[test]

@@ -288,12 +288,17 @@ fn gives_space_back(rt: HostRuntime) -> Result<(), Fail> {
 
 static EXTENTS: [(u64, u64); 4] = [(0, 0), (1, 16), (16, 16), (86, 96)];
 
-#[test]
+/// A length with its rounding.
 #[tactic(auto, unfolding(free_space::specs::Extents::extent_len))]
+fn rounded(rt: &impl Abort, len: u64) -> u64 {
+    assert!(rt; len < FAR);
+    extent_len(len)
+}
+
+#[test]
 fn rounds_up_to_16(rt: HostRuntime) {
     for (len, extent) in &EXTENTS {
-        assert!(rt; *len < FAR);
-        assert_eq!(rt; extent_len(*len), *extent);
+        assert_eq!(rt; rounded(&rt, *len), *extent);
     }
 }
 
@@ -348,15 +353,43 @@ fn a_place_for_what_no_file_holds(rt: HostRuntime) -> Result<(), Fail> {
     Ok(())
 }
 
-// Behind two holes that are too short for each, 100,000 blocks of 32, 48 and 64 bytes with their rounding. A search of
-// all that is in use for each of them would take ten seconds.
-#[test]
-fn places_many_blocks(rt: HostRuntime) -> Result<(), Fail> {
-    let mut lens = Vec::new(rt.alloc());
-    for number in 0..100_000 {
+/// The lengths of so many blocks of 32, 48 and 64 bytes with their rounding.
+fn many(alloc: Global, count: u64) -> Result<Vec<u64>, Fail> {
+    let mut lens = Vec::new(alloc);
+    for number in 0..count {
         lens.push(17 + number % 3 * 16)?;
     }
-    let (_places, end) = placed(&rt, rt.alloc(), 192, &[span(208, 16), span(240, 16)], &lens)?;
+    Ok(lens)
+}
+
+/// The end after blocks of these lengths.
+fn end_after(
+    rt: &impl Abort,
+    alloc: Global,
+    floor: u64,
+    used: &[Span],
+    lens: &[u64],
+) -> Result<u64, Fail> {
+    Ok(placed(rt, alloc, floor, used, lens)?.1)
+}
+
+/// Around two holes that are too short for each of the blocks.
+static HOLES: [Span; 2] = [
+    Span {
+        place: 208,
+        len: 16,
+    },
+    Span {
+        place: 240,
+        len: 16,
+    },
+];
+
+// Behind two holes that are too short for each, 100,000 blocks. A search of all that is in use for each of them would take ten seconds.
+#[test]
+fn places_many_blocks(rt: HostRuntime) -> Result<(), Fail> {
+    let lens = many(rt.alloc(), 100_000)?;
+    let end = end_after(&rt, rt.alloc(), 192, &HOLES, &lens)?;
     assert_eq!(rt; end, 256 + 33_334 * 32 + 33_333 * (48 + 64));
     Ok(())
 }
