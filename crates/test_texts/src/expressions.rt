@@ -1,28 +1,50 @@
 //! Expressions, read or refused.
-use expr_text::{ExprError, parse_expr, print_expr};
+use expr_text::{Expr, ExprError, parse_expr, print_expr};
 use mk_value::Text;
 use std::alloc::Global;
 use std::process::Abort;
 use std::test::Fail;
 
+/// The expression that a text spells.
+fn parsed(alloc: Global, text: &str) -> Result<Expr, ExprError> {
+    parse_expr(alloc, text)
+}
+
+/// The one spelling of an expression.
+fn spelled(alloc: Global, expr: &Expr) -> Result<String, Fail> {
+    let mut out = Text::new(alloc);
+    print_expr(expr, &mut out)?;
+    Ok(String::from_str(alloc, out.as_str())?)
+}
+
+/// Where a text is refused.
+fn refused(alloc: Global, error: &ExprError) -> Result<String, Fail> {
+    match error {
+        ExprError::Syntax(place) => Ok(format!(in alloc; "syntax {place}")?),
+        ExprError::TooDeep(place) => Ok(format!(in alloc; "deep {place}")?),
+        ExprError::Memory => Err(Fail::new("out of memory")),
+    }
+}
+
 /// How a text reads: the one spelling of its expression, or where it is refused.
 fn reading(alloc: Global, text: &str) -> Result<String, Fail> {
-    match parse_expr(alloc, text) {
-        Ok(expr) => {
-            let mut out = Text::new(alloc);
-            print_expr(&expr, &mut out)?;
-            Ok(String::from_str(alloc, out.as_str())?)
-        }
-        Err(ExprError::Syntax(place)) => Ok(format!(in alloc; "syntax {place}")?),
-        Err(ExprError::TooDeep(place)) => Ok(format!(in alloc; "deep {place}")?),
-        Err(ExprError::Memory) => Err(Fail::new("out of memory")),
+    match parsed(alloc, text) {
+        Ok(expr) => spelled(alloc, &expr),
+        Err(error) => refused(alloc, &error),
     }
+}
+
+/// The text reads, or is refused, so.
+fn reads(rt: &impl Abort, alloc: Global, text: &str, want: &str) -> Result<(), Fail> {
+    let found = reading(alloc, text)?;
+    assert_eq!(rt; found.as_str(), want, "{text}");
+    Ok(())
 }
 
 /// Each text reads, or is refused, as is said beside it.
 fn all_read(rt: &impl Abort, alloc: Global, table: &[(&str, &str)]) -> Result<(), Fail> {
     for (text, want) in table {
-        assert_eq!(rt; reading(alloc, text)?.as_str(), *want, "{text}");
+        reads(rt, alloc, text, want)?;
     }
     Ok(())
 }
@@ -162,7 +184,7 @@ fn depth_decides_by_place(rt: HostRuntime) -> Result<(), Fail> {
     let alloc = rt.alloc();
     for (before, count, inner, behind, want) in &DEPTHS {
         let text = nested(alloc, before, *count, inner, behind)?;
-        assert_eq!(rt; reading(alloc, text.as_str())?.as_str(), *want, "{text}");
+        reads(&rt, alloc, text.as_str(), want)?;
     }
     Ok(())
 }
@@ -172,7 +194,7 @@ fn fifteen_operators_read(rt: HostRuntime) -> Result<(), Fail> {
     let alloc = rt.alloc();
     for inner in ["t", "sort", "t/0/a"] {
         let text = nested(alloc, "", 15, inner, "")?;
-        assert_eq!(rt; reading(alloc, text.as_str())?.as_str(), text.as_str());
+        reads(&rt, alloc, text.as_str(), text.as_str())?;
     }
     Ok(())
 }

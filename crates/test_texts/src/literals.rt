@@ -1,28 +1,46 @@
 //! Tokens, and the literals and paths that stand at the front of them.
 use crate::shown;
+use mk_value::{Literal, Memory};
 use std::alloc::Global;
 use std::process::Abort;
 use std::test::Fail;
-use tokens::{PartError, Piece, ReadError, Token, cut, literal_at, path_at, read_literal};
+use tokens::{Cutting, PartError, Piece, ReadError, Token, cut, literal_at, path_at, read_literal};
 
 /// The tokens of a text with their places, as they are written, and the place of the first piece that is none.
 fn cutting(alloc: Global, text: &str) -> Result<String, Fail> {
-    let cutting = cut(alloc, text)?;
-    let mut out = described(alloc, cutting.pieces.as_slice())?;
+    let cutting = cut_up(alloc, text)?;
+    described(alloc, &cutting)
+}
+
+/// The pieces of a text.
+fn cut_up<'a>(alloc: Global, text: &'a str) -> Result<Cutting<'a>, Memory> {
+    cut(alloc, text)
+}
+
+/// The tokens with their places, and the place of the first piece that is none.
+fn described(alloc: Global, cutting: &Cutting<'_>) -> Result<String, Fail> {
+    let mut out = String::new(alloc);
+    for piece in cutting.pieces.as_slice() {
+        describe(alloc, piece, &mut out)?;
+    }
     if let Some(place) = cutting.flaw {
-        out.push_str(format!(in alloc; "none at {place}")?.as_str())?;
+        describe_flaw(alloc, place, &mut out)?;
     }
     Ok(out)
 }
 
-fn described(alloc: Global, pieces: &[Piece<'_>]) -> Result<String, Fail> {
-    let mut out = String::new(alloc);
-    for piece in pieces {
-        let token = described_token(alloc, &piece.token)?;
-        let place = piece.place;
-        out.push_str(format!(in alloc; "{place}:{token} ")?.as_str())?;
-    }
-    Ok(out)
+/// Adds the place of a piece that is no token.
+fn describe_flaw(alloc: Global, place: usize, out: &mut String) -> Result<(), Fail> {
+    let text = format!(in alloc; "none at {place}")?;
+    Ok(out.push_str(text.as_str())?)
+}
+
+/// Adds a token with its place.
+fn describe(alloc: Global, piece: &Piece<'_>, out: &mut String) -> Result<(), Fail> {
+    let token = described_token(alloc, &piece.token)?;
+    let place = piece.place;
+    let text = format!(in alloc; "{place}:{token} ")?;
+    Ok(out.push_str(text.as_str())?)
 }
 
 fn described_token(alloc: Global, token: &Token<'_>) -> Result<String, Fail> {
@@ -35,39 +53,69 @@ fn described_token(alloc: Global, token: &Token<'_>) -> Result<String, Fail> {
     }
 }
 
+/// The literal that a text spells.
+fn literal_in(alloc: Global, text: &str) -> Result<Literal, ReadError> {
+    read_literal(alloc, text)
+}
+
+/// Where a text is refused.
+fn refused(alloc: Global, error: &ReadError) -> Result<String, Fail> {
+    match error {
+        ReadError::NotAValue(place) => Ok(format!(in alloc; "none at {place}")?),
+        ReadError::Memory => Err(Fail::new("out of memory")),
+    }
+}
+
 /// What reading a literal gives, or the place of its first offence.
 fn reading(alloc: Global, text: &str) -> Result<String, Fail> {
-    match read_literal(alloc, text) {
+    match literal_in(alloc, text) {
         Ok(value) => shown::literal(alloc, &value),
-        Err(ReadError::NotAValue(place)) => Ok(format!(in alloc; "none at {place}")?),
-        Err(ReadError::Memory) => Err(Fail::new("out of memory")),
+        Err(error) => refused(alloc, &error),
     }
+}
+
+/// How many pieces were read at the front, or behind how many reading stops.
+fn counted(read: Result<usize, PartError>) -> Result<(bool, usize), Fail> {
+    match read {
+        Ok(len) => Ok((true, len)),
+        Err(PartError::Stuck(count)) => Ok((false, count)),
+        Err(PartError::Memory) => Err(Fail::new("out of memory")),
+    }
+}
+
+/// How many pieces the path at the front has.
+fn path_len(alloc: Global, pieces: &[Piece<'_>]) -> Result<usize, PartError> {
+    Ok(path_at(alloc, pieces)?.1)
 }
 
 /// How many pieces of the text a path takes at its front, or behind how many reading it stops.
 fn path_of(alloc: Global, text: &str) -> Result<(bool, usize), Fail> {
-    let pieces = cut(alloc, text)?.pieces;
-    match path_at(alloc, pieces.as_slice()) {
-        Ok((_, len)) => Ok((true, len)),
-        Err(PartError::Stuck(count)) => Ok((false, count)),
-        Err(PartError::Memory) => Err(Fail::new("out of memory")),
-    }
+    let cutting = cut_up(alloc, text)?;
+    counted(path_len(alloc, cutting.pieces.as_slice()))
+}
+
+/// How many pieces the literal at the front has.
+fn literal_len(alloc: Global, pieces: &[Piece<'_>]) -> Result<usize, PartError> {
+    Ok(literal_at(alloc, pieces)?.1)
 }
 
 /// The same of a literal.
 fn literal_of(alloc: Global, text: &str) -> Result<(bool, usize), Fail> {
-    let pieces = cut(alloc, text)?.pieces;
-    match literal_at(alloc, pieces.as_slice()) {
-        Ok((_, len)) => Ok((true, len)),
-        Err(PartError::Stuck(count)) => Ok((false, count)),
-        Err(PartError::Memory) => Err(Fail::new("out of memory")),
-    }
+    let cutting = cut_up(alloc, text)?;
+    counted(literal_len(alloc, cutting.pieces.as_slice()))
+}
+
+/// The text is cut so.
+fn is_cut(rt: &impl Abort, alloc: Global, text: &str, want: &str) -> Result<(), Fail> {
+    let found = cutting(alloc, text)?;
+    assert_eq!(rt; found.as_str(), want, "{text}");
+    Ok(())
 }
 
 /// Each text is cut as is said beside it.
 fn all_cut(rt: &impl Abort, alloc: Global, table: &[(&str, &str)]) -> Result<(), Fail> {
     for (text, want) in table {
-        assert_eq!(rt; cutting(alloc, text)?.as_str(), *want, "{text}");
+        is_cut(rt, alloc, text, want)?;
     }
     Ok(())
 }
@@ -169,10 +217,17 @@ fn only_spaces_part_tokens(rt: HostRuntime) -> Result<(), Fail> {
     all_cut(&rt, rt.alloc(), &SPACES)
 }
 
+/// The text reads as a literal, or is refused, so.
+fn reads(rt: &impl Abort, alloc: Global, text: &str, want: &str) -> Result<(), Fail> {
+    let found = reading(alloc, text)?;
+    assert_eq!(rt; found.as_str(), want, "{text}");
+    Ok(())
+}
+
 /// Each text reads as a literal, or is refused, as is said beside it.
 fn all_read(rt: &impl Abort, alloc: Global, table: &[(&str, &str)]) -> Result<(), Fail> {
     for (text, want) in table {
-        assert_eq!(rt; reading(alloc, text)?.as_str(), *want, "{text}");
+        reads(rt, alloc, text, want)?;
     }
     Ok(())
 }

@@ -50,14 +50,29 @@ fn one(alloc: Global, text: &str) -> Result<Reply, Fail> {
     Ok(Reply::One(Text::from_str(alloc, text)?))
 }
 
+/// The reply that gives these lines.
+fn joined(alloc: Global, lines: &Texts) -> Result<Reply, Fail> {
+    let bytes = lines_of(alloc, lines.as_slice())?;
+    Ok(Reply::Lines(lines.len() as u64, bytes))
+}
+
 /// The reply that gives the texts.
 fn lines(alloc: Global, texts: &[&str]) -> Result<Reply, Fail> {
     let mut lines = Texts::new(alloc);
     for text in texts {
         lines.push(Text::from_str(alloc, text)?)?;
     }
-    let bytes = lines_of(alloc, lines.as_slice())?;
-    Ok(Reply::Lines(texts.len() as u64, bytes))
+    joined(alloc, &lines)
+}
+
+/// The reply that gives a text has these lines.
+fn says_one(rt: &impl Abort, alloc: Global, text: &str, want: &str) -> Result<(), Fail> {
+    says(rt, alloc, one(alloc, text)?, want)
+}
+
+/// The reply that gives the texts has these lines.
+fn says_lines(rt: &impl Abort, alloc: Global, texts: &[&str], want: &str) -> Result<(), Fail> {
+    says(rt, alloc, lines(alloc, texts)?, want)
 }
 
 /// Two rows.
@@ -66,11 +81,14 @@ static ROWS: [&str; 2] = ["(\"Ann\",31)", "(\"Bob\",31)"];
 #[test]
 fn texts_stand_on_lines_of_their_own(rt: HostRuntime) -> Result<(), Fail> {
     let alloc = rt.alloc();
-    let structure = one(alloc, "people[name:S,age:I]")?;
-    says(&rt, alloc, structure, "ok people[name:S,age:I]\n")?;
-    says(&rt, alloc, lines(alloc, &[])?, "ok 0\n")?;
-    let rows = lines(alloc, &ROWS)?;
-    says(&rt, alloc, rows, "ok 2\n(\"Ann\",31)\n(\"Bob\",31)\n")
+    says_one(
+        &rt,
+        alloc,
+        "people[name:S,age:I]",
+        "ok people[name:S,age:I]\n",
+    )?;
+    says_lines(&rt, alloc, &[], "ok 0\n")?;
+    says_lines(&rt, alloc, &ROWS, "ok 2\n(\"Ann\",31)\n(\"Bob\",31)\n")
 }
 
 static REFUSALS: [(Refusal, &str); 18] = [
@@ -97,8 +115,7 @@ static REFUSALS: [(Refusal, &str); 18] = [
 #[test]
 fn refusals_have_their_numbers(rt: HostRuntime) -> Result<(), Fail> {
     for (refusal, want) in &REFUSALS {
-        let text = text_of(rt.alloc(), &Reply::Refused(*refusal))?;
-        assert_eq!(rt; text.as_str(), *want);
+        says(&rt, rt.alloc(), Reply::Refused(*refusal), want)?;
     }
     Ok(())
 }

@@ -1,6 +1,7 @@
 //! Structure texts, read, refused and printed.
-use mk_value::{Kind, Text};
+use mk_value::{Kind, Name, Schema, Text};
 use std::alloc::Global;
+use std::process::Abort;
 use std::test::Fail;
 use struct_text::{StructError, parse, print};
 
@@ -92,12 +93,17 @@ fn refusals_at_limits(rt: HostRuntime) {
     }
 }
 
+/// What a structure prints.
+fn print_of(alloc: Global, name: &Name, schema: &Schema) -> Result<Text, Fail> {
+    let mut out = Text::new(alloc);
+    print(name, schema, &mut out)?;
+    Ok(out)
+}
+
 /// What a text is read as, printed.
 fn printed(alloc: Global, text: &str) -> Result<Text, Fail> {
     let (name, schema) = parse(alloc, text)?;
-    let mut out = Text::new(alloc);
-    print(&name, &schema, &mut out)?;
-    Ok(out)
+    print_of(alloc, &name, &schema)
 }
 
 static STRUCTURES: [&str; 6] = [
@@ -117,13 +123,18 @@ fn what_is_read_is_printed(rt: HostRuntime) -> Result<(), Fail> {
     Ok(())
 }
 
-#[test]
-fn what_is_read(rt: HostRuntime) -> Result<(), Fail> {
-    let (name, schema) = parse(rt.alloc(), "book[name:S,phones[kind:S],born:L]")?;
-    assert_eq!(rt; name.as_str(), "book");
+/// Asserts the properties of a book.
+fn is_of_books(rt: &impl Abort, schema: &Schema) {
     assert_eq!(rt; schema.len(), 3);
     assert_eq!(rt; schema.depth(), 2);
     assert_eq!(rt; schema.find("phones"), Some(1));
     assert!(rt; matches!(schema.as_slice(), [_, _, born] if matches!(born.kind, Kind::L)));
+}
+
+#[test]
+fn what_is_read(rt: HostRuntime) -> Result<(), Fail> {
+    let (name, schema) = parse(rt.alloc(), "book[name:S,phones[kind:S],born:L]")?;
+    assert_eq!(rt; name.as_str(), "book");
+    is_of_books(&rt, &schema);
     Ok(())
 }

@@ -1,7 +1,8 @@
 //! Values: how literals become them, what they print, which kind they fit, and how they are ordered.
 use mk_value::{
-    FitError, HeldRows, KeyPart, KeyParts, KeyRow, Kind, Name, Path, Positions, Rows, Same, Schema,
-    Step, TableRead, Text, Value, cmp_value, default_of, fits, print_value, rows_fit, to_value,
+    FitError, HeldRows, KeyPart, KeyParts, KeyRow, Kind, Literal, Name, Path, Positions, Rows,
+    Same, Schema, Step, TableRead, Text, Value, cmp_value, default_of, fits, print_value, rows_fit,
+    to_value,
 };
 use std::alloc::Global;
 use std::cmp::Ordering;
@@ -20,6 +21,14 @@ fn schema_of(alloc: Global, kind: &str) -> Result<Schema, Fail> {
     schema_in(alloc, format!(in alloc; "t[x{kind}]")?.as_str())
 }
 
+/// The kind of a schema's first property.
+fn first(schema: &Schema) -> Result<&Kind, Fail> {
+    match schema.as_slice().first() {
+        Some(prop) => Ok(&prop.kind),
+        None => Err(Fail::new("no property")),
+    }
+}
+
 /// The value of this kind that a literal spells.
 fn value_under(alloc: Global, kind: &Kind, literal: &str) -> Result<Value, Fail> {
     let literal = read_literal(alloc, literal)?;
@@ -29,23 +38,36 @@ fn value_under(alloc: Global, kind: &Kind, literal: &str) -> Result<Value, Fail>
 /// The value of this kind that a literal spells.
 fn value(alloc: Global, kind: &str, literal: &str) -> Result<Value, Fail> {
     let schema = schema_of(alloc, kind)?;
-    match schema.as_slice().first() {
-        Some(prop) => value_under(alloc, &prop.kind, literal),
-        None => Err(Fail::new("no property")),
+    value_under(alloc, first(&schema)?, literal)
+}
+
+/// What a value prints.
+fn printed(alloc: Global, value: &Value) -> Result<Text, Fail> {
+    let mut out = Text::new(alloc);
+    print_value(value, &mut out)?;
+    Ok(out)
+}
+
+/// Why a literal becomes nothing.
+fn refused(alloc: Global, error: &FitError) -> Result<Text, Fail> {
+    match error {
+        FitError::WrongKind => Ok(Text::from_str(alloc, "wrong kind")?),
+        FitError::TooLong => Ok(Text::from_str(alloc, "too long")?),
+        FitError::Memory => Err(Fail::new("out of memory")),
     }
 }
 
+/// What a literal becomes under a kind.
+fn converted(alloc: Global, literal: &Literal, kind: &Kind) -> Result<Value, FitError> {
+    to_value(alloc, literal, kind)
+}
+
 /// What a literal becomes under a kind, printed, or why it becomes nothing.
-fn becoming(alloc: Global, kind: &Kind, literal: &str) -> Result<Text, Fail> {
-    let literal = read_literal(alloc, literal)?;
-    let mut out = Text::new(alloc);
-    match to_value(alloc, &literal, kind) {
-        Ok(value) => print_value(&value, &mut out)?,
-        Err(FitError::WrongKind) => out.push_str("wrong kind")?,
-        Err(FitError::TooLong) => out.push_str("too long")?,
-        Err(FitError::Memory) => return Err(Fail::new("out of memory")),
+fn becoming(alloc: Global, kind: &Kind, literal: &Literal) -> Result<Text, Fail> {
+    match converted(alloc, literal, kind) {
+        Ok(value) => printed(alloc, &value),
+        Err(error) => refused(alloc, &error),
     }
-    Ok(out)
 }
 
 /// A kind, the text of its default, a literal, and what that becomes.
@@ -76,18 +98,34 @@ static VALUES: [(&str, &str, &str, &str); 15] = [
     ),
 ];
 
+/// The default of a kind prints so.
+fn has_default(rt: &impl Abort, alloc: Global, kind: &Kind, want: &str) -> Result<(), Fail> {
+    let text = printed(alloc, &default_of(alloc, kind))?;
+    assert_eq!(rt; text.as_str(), want);
+    Ok(())
+}
+
+/// The literal becomes that.
+fn becomes(
+    rt: &impl Abort,
+    alloc: Global,
+    kind: &Kind,
+    literal: &str,
+    want: &str,
+) -> Result<(), Fail> {
+    let literal = read_literal(alloc, literal)?;
+    let text = becoming(alloc, kind, &literal)?;
+    assert_eq!(rt; text.as_str(), want);
+    Ok(())
+}
+
 /// The default of a kind prints so, and a literal becomes that.
 fn has_value(rt: &impl Abort, alloc: Global, case: &(&str, &str, &str, &str)) -> Result<(), Fail> {
     let (kind, default, literal, want) = *case;
     let schema = schema_of(alloc, kind)?;
-    let Some(prop) = schema.as_slice().first() else {
-        return Err(Fail::new("no property"));
-    };
-    let mut out = Text::new(alloc);
-    print_value(&default_of(alloc, &prop.kind), &mut out)?;
-    assert_eq!(rt; out.as_str(), default);
-    assert_eq!(rt; becoming(alloc, &prop.kind, literal)?.as_str(), want);
-    Ok(())
+    let kind = first(&schema)?;
+    has_default(rt, alloc, kind, default)?;
+    becomes(rt, alloc, kind, literal, want)
 }
 
 #[test]
@@ -110,14 +148,16 @@ static FITTING: [(&str, &str, &str, bool); 8] = [
     ("[age:I]", "{(31)}", "[age:I,name:S]", false),
 ];
 
+/// Whether a value fits a kind.
+fn fits_kind(alloc: Global, value: &Value, kind: &str) -> Result<bool, Fail> {
+    let schema = schema_of(alloc, kind)?;
+    Ok(fits(value, first(&schema)?))
+}
+
 /// Whether a value of a kind fits another.
 fn does_fit(alloc: Global, own: &str, literal: &str, kind: &str) -> Result<bool, Fail> {
     let given = value(alloc, own, literal)?;
-    let schema = schema_of(alloc, kind)?;
-    match schema.as_slice().first() {
-        Some(prop) => Ok(fits(&given, &prop.kind)),
-        None => Err(Fail::new("no property")),
-    }
+    fits_kind(alloc, &given, kind)
 }
 
 #[test]
@@ -188,6 +228,11 @@ fn values_are_ordered(rt: HostRuntime) -> Result<(), Fail> {
 }
 
 /// The order of two keys, and whether they are equal.
+fn order_of(first: &KeyRow, second: &KeyRow) -> (Ordering, bool) {
+    (first.cmp(second), first == second)
+}
+
+/// The order of the keys of two rows of the table, and whether they are equal.
 fn key_order(
     alloc: Global,
     one: (i32, u64, bool),
@@ -196,7 +241,7 @@ fn key_order(
 ) -> Result<(Ordering, bool), Fail> {
     let first = key(alloc, one.0, down, one.1, one.2)?;
     let second = key(alloc, two.0, down, two.1, two.2)?;
-    Ok((first.cmp(&second), first == second))
+    Ok(order_of(&first, &second))
 }
 
 #[test]
@@ -209,37 +254,62 @@ fn keys_are_ordered(rt: HostRuntime) -> Result<(), Fail> {
     Ok(())
 }
 
-/// The rows 5 and 1 of a table of numbers: two copies of 5 put before 1, and one taken out.
-fn five_and_one(alloc: Global) -> Result<Rows, Fail> {
-    let (Value::V(mut rows), Value::V(five)) = (
-        value(alloc, "[x:I]", "{(1)}")?,
-        value(alloc, "[x:I]", "{(5)}")?,
-    ) else {
-        return Err(Fail::new("no rows"));
-    };
-    for row in five.as_slice() {
+/// The rows of a table that a literal spells.
+fn rows_in(alloc: Global, literal: &str) -> Result<Rows, Fail> {
+    match value(alloc, "[x:I]", literal)? {
+        Value::V(rows) => Ok(rows),
+        _ => Err(Fail::new("no rows")),
+    }
+}
+
+/// Puts two copies of each of the given rows at the front, and takes one out.
+fn put_in(rows: &mut Rows, given: &Rows) -> Result<(), Fail> {
+    for row in given.as_slice() {
         rows.insert(0, row, 2)?;
     }
     if rows.len() == 0 {
         return Err(Fail::new("no rows"));
     }
     rows.remove(0, 1);
+    Ok(())
+}
+
+/// The rows 5 and 1 of a table of numbers: two copies of 5 put before 1, and one taken out.
+fn five_and_one(alloc: Global) -> Result<Rows, Fail> {
+    let mut rows = rows_in(alloc, "{(1)}")?;
+    put_in(&mut rows, &rows_in(alloc, "{(5)}")?)?;
     Ok(rows)
+}
+
+/// The table of the rows.
+fn table_of(schema: Schema, rows: Rows) -> Result<HeldRows, Fail> {
+    if !rows_fit(&rows, &schema) {
+        return Err(Fail::new("no rows of the schema"));
+    }
+    Ok(HeldRows::of(schema, rows).same()?)
+}
+
+/// Whether the table has this number in a row of its only column.
+fn has_number(table: &HeldRows, row: usize, number: i32) -> Result<bool, Fail> {
+    if row >= table.size() || table.schema().len() != 1 {
+        return Err(Fail::new("another table"));
+    }
+    let value = table.get(row, 0)?;
+    Ok(matches!(value, Value::I(found) if found == number))
 }
 
 #[test]
 fn a_table_of_plain_rows_is_read_by_row_and_column(rt: HostRuntime) -> Result<(), Fail> {
     let schema = schema_of(rt.alloc(), ":I")?;
-    let rows = five_and_one(rt.alloc())?;
-    if !rows_fit(&rows, &schema) {
-        return Err(Fail::new("no rows of the schema"));
-    }
-    let table = HeldRows::of(schema, rows).same()?;
-    if table.size() != 2 || table.schema().len() != 1 {
-        return Err(Fail::new("another table"));
-    }
-    assert!(rt; matches!(table.get(0, 0)?, Value::I(5)));
-    assert!(rt; matches!(table.get(1, 0)?, Value::I(1)));
+    let table = table_of(schema, five_and_one(rt.alloc())?)?;
+    has_five_and_one(&rt, &table)
+}
+
+/// Asserts that the table has the rows 5 and 1.
+fn has_five_and_one(rt: &impl Abort, table: &HeldRows) -> Result<(), Fail> {
+    assert_eq!(rt; table.size(), 2);
+    assert!(rt; has_number(table, 0, 5)?);
+    assert!(rt; has_number(table, 1, 1)?);
     Ok(())
 }
 
@@ -261,14 +331,48 @@ fn names_have_1_to_31_letters_digits_and_underscores(rt: HostRuntime) {
     }
 }
 
-#[test]
-fn a_schema_finds_its_property(rt: HostRuntime) -> Result<(), Fail> {
-    let schema = schema_of(rt.alloc(), "[y[z:I]]")?;
-    assert!(rt; schema.is_same(&schema.copy()?));
+/// A schema is the same as its copy.
+fn is_its_copy(rt: &impl Abort, schema: &Schema) -> Result<(), Fail> {
+    let copy = schema.copy()?;
+    assert!(rt; schema.is_same(&copy));
+    Ok(())
+}
+
+/// The schema has `x`, and not the `y` of the table in it, and is three tables deep.
+fn has_x_alone(rt: &impl Abort, schema: &Schema) {
     assert_eq!(rt; schema.find("x"), Some(0));
     assert_eq!(rt; schema.find("y"), None);
     assert_eq!(rt; schema.depth(), 3);
-    Ok(())
+}
+
+#[test]
+fn a_schema_finds_its_property(rt: HostRuntime) -> Result<(), Fail> {
+    let schema = schema_of(rt.alloc(), "[y[z:I]]")?;
+    has_x_alone(&rt, &schema);
+    is_its_copy(&rt, &schema)
+}
+
+/// Adds a step to a row of the view of a name.
+fn add_step(path: &mut Path, row: u64, name: &Name) -> Result<(), Fail> {
+    let prop = name.copy()?;
+    Ok(path.push(Step { row, prop })?)
+}
+
+/// The path of a name and six steps.
+fn six_steps(alloc: Global, name: &Name) -> Result<Path, Fail> {
+    let mut path = Path::new(alloc, name.copy()?);
+    for row in 0..6 {
+        add_step(&mut path, row, name)?;
+    }
+    Ok(path)
+}
+
+/// Asserts the path of book and six steps.
+fn has_six_steps(rt: &impl Abort, path: &Path) {
+    assert_eq!(rt; path.name().as_str(), "book");
+    let steps = path.steps();
+    assert!(rt; steps.len() == 6);
+    assert!(rt; steps[5].row == 5);
 }
 
 /// More steps than stand in the path itself.
@@ -277,14 +381,8 @@ fn a_path_keeps_its_name_and_its_steps(rt: HostRuntime) -> Result<(), Fail> {
     let Some(name) = Name::from_bytes(b"book") else {
         return Err(Fail::new("no name"));
     };
-    let mut path = Path::new(rt.alloc(), name.copy()?);
-    for row in 0..6 {
-        let prop = name.copy()?;
-        path.push(Step { row, prop })?;
-    }
-    assert_eq!(rt; path.name().as_str(), "book");
-    assert_eq!(rt; path.steps().len(), 6);
-    assert_eq!(rt; path.steps().last().map(|step| step.row), Some(5));
+    let path = six_steps(rt.alloc(), &name)?;
+    has_six_steps(&rt, &path);
     Ok(())
 }
 
