@@ -102,9 +102,10 @@ fn compares_at<R: Abort>(rt: &R, column: &BytesCol, a: usize, b: usize, want: Or
     assert_eq!(rt; column.cmp_at(a, b), want);
 }
 
-/// Asserts that the column's first value is less than the text with a greater byte at any place, greater than the text with a less
+/// Asserts that the column's one value is less than the text with a greater byte at any place, greater than the text with a less
 /// one or cut off there, and equal to the text itself.
 fn differs_at_each_place<R: Abort>(rt: &R, column: &BytesCol, text: &mut [u8]) {
+    assert_eq!(rt; column.len(), 1);
     compares(rt, column, 0, text, Ordering::Equal);
     for at in 0..text.len() {
         let byte = text[at];
