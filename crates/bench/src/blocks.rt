@@ -80,9 +80,14 @@ fn time_writing(rt: &HostRuntime, what: &str, column: &IntCol, room: &mut [u8]) 
 fn time_integers(rt: &HostRuntime, spread: Spread) -> Result<()> {
     print!(rt; "{} bits:", spread.bits)?;
     let column = integers(rt.alloc(), spread)?;
-    time_room(rt, "in_pieces", &column, PIECE)?;
-    let bytes = time_room(rt, "whole", &column, column.packed().len())?;
-    time_packed(rt, &column, &bytes)
+    time_column(rt, &column)
+}
+
+/// Times the packed bytes of a column, and ends the line.
+fn time_column(rt: &HostRuntime, column: &IntCol) -> Result<()> {
+    time_room(rt, "in_pieces", column, PIECE)?;
+    let bytes = time_room(rt, "whole", column, column.packed().len())?;
+    time_packed(rt, column, &bytes)
 }
 
 /// Times the packed bytes of a column written into room for so many bytes, and gives what was written last.
@@ -101,8 +106,13 @@ fn unpacked(alloc: Global, width: Width, bytes: &[u8]) -> Result<IntCol> {
 fn time_packed(rt: &HostRuntime, column: &IntCol, bytes: &[u8]) -> Result<()> {
     let start = Instant::now(rt)?;
     let copy = unpacked(rt.alloc(), column.width(), bytes)?;
-    print_speed(rt, "from_packed", &start, bytes.len())?;
-    println!(rt; " ({})", copy.len())?;
+    end_line(rt, "from_packed", &start, bytes.len(), copy.len())
+}
+
+/// Prints the megabytes a second since `start` and how many values there are, and ends the line.
+fn end_line(rt: &HostRuntime, what: &str, start: &Instant, bytes: usize, len: usize) -> Result<()> {
+    print_speed(rt, what, start, bytes)?;
+    println!(rt; " ({len})")?;
     Ok(())
 }
 
@@ -129,9 +139,7 @@ fn from_blocks(alloc: Global, sizes: &IntCol, short: &[u8]) -> Result<BytesCol> 
 fn time_blocks(rt: &HostRuntime, sizes: &IntCol, short: &[u8]) -> Result<()> {
     let start = Instant::now(rt)?;
     let column = from_blocks(rt.alloc(), sizes, short)?;
-    print_speed(rt, "from_blocks", &start, short.len())?;
-    println!(rt; " ({})", column.len())?;
-    Ok(())
+    end_line(rt, "from_blocks", &start, short.len(), column.len())
 }
 
 /// Times the blocks of columns of integers at each width, and of texts.
