@@ -4,7 +4,7 @@
 use crate::clock::{nanoseconds_since, print_each};
 use crate::columns::random::Random;
 use crate::structures::name;
-use crate::views::{empty_view, path_to, put_row, set_value};
+use crate::views::{filled_view, path_to, put_row, set_value};
 use anyhow::{Result, ensure};
 use mk_value::{Name, Path, Row, Text, Value};
 use std::alloc::Global;
@@ -32,19 +32,16 @@ static SIZES: [u32; 4] = [100_000, 1_000_000, 4_000_000, 16_000_000];
 
 /// A view of rows of a number, a text and a long number, the path to it, and a row.
 #[derive(Drop)]
-struct Edited {
+struct Edited<'a> {
     root: Root,
-    path: Path,
-    row: Row,
+    path: &'a Path,
+    row: &'a Row,
 }
 
-impl Edited {
+impl<'a> Edited<'a> {
     /// A view of so many rows, all alike.
-    fn new(alloc: Global, rows: u32) -> Result<Edited> {
-        let path = path_to(alloc, b"t")?;
-        let row = row(alloc)?;
-        let mut root = empty_view(alloc, "t[n:I,s:S,l:L]")?;
-        put_row(&mut root, &path, 0, &row, rows)?;
+    fn new(alloc: Global, path: &'a Path, row: &'a Row, rows: u32) -> Result<Edited<'a>> {
+        let root = filled_view(alloc, "t[n:I,s:S,l:L]", path, row, rows)?;
         Ok(Edited { root, path, row })
     }
 
@@ -58,7 +55,7 @@ impl Edited {
     }
 
     fn size(&self) -> Result<usize> {
-        Ok(self.root.size(&self.path)?)
+        Ok(self.root.size(self.path)?)
     }
 
     /// Sets numbers at random places, each of as many bits as those that are there.
@@ -86,14 +83,14 @@ impl Edited {
     fn set_somewhere(&mut self, random: &mut Random, prop: &Name, value: &Value) -> Result<()> {
         let size = self.size()?;
         ensure!(size > 0, "no rows");
-        set_value(&mut self.root, &self.path, random.place(size), prop, value)
+        set_value(&mut self.root, self.path, random.place(size), prop, value)
     }
 
     /// Puts rows in at the end, one after another.
     fn add(&mut self, count: u32) -> Result<()> {
         for _edit in 0..count {
             let end = self.size()?;
-            put_row(&mut self.root, &self.path, end, &self.row, 1)?;
+            put_row(&mut self.root, self.path, end, self.row, 1)?;
         }
         Ok(())
     }
@@ -102,7 +99,7 @@ impl Edited {
     fn insert(&mut self, count: u32) -> Result<()> {
         for _edit in 0..count {
             let middle = self.size()? / 2;
-            put_row(&mut self.root, &self.path, middle, &self.row, 1)?;
+            put_row(&mut self.root, self.path, middle, self.row, 1)?;
         }
         Ok(())
     }
@@ -121,17 +118,45 @@ fn row(alloc: Global) -> Result<Row> {
 
 /// Times all edits of a view of so many rows, and prints a line.
 fn time_edits(rt: &HostRuntime, rows: u32) -> Result<()> {
-    let mut edited = Edited::new(rt.alloc(), rows)?;
+    let path = path_to(rt.alloc(), b"t")?;
+    time_path(rt, &path, rows)
+}
+
+/// Times all edits of the view of a path.
+fn time_path(rt: &HostRuntime, path: &Path, rows: u32) -> Result<()> {
+    let row = row(rt.alloc())?;
+    time_view(rt, path, &row, rows)
+}
+
+/// Times all edits of the view of a path, with a row so many times.
+fn time_view(rt: &HostRuntime, path: &Path, row: &Row, rows: u32) -> Result<()> {
+    let mut edited = Edited::new(rt.alloc(), path, row, rows)?;
+    time_each(rt, &mut edited, rows)
+}
+
+/// Times each kind of edits, and prints the line.
+fn time_each(rt: &HostRuntime, edited: &mut Edited<'_>, rows: u32) -> Result<()> {
     print!(rt; "{rows} rows, ns an edit:")?;
     for (what, edit, count) in &TIMED {
-        let start = Instant::now(rt)?;
-        edited.edit(rt.alloc(), *edit, *count)?;
-        let spent = nanoseconds_since(rt, &start)?;
-        print!(rt; " {what}")?;
-        print_each(rt, spent, *count)?;
+        time_edit(rt, edited, what, *edit, *count)?;
     }
     println!(rt; "")?;
     Ok(())
+}
+
+/// Times so many edits of a kind, and prints the nanoseconds of one.
+fn time_edit(
+    rt: &HostRuntime,
+    edited: &mut Edited<'_>,
+    what: &str,
+    edit: Edit,
+    count: u32,
+) -> Result<()> {
+    let start = Instant::now(rt)?;
+    edited.edit(rt.alloc(), edit, count)?;
+    let spent = nanoseconds_since(rt, &start)?;
+    print!(rt; " {what}")?;
+    print_each(rt, spent, count)
 }
 
 /// Times the edits at each size.

@@ -19,18 +19,23 @@ use std::env;
 
 fn main(rt: HostRuntime) -> Result<()> {
     let words: Vec<String> = env::args(&rt)?.collect(rt.alloc())?;
+    measure(&rt, &words)
+}
+
+/// Times what the words of the command line ask for. The first of them is the program.
+fn measure(rt: &HostRuntime, words: &[String]) -> Result<()> {
     match words.get(1).map(|word| word.as_str()) {
-        None => operators::list_all(&rt),
-        Some("blocks") => blocks::measure_all(&rt),
-        Some("columns") => columns::measure_all(&rt),
-        Some("edits") => edits::measure_all(&rt),
-        Some("nested") => nested::measure_all(&rt),
-        Some("operators") => operators::measure_all(&rt),
+        None => operators::list_all(rt),
+        Some("blocks") => blocks::measure_all(rt),
+        Some("columns") => columns::measure_all(rt),
+        Some("edits") => edits::measure_all(rt),
+        Some("nested") => nested::measure_all(rt),
+        Some("operators") => operators::measure_all(rt),
         Some("pairs") => operators::list_pairs(
-            &rt,
+            rt,
             words.get(2).map_or("none", |word| word.as_str()),
         ),
-        Some("watches") => watches::measure_all(&rt),
+        Some("watches") => watches::measure_all(rt),
         Some(_) => bail!(
             "the words are blocks, columns, edits, nested, operators, pairs or watches"
         ),

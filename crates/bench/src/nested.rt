@@ -2,7 +2,7 @@
 
 use crate::clock::{nanoseconds_since, print_each};
 use crate::structures::name;
-use crate::views::{empty_view, path_to, put_row};
+use crate::views::{filled_view, path_to, put_row};
 use anyhow::Result;
 use mk_value::{Path, Row, Step, Value};
 use std::alloc::Global;
@@ -40,23 +40,37 @@ fn put_rows(root: &mut Root, path: &Path, row: &Row) -> Result<()> {
 }
 
 /// A view of so many rows, each with a view inside.
-fn views(alloc: Global, count: u32) -> Result<Root> {
-    let mut root = empty_view(alloc, "t[k:I,v[x:I,s:S]]")?;
-    put_row(&mut root, &path_to(alloc, b"t")?, 0, &row(alloc)?, count)?;
-    Ok(root)
+fn views(alloc: Global, row: &Row, count: u32) -> Result<Root> {
+    let path = path_to(alloc, b"t")?;
+    filled_view(alloc, "t[k:I,v[x:I,s:S]]", &path, row, count)
 }
 
 /// Times the edits at so many rows, and prints a line.
 fn time_edits(rt: &HostRuntime, count: u32) -> Result<()> {
     let path = inner(rt.alloc(), count / 2)?;
-    let mut root = views(rt.alloc(), count)?;
+    time_path(rt, &path, count)
+}
+
+/// Times the edits at a path.
+fn time_path(rt: &HostRuntime, path: &Path, count: u32) -> Result<()> {
     let row = row(rt.alloc())?;
+    time_row(rt, path, &row, count)
+}
+
+/// Times the edits that put a row in at a path.
+fn time_row(rt: &HostRuntime, path: &Path, row: &Row, count: u32) -> Result<()> {
+    let mut root = views(rt.alloc(), row, count)?;
+    time_root(rt, &mut root, path, row, count)
+}
+
+/// Times the edits of views that are there, and prints the line.
+fn time_root(rt: &HostRuntime, root: &mut Root, path: &Path, row: &Row, count: u32) -> Result<()> {
     let start = Instant::now(rt)?;
-    put_rows(&mut root, &path, &row)?;
+    put_rows(root, path, row)?;
     let spent = nanoseconds_since(rt, &start)?;
     print!(rt; "{count} rows, ns an edit:")?;
     print_each(rt, spent, EDITS)?;
-    println!(rt; ", {} rows inside", root.size(&path)?)?;
+    println!(rt; ", {} rows inside", root.size(path)?)?;
     Ok(())
 }
 

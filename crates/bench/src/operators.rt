@@ -10,7 +10,7 @@ mod rows;
 mod task;
 mod total;
 
-use self::chain::CHAINS;
+use self::chain::{CHAINS, Chain, Operands};
 pub use self::pairs::list_pairs;
 use self::rows::{Relation, Tables, make_tables, relation};
 use self::task::{TASKS, Task};
@@ -29,7 +29,12 @@ const FEW: u32 = 10_000;
 /// Does a task, and prints its name and what is answered.
 fn list(rt: &HostRuntime, tables: &Tables, task: Task) -> Result<()> {
     let answer = task.run(rt.alloc(), tables)?;
-    let (size, sum) = (answer.size(), total(&answer)?);
+    list_answer(rt, task, &answer)
+}
+
+/// Prints the name of a task and what is answered.
+fn list_answer(rt: &HostRuntime, task: Task, answer: &Relation) -> Result<()> {
+    let (size, sum) = (answer.size(), total(answer)?);
     println!(rt; "{task:?} {size} {sum}")?;
     Ok(())
 }
@@ -38,9 +43,14 @@ fn list(rt: &HostRuntime, tables: &Tables, task: Task) -> Result<()> {
 fn measure(rt: &HostRuntime, tables: &Tables, task: Task) -> Result<()> {
     let start = Instant::now(rt)?;
     let answer = task.run(rt.alloc(), tables)?;
-    let answered = nanoseconds_since(rt, &start)?;
-    let sum = total(&answer)?;
-    let read = nanoseconds_since(rt, &start)?;
+    measure_answer(rt, task, &start, &answer)
+}
+
+/// Reads an answer that was asked for at `start`, and prints the name of its task, the times and what is answered.
+fn measure_answer(rt: &HostRuntime, task: Task, start: &Instant, answer: &Relation) -> Result<()> {
+    let answered = nanoseconds_since(rt, start)?;
+    let sum = total(answer)?;
+    let read = nanoseconds_since(rt, start)?;
     print!(rt; "{task:?}")?;
     print_each(rt, answered, MANY)?;
     print_each(rt, read, MANY)?;
@@ -68,12 +78,29 @@ fn measure_column(rt: &HostRuntime, table: &Relation, col: usize) -> Result<u64>
 
 /// Reads cells of the table alone, and through each chain.
 fn measure_chains(rt: &HostRuntime, tables: &Tables) -> Result<()> {
-    measure_cells(rt, "alone", &relation(&tables.orders)?)?;
+    measure_alone(rt, tables)?;
+    let operands = Operands::new()?;
     for chain in &CHAINS {
-        let table = chain.over(rt.alloc(), relation(&tables.orders)?)?;
-        measure_cells(rt, chain.name, &table)?;
+        measure_chain(rt, tables, chain, &operands)?;
     }
     Ok(())
+}
+
+/// Reads cells of the table alone.
+fn measure_alone(rt: &HostRuntime, tables: &Tables) -> Result<()> {
+    let table = relation(&tables.orders)?;
+    measure_cells(rt, "alone", &table)
+}
+
+/// Reads cells through a chain.
+fn measure_chain(
+    rt: &HostRuntime,
+    tables: &Tables,
+    chain: &Chain,
+    operands: &Operands,
+) -> Result<()> {
+    let table = chain.over(rt.alloc(), relation(&tables.orders)?, operands)?;
+    measure_cells(rt, chain.name, &table)
 }
 
 /// Times each task, and then the chains.

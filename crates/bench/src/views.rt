@@ -2,7 +2,7 @@
 
 use crate::structures::{name, structure};
 use anyhow::{Result, ensure};
-use mk_value::{MAX_ROWS, Name, Path, Row, Value};
+use mk_value::{MAX_ROWS, Name, Path, Row, Schema, Value};
 use std::alloc::Global;
 use tables::empty_table;
 use view_store::{Root, structure_fits};
@@ -13,11 +13,23 @@ pub fn path_to(alloc: Global, view: &[u8]) -> Result<Path> {
 }
 
 /// The view that a text spells, without rows, and no other.
-pub fn empty_view(alloc: Global, text: &str) -> Result<Root> {
+fn empty_view(alloc: Global, text: &str) -> Result<Root> {
     let (name, schema) = structure(alloc, text)?;
-    ensure!(structure_fits(&name, &schema), "too long a structure");
+    view_of(alloc, &name, &schema)
+}
+
+/// The view of a name and a schema, without rows, and no other.
+fn view_of(alloc: Global, name: &Name, schema: &Schema) -> Result<Root> {
+    ensure!(structure_fits(name, schema), "too long a structure");
     let mut root = Root::new(alloc);
-    root.put_view(&name, empty_table(alloc, &schema)?)?;
+    root.put_view(name, empty_table(alloc, schema)?)?;
+    Ok(root)
+}
+
+/// The view that a text spells, with a row so many times, and no other. The path leads to the view.
+pub fn filled_view(alloc: Global, text: &str, path: &Path, row: &Row, count: u32) -> Result<Root> {
+    let mut root = empty_view(alloc, text)?;
+    put_row(&mut root, path, 0, row, count)?;
     Ok(root)
 }
 

@@ -39,11 +39,7 @@ fn time_events<F: Follower + Drop, L: Ledger>(
     let mut follower = follower;
     let mut spent = 0u64;
     for count in 0..WARM + EVENTS {
-        let size = follower.size();
-        ensure!(size > 0, "no rows");
-        let event = kind.event(places, &mut random, size);
-        let row = numbers::row(rt.alloc(), &mut random)?;
-        let (after, nanoseconds) = follower.follow(rt, &event, &row, steps)?;
+        let (after, nanoseconds) = time_event(rt, follower, kind, places, &mut random, steps)?;
         follower = after;
         if count >= WARM {
             spent = spent.saturating_add(nanoseconds);
@@ -51,6 +47,22 @@ fn time_events<F: Follower + Drop, L: Ledger>(
     }
     print!(rt; " {}", spent / u64::from(EVENTS))?;
     Ok(follower)
+}
+
+/// Follows an event of a kind, and gives what has followed it, and the nanoseconds.
+fn time_event<F: Follower + Drop, L: Ledger>(
+    rt: &HostRuntime,
+    follower: F,
+    kind: EventKind,
+    places: Places,
+    random: &mut Random,
+    steps: &mut Steps<L>,
+) -> Result<(F, u64)> {
+    let size = follower.size();
+    ensure!(size > 0, "no rows");
+    let event = kind.event(places, random, size);
+    let row = numbers::row(rt.alloc(), random)?;
+    follower.follow(rt, &event, &row, steps)
 }
 
 /// Times the three kinds of events, and prints a line.
@@ -92,11 +104,22 @@ static CHAINS: [(&str, &[Shown]); 5] = [
 /// Times each chain of watches.
 fn time_chains<L: Ledger>(rt: &HostRuntime, size: u32, steps: &mut Steps<L>) -> Result<()> {
     for (what, shown) in &CHAINS {
-        let table = numbers::table(rt.alloc(), size)?;
-        let chain = watch_chain(rt.alloc(), table, shown)?;
-        time_follower(rt, what, chain, Places::Anywhere, steps)?;
+        time_chain(rt, what, shown, size, steps)?;
     }
     Ok(())
+}
+
+/// Times a chain of watches.
+fn time_chain<L: Ledger>(
+    rt: &HostRuntime,
+    what: &str,
+    shown: &[Shown],
+    size: u32,
+    steps: &mut Steps<L>,
+) -> Result<()> {
+    let table = numbers::table(rt.alloc(), size)?;
+    let chain = watch_chain(rt.alloc(), table, shown)?;
+    time_follower(rt, what, chain, Places::Anywhere, steps)
 }
 
 /// Times counts of a key.

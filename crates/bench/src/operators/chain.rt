@@ -4,8 +4,8 @@ use crate::operators::rows::Relation;
 use crate::operators::task::key;
 use crate::structures::name;
 use anyhow::Result;
-use derived::{Criterion, range, rename, slice, sort};
-use mk_value::{MAX_ROWS, Value};
+use derived::{Criterion, Key, range, rename, slice, sort};
+use mk_value::{MAX_ROWS, Name, Value};
 use std::alloc::Global;
 
 /// An operator that keeps all rows.
@@ -46,47 +46,64 @@ pub static CHAINS: [Chain; 5] = [
     },
 ];
 
+/// What the operators are asked with, of the amounts.
+#[derive(Drop)]
+pub struct Operands {
+    amount: Name,
+    all: [Criterion; 1],
+    upwards: [Key; 1],
+}
+
+impl Operands {
+    pub fn new() -> Result<Operands> {
+        Ok(Operands {
+            amount: name(b"amount")?,
+            upwards: [key(b"amount", false)?],
+            all: [Criterion {
+                prop: name(b"amount")?,
+                low: Value::L(i64::MIN),
+                high: Value::L(i64::MAX),
+            }],
+        })
+    }
+}
+
 impl Chain {
     /// The operators over a table.
-    pub fn over(&self, alloc: Global, table: Relation) -> Result<Relation> {
+    pub fn over(&self, alloc: Global, table: Relation, operands: &Operands) -> Result<Relation> {
         let mut table = table;
         for at in 0..16usize {
-            table = self.links[at % 4].over(alloc, table)?;
+            table = self.links[at % 4].over(alloc, table, operands)?;
         }
         Ok(table)
     }
 }
 
 impl Link {
-    fn over(self, alloc: Global, table: Relation) -> Result<Relation> {
+    fn over(self, alloc: Global, table: Relation, operands: &Operands) -> Result<Relation> {
         match self {
-            Link::Range => ranged(alloc, table),
-            Link::Rename => renamed(alloc, table),
+            Link::Range => ranged(alloc, table, operands),
+            Link::Rename => renamed(alloc, table, operands),
             Link::Slice => sliced(alloc, table),
-            Link::Sort => sorted(alloc, table),
+            Link::Sort => sorted(alloc, table, operands),
         }
     }
 }
 
-fn ranged(alloc: Global, table: Relation) -> Result<Relation> {
-    let all = Criterion {
-        prop: name(b"amount")?,
-        low: Value::L(i64::MIN),
-        high: Value::L(i64::MAX),
-    };
-    Ok(range(alloc, table, &[all])?)
+fn ranged(alloc: Global, table: Relation, operands: &Operands) -> Result<Relation> {
+    Ok(range(alloc, table, &operands.all)?)
 }
 
 /// A property gets the name that it has, so that the next operator finds it.
-fn renamed(alloc: Global, table: Relation) -> Result<Relation> {
-    let amount = name(b"amount")?;
-    Ok(rename(alloc, table, &amount, &amount)?)
+fn renamed(alloc: Global, table: Relation, operands: &Operands) -> Result<Relation> {
+    let amount = &operands.amount;
+    Ok(rename(alloc, table, amount, amount)?)
 }
 
 fn sliced(alloc: Global, table: Relation) -> Result<Relation> {
     Ok(slice(alloc, table, 0, MAX_ROWS as u64, 1)?)
 }
 
-fn sorted(alloc: Global, table: Relation) -> Result<Relation> {
-    Ok(sort(alloc, table, &[key(b"amount", false)?])?)
+fn sorted(alloc: Global, table: Relation, operands: &Operands) -> Result<Relation> {
+    Ok(sort(alloc, table, &operands.upwards)?)
 }

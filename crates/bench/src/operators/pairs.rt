@@ -1,48 +1,82 @@
 //! A join of sixteen million pairs, for the memory that it takes.
 
-use crate::operators::rows::{Relation, relation};
-use crate::structures::{columns, name, schema};
+use crate::operators::rows::{Relation, relation, table};
+use crate::structures::name;
 use anyhow::{Result, bail};
 use joins::{join, join_size};
 use mk_value::{Row, Rows, TableRead, Value};
 use std::alloc::Global;
-use tables::{Shared, share};
+use tables::Shared;
 
 /// How many rows each of the two tables has, all of one number.
 const ROWS: usize = 4_096;
 
 /// Rows of one number.
-fn equal_rows(alloc: Global) -> Result<Shared> {
+fn equal_rows(alloc: Global) -> Result<Rows> {
     let mut rows = Rows::new(alloc);
     for _row in 0..ROWS {
-        let mut row = Row::new(alloc);
-        row.push(Value::I(7))?;
-        rows.push(row)?;
+        rows.push(row(alloc)?)?;
     }
-    let table = columns(alloc, schema(alloc, "t[k:I]")?, &rows)?;
-    Ok(share(alloc, table)?)
+    Ok(rows)
 }
 
-/// How many rows a table has beside itself, by the size that a join would have.
-fn counted(alloc: Global, table: &Relation, other: &Relation) -> Result<usize> {
-    Ok(join_size(alloc, table, other, &[name(b"k")?], false)?)
+/// A row of the one number.
+fn row(alloc: Global) -> Result<Row> {
+    let mut row = Row::new(alloc);
+    row.push(Value::I(7))?;
+    Ok(row)
+}
+
+/// The table of them.
+fn equal_table(alloc: Global) -> Result<Shared> {
+    let rows = equal_rows(alloc)?;
+    table(alloc, "t[k:I]", &rows)
+}
+
+/// The size that a join of a table with itself would have.
+fn join_size_of(alloc: Global, table: &Relation) -> Result<usize> {
+    let keys = [name(b"k")?];
+    Ok(join_size(alloc, table, table, &keys, false)?)
+}
+
+/// How many rows a join of a table with itself has, by its size alone.
+fn counted(alloc: Global, rows: &Shared) -> Result<usize> {
+    let table = relation(rows)?;
+    join_size_of(alloc, &table)
+}
+
+/// The rows of a join of a table with itself.
+fn joined(alloc: Global, rows: &Shared) -> Result<Relation> {
+    let keys = [name(b"k")?];
+    let (table, other) = (relation(rows)?, relation(rows)?);
+    Ok(join(alloc, table, other, &keys, false)?)
 }
 
 /// The same by the rows of a join.
-fn listed(alloc: Global, table: Relation, other: Relation) -> Result<usize> {
-    Ok(join(alloc, table, other, &[name(b"k")?], false)?.size())
+fn listed(alloc: Global, rows: &Shared) -> Result<usize> {
+    let pairs = joined(alloc, rows)?;
+    Ok(pairs.size())
+}
+
+/// How many pairs a table has with itself, or without a join how many rows.
+fn count_of(alloc: Global, rows: &Shared, what: &str) -> Result<usize> {
+    match what {
+        "none" => Ok(relation(rows)?.size()),
+        "size" => counted(alloc, rows),
+        "rows" => listed(alloc, rows),
+        _ => bail!("pairs are asked for by none, size or rows"),
+    }
+}
+
+/// The same of the table of one number.
+fn count_pairs(alloc: Global, what: &str) -> Result<usize> {
+    let rows = equal_table(alloc)?;
+    count_of(alloc, &rows, what)
 }
 
 /// Prints how many pairs there are, by their size alone or by the join's rows, or without a join how many rows there are.
 pub fn list_pairs(rt: &HostRuntime, what: &str) -> Result<()> {
-    let rows = equal_rows(rt.alloc())?;
-    let (table, other) = (relation(&rows)?, relation(&rows)?);
-    let count = match what {
-        "none" => table.size(),
-        "size" => counted(rt.alloc(), &table, &other)?,
-        "rows" => listed(rt.alloc(), table, other)?,
-        _ => bail!("pairs are asked for by none, size or rows"),
-    };
+    let count = count_pairs(rt.alloc(), what)?;
     println!(rt; "{count}")?;
     Ok(())
 }

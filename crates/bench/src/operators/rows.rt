@@ -52,11 +52,16 @@ fn scattered(place: u64) -> u64 {
 
 /// The rows of so many places, from the first on.
 fn orders(alloc: Global, first: u32, count: u32) -> Result<Shared> {
+    let rows = order_rows(alloc, first, count)?;
+    table(alloc, "orders[number:I,name:S,amount:L]", &rows)
+}
+
+fn order_rows(alloc: Global, first: u32, count: u32) -> Result<Rows> {
     let mut rows = Rows::new(alloc);
     for place in 0..count {
         rows.push(order(alloc, u64::from(first) + u64::from(place))?)?;
     }
-    table(alloc, "orders[number:I,name:S,amount:L]", &rows)
+    Ok(rows)
 }
 
 fn order(alloc: Global, place: u64) -> Result<Row> {
@@ -77,11 +82,16 @@ fn numbered_name(alloc: Global, number: u64) -> Result<Text> {
 }
 
 fn labels(alloc: Global) -> Result<Shared> {
+    let rows = label_rows(alloc)?;
+    table(alloc, "labels[number:I,label:S]", &rows)
+}
+
+fn label_rows(alloc: Global) -> Result<Rows> {
     let mut rows = Rows::new(alloc);
     for number in 0..NUMBERS {
         rows.push(label(alloc, number)?)?;
     }
-    table(alloc, "labels[number:I,label:S]", &rows)
+    Ok(rows)
 }
 
 fn label(alloc: Global, number: u64) -> Result<Row> {
@@ -92,7 +102,7 @@ fn label(alloc: Global, number: u64) -> Result<Row> {
 }
 
 /// The table of rows under the schema that a text spells.
-fn table(alloc: Global, text: &str, rows: &Rows) -> Result<Shared> {
+pub fn table(alloc: Global, text: &str, rows: &Rows) -> Result<Shared> {
     let table = columns(alloc, schema(alloc, text)?, rows)?;
     Ok(share(alloc, table)?)
 }

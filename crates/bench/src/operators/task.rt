@@ -1,5 +1,5 @@
 //! What is timed.
-ghost use Rattle.std.specs.Prelude.{◌≡◌, IfOk};
+ghost use Rattle.std.specs.Prelude.{◌≡◌, All, IfOk};
 
 use crate::operators::rows::{Relation, Tables, relation};
 use crate::structures::name;
@@ -48,17 +48,16 @@ pub static TASKS: [Task; 9] = [
 impl Task {
     /// The answer of the operator.
     pub fn run(self, alloc: Global, tables: &Tables) -> Result<Relation> {
-        let orders = relation(&tables.orders)?;
         match self {
-            Task::Select => selected(alloc, orders),
-            Task::Range => ranged(alloc, orders),
-            Task::SortOne => sorted_by_one(alloc, orders),
-            Task::SortTwo => sorted_by_two(alloc, orders),
-            Task::Counts => counted(alloc, orders),
-            Task::GroupBy => grouped(alloc, orders),
-            Task::Unique => distinct(alloc, orders),
-            Task::Join => joined(alloc, orders, relation(&tables.labels)?),
-            Task::Union => united(alloc, orders, relation(&tables.later)?),
+            Task::Select => selected(alloc, tables),
+            Task::Range => ranged(alloc, tables),
+            Task::SortOne => sorted_by_one(alloc, tables),
+            Task::SortTwo => sorted_by_two(alloc, tables),
+            Task::Counts => counted(alloc, tables),
+            Task::GroupBy => grouped(alloc, tables),
+            Task::Unique => distinct(alloc, tables),
+            Task::Join => joined(alloc, tables),
+            Task::Union => united(alloc, tables),
         }
     }
 }
@@ -88,40 +87,72 @@ pub fn key(prop: &[u8], down: bool) -> Result<Key> {
     })
 }
 
-fn selected(alloc: Global, orders: Relation) -> Result<Relation> {
-    Ok(select(alloc, orders, &[numbered(500)?])?)
+fn selected(alloc: Global, tables: &Tables) -> Result<Relation> {
+    selected_by(alloc, tables, &[numbered(500)?])
 }
 
-fn ranged(alloc: Global, orders: Relation) -> Result<Relation> {
-    Ok(range(alloc, orders, &[between(400_000, 499_999)?])?)
+fn selected_by(alloc: Global, tables: &Tables, criteria: &[Criterion]) -> Result<Relation>
+    requires { All (λ c. c.low ≡ c.high) criteria.now }
+{
+    Ok(select(alloc, relation(&tables.orders)?, criteria)?)
 }
 
-fn sorted_by_one(alloc: Global, orders: Relation) -> Result<Relation> {
-    Ok(sort(alloc, orders, &[key(b"amount", false)?])?)
+fn ranged(alloc: Global, tables: &Tables) -> Result<Relation> {
+    ranged_by(alloc, tables, &[between(400_000, 499_999)?])
 }
 
-fn sorted_by_two(alloc: Global, orders: Relation) -> Result<Relation> {
-    let keys = [key(b"name", false)?, key(b"amount", true)?];
-    Ok(sort(alloc, orders, &keys)?)
+fn ranged_by(alloc: Global, tables: &Tables, criteria: &[Criterion]) -> Result<Relation> {
+    Ok(range(alloc, relation(&tables.orders)?, criteria)?)
 }
 
-fn counted(alloc: Global, orders: Relation) -> Result<Relation> {
-    Ok(counts(alloc, orders, &[name(b"name")?], &name(b"orders")?)?)
+fn sorted_by_one(alloc: Global, tables: &Tables) -> Result<Relation> {
+    sorted_by(alloc, tables, &[key(b"amount", false)?])
 }
 
-fn grouped(alloc: Global, orders: Relation) -> Result<Relation> {
-    Ok(group_by(alloc, orders, &[name(b"name")?], &name(b"orders")?)?)
+fn sorted_by_two(alloc: Global, tables: &Tables) -> Result<Relation> {
+    sorted_by(
+        alloc,
+        tables,
+        &[key(b"name", false)?, key(b"amount", true)?],
+    )
 }
 
-fn distinct(alloc: Global, orders: Relation) -> Result<Relation> {
-    let pairs = project(alloc, orders, &[name(b"number")?, name(b"name")?])?;
-    Ok(unique(alloc, pairs)?)
+fn sorted_by(alloc: Global, tables: &Tables, keys: &[Key]) -> Result<Relation> {
+    Ok(sort(alloc, relation(&tables.orders)?, keys)?)
 }
 
-fn joined(alloc: Global, orders: Relation, labels: Relation) -> Result<Relation> {
-    Ok(join(alloc, orders, labels, &[name(b"number")?], false)?)
+fn counted(alloc: Global, tables: &Tables) -> Result<Relation> {
+    let (keys, count) = ([name(b"name")?], name(b"orders")?);
+    let orders = relation(&tables.orders)?;
+    Ok(counts(alloc, orders, &keys, &count)?)
 }
 
-fn united(alloc: Global, orders: Relation, later: Relation) -> Result<Relation> {
+fn grouped(alloc: Global, tables: &Tables) -> Result<Relation> {
+    let (keys, view) = ([name(b"name")?], name(b"orders")?);
+    let orders = relation(&tables.orders)?;
+    Ok(group_by(alloc, orders, &keys, &view)?)
+}
+
+fn distinct(alloc: Global, tables: &Tables) -> Result<Relation> {
+    Ok(unique(alloc, projected(alloc, tables)?)?)
+}
+
+/// The number and the name of each row.
+fn projected(alloc: Global, tables: &Tables) -> Result<Relation> {
+    let props = [name(b"number")?, name(b"name")?];
+    let orders = relation(&tables.orders)?;
+    Ok(project(alloc, orders, &props)?)
+}
+
+fn joined(alloc: Global, tables: &Tables) -> Result<Relation> {
+    let keys = [name(b"number")?];
+    let orders = relation(&tables.orders)?;
+    let labels = relation(&tables.labels)?;
+    Ok(join(alloc, orders, labels, &keys, false)?)
+}
+
+fn united(alloc: Global, tables: &Tables) -> Result<Relation> {
+    let orders = relation(&tables.orders)?;
+    let later = relation(&tables.later)?;
     Ok(union(alloc, orders, later)?)
 }

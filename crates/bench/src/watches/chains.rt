@@ -59,11 +59,15 @@ fn sorted_by(alloc: Global, prop: &[u8]) -> Result<WatchOp> {
 /// A table, and a watch for each of what is to be shown, over the one before.
 pub fn watch_chain(alloc: Global, table: Table, shown: &[Shown]) -> Result<Followed> {
     let mut followed = begin(alloc, table);
+    put_chain(alloc, &mut followed, shown)?;
+    Ok(followed)
+}
+
+/// Puts a watch for each of what is to be shown, over the one before.
+fn put_chain(alloc: Global, followed: &mut Followed, shown: &[Shown]) -> Result<()> {
     let mut source = None;
     for what in shown {
-        let (more, number) = put(followed, source, what.op(alloc)?)?;
-        followed = more;
-        source = Some(number);
+        source = Some(put(followed, source, what.op(alloc)?)?);
     }
-    Ok(followed)
+    Ok(())
 }

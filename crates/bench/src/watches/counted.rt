@@ -1,5 +1,5 @@
 //! A table and the counts of its numbers.
-ghost use Rattle.std.specs.Prelude.{◌≡◌, ◌<◌, ◌∷◌, [], false, length, IfOk};
+ghost use Rattle.std.specs.Prelude.{◌≡◌, ◌<◌, ◌∷◌, [], false, length, IfOk, OnOk};
 ghost use Rattle.mk_value.specs.Tables.{domain_at};
 ghost use Rattle.relations.specs.Fitting.{is_view};
 ghost use Rattle.live_counts.specs.Counting.{AreCounts};
@@ -41,9 +41,40 @@ fn first_column(alloc: Global, table: &Table) -> Result<Positions>
 
 /// A table, and the counts of its numbers.
 pub fn count_numbers(alloc: Global, table: Table) -> Result<Counted> {
-    let columns = first_column(alloc, &table)?;
-    let counts = LiveCounts::make(alloc, &table, columns)?;
+    let counts = counts_of(alloc, &table)?;
     Ok(Counted { table, counts })
+}
+
+/// The counts of the numbers of a table.
+fn counts_of(alloc: Global, table: &Table) -> Result<LiveCounts>
+    ensures { IfOk result (AreCounts table.now.schema table.now.rows) }
+{
+    let columns = first_column(alloc, table)?;
+    Ok(LiveCounts::make(alloc, table, columns)?)
+}
+
+/// Edits a table as an event tells, and has the counts follow. The nanoseconds that following took.
+fn time_event<L: Ledger>(
+    rt: &HostRuntime,
+    table: &mut Table,
+    counts: &mut LiveCounts,
+    event: &Event,
+    row: &Row,
+    steps: &mut Steps<L>,
+) -> Result<u64>
+    requires { AreCounts table.old.schema table.old.rows counts.old }
+    ensures { OnOk result (AreCounts table.new.schema table.new.rows counts.new) }
+{
+    ensure!(is_place(event, table.size()), "no such row");
+    counts.reserve(1)?;
+    let start = Instant::now(rt)?;
+    counts.before(&Over { rows: &*table }, event, steps);
+    let before = nanoseconds_since(rt, &start)?;
+    edit(table, event, row)?;
+    let start = Instant::now(rt)?;
+    counts.after(&Over { rows: &*table }, event, steps);
+    let after = nanoseconds_since(rt, &start)?;
+    Ok(before.saturating_add(after))
 }
 
 impl Follower for Counted {
@@ -62,15 +93,7 @@ impl Follower for Counted {
             mut table,
             mut counts,
         } = self;
-        ensure!(is_place(event, table.size()), "no such row");
-        counts.reserve(1)?;
-        let start = Instant::now(rt)?;
-        counts.before(&Over { rows: &table }, event, steps);
-        let before = nanoseconds_since(rt, &start)?;
-        edit(&mut table, event, row)?;
-        let start = Instant::now(rt)?;
-        counts.after(&Over { rows: &table }, event, steps);
-        let after = nanoseconds_since(rt, &start)?;
-        Ok((Counted { table, counts }, before.saturating_add(after)))
+        let nanoseconds = time_event(rt, &mut table, &mut counts, event, row, steps)?;
+        Ok((Counted { table, counts }, nanoseconds))
     }
 }

@@ -1,5 +1,8 @@
 //! A table and the watches over it.
+ghost use Rattle.std.specs.Prelude.{◌<◌, length, OnOk};
+ghost use Rattle.std.specs.Option.{ForSome};
 ghost use Rattle.live.specs.Chains.{AreNow};
+ghost use Rattle.live.specs.Numbers.{place_of};
 
 use super::events::is_place;
 use super::follower::Follower;
@@ -22,26 +25,51 @@ pub struct Followed {
     ghost now: { AreNow table.schema table.rows watches.watches },
 }
 
-/// One watch more, and its number.
-pub fn put(followed: Followed, source: Option<u32>, op: WatchOp) -> Result<(Followed, u32)> {
-    let Followed {
-        table,
-        mut watches,
-        out,
-    } = followed;
+/// Puts one watch more, and gives its number.
+pub fn put(followed: &mut Followed, source: Option<u32>, op: WatchOp) -> Result<u32> {
+    check_source(&followed.watches, source)?;
+    Ok(followed.watches.put(source, op, &followed.table)?)
+}
+
+/// Refuses one watch more than there may be, and a source that is none of the watches.
+fn check_source(watches: &Watches, source: Option<u32>) -> Result<()>
+    ensures few { OnOk result (length watches.now.watches < 64) }
+    ensures source { OnOk result (ForSome source (λ n. place_of watches.now.watches n < length watches.now.watches)) }
+{
     ensure!(watches.count() < 64, "too many watches");
-    if let Some(number) = source {
-        ensure!(watches.has(number), "no such source");
+    match source {
+        None => Ok(()),
+        Some(number) => {
+            ensure!(watches.has(number), "no such source");
+            Ok(())
+        }
     }
-    let number = watches.put(source, op, &table)?;
-    Ok((
-        Followed {
-            table,
-            watches,
-            out,
-        },
-        number,
-    ))
+}
+
+/// Edits a table as an event tells, and has the watches follow. The nanoseconds that following took.
+fn time_event<L: Ledger>(
+    rt: &HostRuntime,
+    table: &mut Table,
+    watches: &mut Watches,
+    out: &mut Out,
+    event: &Event,
+    row: &Row,
+    steps: &mut Steps<L>,
+) -> Result<u64>
+    requires { AreNow table.old.schema table.old.rows watches.old.watches }
+    ensures { OnOk result (AreNow table.new.schema table.new.rows watches.new.watches) }
+{
+    ensure!(is_place(event, table.size()), "no such row");
+    watches.reserve(1)?;
+    out.reserve(watches.count())?;
+    let start = Instant::now(rt)?;
+    watches.before(&Over { rows: &*table }, event, steps);
+    let before = nanoseconds_since(rt, &start)?;
+    edit(table, event, row)?;
+    let start = Instant::now(rt)?;
+    watches.after(&Over { rows: &*table }, event, out, steps);
+    let after = nanoseconds_since(rt, &start)?;
+    Ok(before.saturating_add(after))
 }
 
 /// A table without watches.
@@ -71,23 +99,14 @@ impl Follower for Followed {
             mut watches,
             mut out,
         } = self;
-        ensure!(is_place(event, table.size()), "no such row");
-        watches.reserve(1)?;
-        out.reserve(watches.count())?;
-        let start = Instant::now(rt)?;
-        watches.before(&Over { rows: &table }, event, steps);
-        let before = nanoseconds_since(rt, &start)?;
-        edit(&mut table, event, row)?;
-        let start = Instant::now(rt)?;
-        watches.after(&Over { rows: &table }, event, &mut out, steps);
-        let after = nanoseconds_since(rt, &start)?;
+        let nanoseconds = time_event(rt, &mut table, &mut watches, &mut out, event, row, steps)?;
         Ok((
             Followed {
                 table,
                 watches,
                 out,
             },
-            before.saturating_add(after),
+            nanoseconds,
         ))
     }
 }

@@ -1,14 +1,14 @@
 //! An index of keys that no two rows have.
-ghost use Rattle.std.specs.Prelude.{◌<◌, length, slice_set, IsTrue};
+ghost use Rattle.std.specs.Prelude.{◌<◌, ◌≤◌, insert, length, slice_set, IsTrue};
 ghost use Rattle.mapped.specs.Index.{AreKeys};
 
 use super::follower::Follower;
 use crate::clock::nanoseconds_since;
 use crate::structures::schema;
-use anyhow::{Result, bail, ensure};
+use anyhow::{Context, Result, bail, ensure};
 use live::Event;
 use mapped::HashIndex;
-use mk_value::{HeldRows, MAX_ROWS, Row, Rows, Steps, Value, rows_fit};
+use mk_value::{HeldRows, MAX_ROWS, Row, Rows, Schema, Steps, Value, rows_fit};
 use std::alloc::Global;
 use std::sync::ledger::Ledger;
 use std::time::Instant;
@@ -47,13 +47,7 @@ pub struct Keyed {
 
 /// An index of so many keys.
 pub fn index_keys(alloc: Global, count: u32, keys: Keys) -> Result<Keyed> {
-    let schema = schema(alloc, "orders[key:L]")?;
-    let mut rows = Rows::new(alloc);
-    for number in 0..count {
-        rows.push(keys.key(alloc, number)?)?;
-    }
-    ensure!(rows_fit(&rows, &schema), "no rows of the schema");
-    let index = HashIndex::make(alloc, &HeldRows::of(schema, rows), 1)?;
+    let index = key_index(alloc, count, keys)?;
     Ok(Keyed {
         alloc,
         index,
@@ -62,10 +56,39 @@ pub fn index_keys(alloc: Global, count: u32, keys: Keys) -> Result<Keyed> {
     })
 }
 
+/// The index of so many keys alone.
+fn key_index(alloc: Global, count: u32, keys: Keys) -> Result<HashIndex> {
+    let table = key_table(alloc, count, keys)?;
+    Ok(HashIndex::make(alloc, &table, 1)?)
+}
+
+/// The table of so many keys.
+fn key_table(alloc: Global, count: u32, keys: Keys) -> Result<HeldRows> {
+    let schema = schema(alloc, "orders[key:L]")?;
+    let rows = key_rows(alloc, count, keys)?;
+    held(schema, rows).context("no rows of the schema")
+}
+
+/// So many keys.
+fn key_rows(alloc: Global, count: u32, keys: Keys) -> Result<Rows> {
+    let mut rows = Rows::new(alloc);
+    for number in 0..count {
+        rows.push(keys.key(alloc, number)?)?;
+    }
+    Ok(rows)
+}
+
+/// The table of these rows, if they are of the schema.
+fn held(schema: Schema, rows: Rows) -> Option<HeldRows> {
+    if !rows_fit(&rows, &schema) {
+        return None;
+    }
+    Some(HeldRows::of(schema, rows))
+}
+
 /// A row with a key that no row has comes in. The nanoseconds that following took.
 fn insert(rt: &HostRuntime, index: &mut HashIndex, at: usize, key: Row) -> Result<u64> {
-    ensure!(at <= index.len() && index.len() < MAX_ROWS, "no place");
-    ensure!(index.find(&key).is_none(), "a key that a row has");
+    ensure!(is_new(index, at, &key), "no place, or a key that a row has");
     index.reserve(1)?;
     let start = Instant::now(rt)?;
     index.follow(&mapped::Event::Insert(at), Some(key));
@@ -91,6 +114,15 @@ fn change(rt: &HostRuntime, index: &mut HashIndex, at: usize, key: Row) -> Resul
     let start = Instant::now(rt)?;
     index.follow(&mapped::Event::Change(at), Some(key));
     nanoseconds_since(rt, &start)
+}
+
+/// Whether a row with the key may come in at a position, since no row has it.
+fn is_new(index: &HashIndex, at: usize, key: &Row) -> bool
+    ensures there { IsTrue result → at ≤ length index.now.keys }
+    ensures keys { IsTrue result → AreKeys (insert index.now.keys at key.now) }
+{
+    let size = index.len();
+    at <= size && size < MAX_ROWS && index.find(key).is_none()
 }
 
 /// Whether no row but the one at a position has the key.

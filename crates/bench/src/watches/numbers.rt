@@ -27,12 +27,18 @@ pub fn row(alloc: Global, random: &mut Random) -> Result<Row> {
 
 /// A table of so many such rows.
 pub fn table(alloc: Global, count: u32) -> Result<Table> {
+    let rows = rows(alloc, count)?;
+    columns(alloc, schema(alloc, "orders[number:I,amount:I]")?, &rows)
+}
+
+/// So many such rows.
+fn rows(alloc: Global, count: u32) -> Result<Rows> {
     let mut random = Random::new();
     let mut rows = Rows::new(alloc);
     for _row in 0..count {
         rows.push(row(alloc, &mut random)?)?;
     }
-    columns(alloc, schema(alloc, "orders[number:I,amount:I]")?, &rows)
+    Ok(rows)
 }
 
 /// Does to a table what an event tells; the row is the one that comes.
