@@ -24,20 +24,26 @@ fn main(rt: HostRuntime) -> Result<()> {
 
 /// Times what the words of the command line ask for. The first of them is the program.
 fn measure(rt: &HostRuntime, words: &[String]) -> Result<()> {
-    match words.get(1).map(|word| word.as_str()) {
+    match words.get(1) {
         None => operators::list_all(rt),
-        Some("blocks") => blocks::measure_all(rt),
-        Some("columns") => columns::measure_all(rt),
-        Some("edits") => edits::measure_all(rt),
-        Some("nested") => nested::measure_all(rt),
-        Some("operators") => operators::measure_all(rt),
-        Some("pairs") => operators::list_pairs(
+        Some(part) => measure_part(
             rt,
+            part.as_str(),
             words.get(2).map_or("none", |word| word.as_str()),
         ),
-        Some("watches") => watches::measure_all(rt),
-        Some(_) => bail!(
-            "the words are blocks, columns, edits, nested, operators, pairs or watches"
-        ),
+    }
+}
+
+/// Times the part of a word. The word behind it says how pairs are asked for.
+fn measure_part(rt: &HostRuntime, part: &str, pairs: &str) -> Result<()> {
+    match part {
+        "blocks" => blocks::measure_all(rt),
+        "columns" => columns::measure_all(rt),
+        "edits" => edits::measure_all(rt),
+        "nested" => nested::measure_all(rt),
+        "operators" => operators::measure_all(rt),
+        "pairs" => operators::list_pairs(rt, pairs),
+        "watches" => watches::measure_all(rt),
+        _ => bail!("the words are blocks, columns, edits, nested, operators, pairs or watches"),
     }
 }

@@ -1,9 +1,10 @@
 //! A join of sixteen million pairs, for the memory that it takes.
 
 use crate::operators::rows::{Relation, relation, table};
+use crate::operators::task::joined_by;
 use crate::structures::name;
 use anyhow::{Result, bail};
-use joins::{join, join_size};
+use joins::join_size;
 use mk_value::{Row, Rows, TableRead, Value};
 use std::alloc::Global;
 use tables::Shared;
@@ -45,14 +46,13 @@ fn counted(alloc: Global, rows: &Shared) -> Result<usize> {
     join_size_of(alloc, &table)
 }
 
-/// The rows of a join of a table with itself.
+/// The join of a table with itself.
 fn joined(alloc: Global, rows: &Shared) -> Result<Relation> {
     let keys = [name(b"k")?];
-    let (table, other) = (relation(rows)?, relation(rows)?);
-    Ok(join(alloc, table, other, &keys, false)?)
+    joined_by(alloc, rows, rows, &keys)
 }
 
-/// The same by the rows of a join.
+/// The same by the join's rows.
 fn listed(alloc: Global, rows: &Shared) -> Result<usize> {
     let pairs = joined(alloc, rows)?;
     Ok(pairs.size())

@@ -1,5 +1,5 @@
 //! What is timed.
-ghost use Rattle.std.specs.Prelude.{◌≡◌, All, IfOk};
+ghost use Rattle.std.specs.Prelude.{◌≡◌, ◌<◌, All, IfOk, length};
 
 use crate::operators::rows::{Relation, Tables, relation};
 use crate::structures::name;
@@ -7,8 +7,9 @@ use anyhow::Result;
 use derived::{Criterion, Key, project, range, select, sort};
 use grouping::{counts, group_by, unique};
 use joins::{join, union};
-use mk_value::Value;
+use mk_value::{Name, Value};
 use std::alloc::Global;
+use tables::Shared;
 
 /// An operator on the rows.
 #[derive(Clone, Copy, Debug)]
@@ -146,9 +147,16 @@ fn projected(alloc: Global, tables: &Tables) -> Result<Relation> {
 
 fn joined(alloc: Global, tables: &Tables) -> Result<Relation> {
     let keys = [name(b"number")?];
-    let orders = relation(&tables.orders)?;
-    let labels = relation(&tables.labels)?;
-    Ok(join(alloc, orders, labels, &keys, false)?)
+    joined_by(alloc, &tables.orders, &tables.labels, &keys)
+}
+
+/// The rows of a table beside those of another by some of their properties.
+pub fn joined_by(alloc: Global, table: &Shared, other: &Shared, keys: &[Name]) -> Result<Relation>
+    requires { 0 < length keys.now }
+{
+    let table = relation(table)?;
+    let other = relation(other)?;
+    Ok(join(alloc, table, other, keys, false)?)
 }
 
 fn united(alloc: Global, tables: &Tables) -> Result<Relation> {
