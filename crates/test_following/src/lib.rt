@@ -4,13 +4,17 @@
 //! They stand above the crates that they test, since a crate with tests in it is proved once more with them.
 #![tactic(auto)]
 
+#[cfg(test)]
 mod counted;
 #[cfg(test)]
 mod filter_streams;
+#[cfg(test)]
 mod filtered;
+#[cfg(test)]
 mod followed;
 #[cfg(test)]
 mod line_streams;
+#[cfg(test)]
 mod lined;
 #[cfg(test)]
 mod streams;

@@ -166,6 +166,33 @@ fn tell(rows: &mut Vec<i64>, new: &[i64], event: &Event) -> Result<(), Fail> {
     Ok(())
 }
 
+/// Refuses events of a watch that do not lead from its old rows to its new ones.
+fn lead(rows: &mut Vec<i64>, new: &[i64], watch: u32, out: &[Told]) -> Result<(), Fail> {
+    for told in out {
+        if told.watch == watch {
+            tell(rows, new, &told.event)?;
+        }
+    }
+    if rows.as_slice() != new {
+        return Err(Fail::new("the events lead to other rows"));
+    }
+    Ok(())
+}
+
+/// Refuses places of a watch that are not those of one made anew.
+fn are_places(
+    alloc: Global,
+    watch: u32,
+    followed: &Followed,
+    places_anew: &[usize],
+) -> Result<(), Fail> {
+    let places = places(alloc, followed, watch)?;
+    if places.as_slice() != places_anew {
+        return Err(Fail::new("made anew it keeps other positions"));
+    }
+    Ok(())
+}
+
 /// Refuses events of a watch that do not lead from its old rows to its new ones, and places that are not those of watches made anew.
 fn check(
     alloc: Global,
@@ -175,19 +202,8 @@ fn check(
     anew: &Followed,
     out: &[Told],
 ) -> Result<(), Fail> {
-    let new = shown(alloc, followed, watch)?;
-    for told in out {
-        if told.watch == watch {
-            tell(rows, &new, &told.event)?;
-        }
-    }
-    if *rows != new {
-        return Err(Fail::new("the events lead to other rows"));
-    }
-    if places(alloc, followed, watch)? != places(alloc, anew, watch)? {
-        return Err(Fail::new("made anew it keeps other positions"));
-    }
-    Ok(())
+    lead(rows, &shown(alloc, followed, watch)?, watch, out)?;
+    are_places(alloc, watch, followed, &places(alloc, anew, watch)?)
 }
 
 /// One event, followed and checked.
@@ -247,6 +263,29 @@ fn keys_counted(alloc: Global, counted: &Counted) -> Result<Vec<(usize, u32)>, F
     Ok(all)
 }
 
+/// Refuses counts that are not those made anew.
+fn are_counts(alloc: Global, counted: &Counted, anew: &Counted) -> Result<(), Fail> {
+    if keys_counted(alloc, counted)? != keys_counted(alloc, anew)? {
+        return Err(Fail::new("made anew it has other counts"));
+    }
+    Ok(())
+}
+
+/// One event, counted and checked.
+fn count_event<L: Ledger>(
+    alloc: Global,
+    counted: Counted,
+    numbers: &mut Numbers,
+    steps: &mut Steps<L>,
+) -> Result<Counted, Fail> {
+    let event = event(numbers, counted.table.size());
+    let row = row(alloc, numbers)?;
+    let counted = recount(counted, &event, &row, steps)?;
+    let anew = begin_counts(alloc, counted.table.same()?, 1)?;
+    are_counts(alloc, &counted, &anew)?;
+    Ok(counted)
+}
+
 /// Counts, and twelve events.
 fn count_stream<L: Ledger>(alloc: Global, seed: u64, blank: Blank) -> Result<(), Fail>
     requires name { blank.name ≡ L.name }
@@ -257,13 +296,7 @@ fn count_stream<L: Ledger>(alloc: Global, seed: u64, blank: Blank) -> Result<(),
     let mut numbers = Numbers { state: seed };
     let mut held = begin_counts(alloc, table(alloc, &mut numbers)?, 1)?;
     for _ in 0..12 {
-        let event = event(&mut numbers, held.table.size());
-        let row = row(alloc, &mut numbers)?;
-        held = recount(held, &event, &row, &mut steps)?;
-        let anew = begin_counts(alloc, held.table.same()?, 1)?;
-        if keys_counted(alloc, &held)? != keys_counted(alloc, &anew)? {
-            return Err(Fail::new("made anew it has other counts"));
-        }
+        held = count_event(alloc, held, &mut numbers, &mut steps)?;
     }
     Ok(())
 }

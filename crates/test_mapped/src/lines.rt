@@ -21,7 +21,7 @@ struct Case {
 const ROWS: &str = "o[k:I]";
 
 /// Rows by their first value, in its order.
-const ORDERED: [Case; 6] = [
+static ORDERED: [Case; 6] = [
     Case {
         rows: (ROWS, "{(3),(4),(5)}"),
         key: (ROWS, "{(9)}"),
@@ -67,7 +67,7 @@ const ORDERED: [Case; 6] = [
 ];
 
 /// Rows by their first value, in any order; a row that is put comes last where none has its key.
-const HASHED: [Case; 3] = [
+static HASHED: [Case; 3] = [
     Case {
         rows: (ROWS, "{(1),(2)}"),
         key: (ROWS, "{(1)}"),

@@ -1,5 +1,5 @@
 //! A commit in a whole run: each of its calls fails, or the machine stops after it.
-use crate::unviewed::run;
+use crate::unviewed::{host, run};
 use host_io::{Effect, Fault, MemHost};
 use mk_value::{Bytes, Memory};
 use shell::Status;
@@ -8,8 +8,6 @@ use std::process::Abort;
 use std::test::Fail;
 
 const WORDS: &[&str] = &["mkshell", "f"];
-
-const ROOM: usize = 16_384;
 
 /// A view of one row, committed.
 const FIRST: &[u8] = b"getas people[name:S,age:I]\nadd people \"Ann\" 31\ncommit\n";
@@ -34,7 +32,7 @@ const EDIT: &[u8] = b"set people 0 age 32\n";
 const BEFORE_GATE: u64 = 6;
 
 /// What a failing gate leaves, and what is said then.
-const FAILED: [(Effect, &[u8]); 2] = [
+static FAILED: [(Effect, &[u8]); 2] = [
     (
         Effect::Nothing,
         b"ok mkshell 1\nok\nerr 9 disk\nerr 11 shut\nok reopen 1\nok space 1 352 144\nerr 3 noname\n",
@@ -47,44 +45,47 @@ const FAILED: [(Effect, &[u8]); 2] = [
 
 /// The file that the first commit leaves.
 fn first_file(alloc: Global) -> Result<Bytes, Memory> {
-    let mut host = MemHost::new(alloc, b"", FIRST, &[], 0, ROOM)?;
+    let mut host = host(alloc, b"", FIRST, &[])?;
     let _ = run(alloc, WORDS, &mut host);
     Bytes::from_slice(alloc, host.image())
 }
 
-/// The number in the greeting of a run over an image, where it is 1 or 2.
-fn number_of(alloc: Global, image: &[u8]) -> Result<u64, Memory> {
-    let mut host = MemHost::new(alloc, image, b"", &[], 0, ROOM)?;
-    let _ = run(alloc, WORDS, &mut host);
-    let said = host.said();
-    if said == b"ok mkshell 1\n".as_slice() {
-        return Ok(1);
+/// The number in a greeting, where it is 1 or 2.
+fn number_in(greeting: &[u8]) -> u64 {
+    if greeting == b"ok mkshell 1\n".as_slice() {
+        return 1;
     }
-    if said == b"ok mkshell 2\n".as_slice() {
-        return Ok(2);
+    if greeting == b"ok mkshell 2\n".as_slice() {
+        return 2;
     }
-    Ok(0)
+    0
 }
 
-/// The second commit over a file, where one call fails: the file stands for one of the two, and for the second where that was
-/// acknowledged.
-fn fails_at(
-    rt: &impl Abort,
-    alloc: Global,
-    file: &[u8],
-    call: u64,
-    effect: Effect,
-) -> Result<(), Fail> {
-    let script = [Fault { call, effect }];
-    let mut host = MemHost::new(alloc, file, SECOND, &script, 0, ROOM)?;
+/// The number in the greeting of a run over an image, where it is 1 or 2.
+fn number_of(alloc: Global, image: &[u8]) -> Result<u64, Memory> {
+    let mut host = host(alloc, image, b"", &[])?;
     let _ = run(alloc, WORDS, &mut host);
+    Ok(number_in(host.said()))
+}
+
+/// What a second commit has left stands for one of the two, and for the second where that was acknowledged.
+fn stands(rt: &impl Abort, alloc: Global, host: &MemHost, fault: Fault) -> Result<(), Fail> {
     let number = number_of(alloc, host.image())?;
     let acknowledged = host.said().starts_with(COMMITTED);
     assert!(rt;
         number == 2 || (number == 1 && !acknowledged),
-        "call {call}, {effect:?}"
+        "call {}, {:?}",
+        fault.call,
+        fault.effect
     );
     Ok(())
+}
+
+/// The second commit over a file, where one call fails.
+fn fails_at(rt: &impl Abort, alloc: Global, file: &[u8], fault: Fault) -> Result<(), Fail> {
+    let mut host = host(alloc, file, SECOND, &[fault])?;
+    let _ = run(alloc, WORDS, &mut host);
+    stands(rt, alloc, &host, fault)
 }
 
 #[test]
@@ -92,7 +93,7 @@ fn each_call_fails(rt: HostRuntime) -> Result<(), Fail> {
     let file = first_file(rt.alloc())?;
     for call in 0..CALLS {
         for effect in EFFECTS {
-            fails_at(&rt, rt.alloc(), file.as_slice(), call, effect)?;
+            fails_at(&rt, rt.alloc(), file.as_slice(), Fault { call, effect })?;
         }
     }
     Ok(())
@@ -111,37 +112,64 @@ fn stops_after(rt: &impl Abort, alloc: Global, host: &MemHost, after: u64) -> Re
     Ok(())
 }
 
+/// The machine stops after each call of a run that has committed.
+fn stops(rt: &impl Abort, alloc: Global, host: &MemHost) -> Result<(), Fail> {
+    assert_eq!(rt; host.said(), COMMITTED);
+    for after in 0..CALLS {
+        stops_after(rt, alloc, host, after)?;
+    }
+    Ok(())
+}
+
+/// The host of a run over a file that has committed for the second time.
+fn second_run(rt: &impl Abort, alloc: Global, file: &[u8]) -> Result<MemHost, Memory> {
+    let mut host = host(alloc, file, SECOND, &[])?;
+    assert_eq!(rt; run(alloc, WORDS, &mut host), Status::Done);
+    Ok(host)
+}
+
 #[test]
 fn the_machine_stops(rt: HostRuntime) -> Result<(), Fail> {
     let file = first_file(rt.alloc())?;
-    let mut host = MemHost::new(rt.alloc(), file.as_slice(), SECOND, &[], 0, ROOM)?;
-    let status = run(rt.alloc(), WORDS, &mut host);
-    assert_eq!(rt; status, Status::Done);
-    assert_eq!(rt; host.said(), COMMITTED);
-    for after in 0..CALLS {
-        stops_after(&rt, rt.alloc(), &host, after)?;
-    }
-    Ok(())
+    let host = second_run(&rt, rt.alloc(), file.as_slice())?;
+    stops(&rt, rt.alloc(), &host)
 }
 
 /// The number of the call that opens the gate of the second commit. Before it come the calls of a run that ends where the commit would
 /// begin, without the take that finds the end of the input, and the commit's own.
 fn gate_call(alloc: Global, file: &[u8]) -> Result<u64, Memory> {
-    let mut host = MemHost::new(alloc, file, EDIT, &[], 0, ROOM)?;
+    let mut host = host(alloc, file, EDIT, &[])?;
     let _ = run(alloc, WORDS, &mut host);
     Ok(host.calls().saturating_sub(1).saturating_add(BEFORE_GATE))
+}
+
+/// The second commit over a file, where the call that opens its gate fails, and what is said then.
+fn gate_fails(
+    rt: &impl Abort,
+    alloc: Global,
+    file: &[u8],
+    fault: Fault,
+    said: &[u8],
+) -> Result<(), Fail> {
+    let mut host = host(alloc, file, AFTER, &[fault])?;
+    assert_eq!(rt; run(alloc, WORDS, &mut host), Status::Done);
+    assert_eq!(rt; host.said(), said);
+    Ok(())
 }
 
 #[test]
 fn a_failed_commit_is_found_or_not(rt: HostRuntime) -> Result<(), Fail> {
     let file = first_file(rt.alloc())?;
     let call = gate_call(rt.alloc(), file.as_slice())?;
-    for (effect, said) in FAILED {
-        let script = [Fault { call, effect }];
-        let mut host = MemHost::new(rt.alloc(), file.as_slice(), AFTER, &script, 0, ROOM)?;
-        let status = run(rt.alloc(), WORDS, &mut host);
-        assert_eq!(rt; status, Status::Done);
-        assert_eq!(rt; host.said(), said);
+    for (effect, said) in &FAILED {
+        let effect = *effect;
+        gate_fails(
+            &rt,
+            rt.alloc(),
+            file.as_slice(),
+            Fault { call, effect },
+            said,
+        )?;
     }
     Ok(())
 }

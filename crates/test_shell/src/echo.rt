@@ -1,6 +1,7 @@
 //! A session that says each line again, and a run of it over the host in memory.
 ghost use Rattle.std.specs.Prelude.{◌≡◌, ◌≤◌, ◌+◌, [], length};
 ghost use Rattle.lines.specs.Lines.{max_line};
+ghost use Rattle.lines.specs.Rooms.{IsClear};
 
 use host_io::{Effect, Fault, Host, MemHost};
 use lines::{End, Flow, MAX_BUDGET, MAX_LINE, Session, serve};
@@ -38,6 +39,21 @@ impl<H: Host> Session<H, ()> for Echo {
     }
 }
 
+/// Serves the lines of a host in rooms that are clear.
+fn serve_in(host: &mut MemHost, room: &mut Bytes, out: &mut Text, budget: u64) -> End
+    requires room { IsClear room.old }
+    requires out { IsClear out.old }
+{
+    serve(&mut Echo, host, &(), room, out, budget.min(MAX_BUDGET))
+}
+
+/// Serves the lines of a host.
+fn serve_host(alloc: Global, host: &mut MemHost, budget: u64) -> Result<End, Memory> {
+    let mut room = Bytes::with_room(alloc, MAX_LINE + 1)?;
+    let mut out = Text::with_room(alloc, MAX_LINE + 1)?;
+    Ok(serve_in(host, &mut room, &mut out, budget))
+}
+
 /// How a run over this input ends, and what is said, where the call of this number fails, a piece has at most so many
 /// bytes (0 is no bound) and the run takes at most so many.
 pub fn run(
@@ -52,15 +68,6 @@ pub fn run(
         effect: Effect::Nothing,
     }];
     let mut host = MemHost::new(alloc, b"", input, &script, most, MAX_LINE + 1)?;
-    let mut room = Bytes::with_room(alloc, MAX_LINE + 1)?;
-    let mut out = Text::with_room(alloc, MAX_LINE + 1)?;
-    let end = serve(
-        &mut Echo,
-        &mut host,
-        &(),
-        &mut room,
-        &mut out,
-        budget.min(MAX_BUDGET),
-    );
+    let end = serve_host(alloc, &mut host, budget)?;
     Ok((end, Bytes::from_slice(alloc, host.said())?))
 }

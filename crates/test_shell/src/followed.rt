@@ -1,16 +1,17 @@
 //! How many events watches have followed behind the lines of a session.
+ghost use Rattle.host_io.specs.Disk.{IsSettled};
+ghost use Rattle.host_io.specs.Memory.{outside_of};
+
+use crate::unviewed::{host, serve};
 use host_io::MemHost;
-use lines::{MAX_BUDGET, MAX_LINE};
-use mk_value::{Bytes, Name, Text};
+use lines::MAX_BUDGET;
+use mk_value::Name;
 use session::{Session, start};
-use shell::{Status, serve};
+use shell::Status;
 use std::alloc::Global;
 use std::process::Abort;
 use std::test::Fail;
 use storage::Mode;
-use viewers::StoredViewer;
-
-const ROOM: usize = 16_384;
 
 const CAP: u64 = 4096;
 
@@ -20,36 +21,6 @@ const LINES: &[u8] =
 
 const SAID: &[u8] = b"ok people[name:S,age:I]\nok 0\nok 1\nok 2\nok 2\nok 2\nok\nok\n";
 
-/// What the lines leave: the session, the host, and how their run ended.
-#[derive(Drop)]
-struct Served {
-    session: Session,
-    host: MemHost,
-    status: Status,
-}
-
-/// Serves the lines in a session over an empty file.
-fn serve_lines(alloc: Global) -> Result<Served, Fail> {
-    let mut host = MemHost::new(alloc, b"", LINES, &[], 0, ROOM)?;
-    let mut room = Bytes::with_room(alloc, MAX_LINE + 1)?;
-    let mut reply = Text::with_room(alloc, MAX_LINE + 1)?;
-    let mut session = start(alloc, &mut host, Mode::Write, CAP)?;
-    let viewers: [StoredViewer; 0] = [];
-    let status = serve(
-        &mut session,
-        &mut host,
-        &viewers,
-        &mut room,
-        &mut reply,
-        MAX_BUDGET,
-    );
-    Ok(Served {
-        session,
-        host,
-        status,
-    })
-}
-
 /// How many events the watch of a name has followed, where it keeps positions.
 fn followed(session: &Session, name: &[u8]) -> Option<u64> {
     let name = Name::from_bytes(name)?;
@@ -58,13 +29,26 @@ fn followed(session: &Session, name: &[u8]) -> Option<u64> {
 }
 
 /// Each of two watches over one another has followed the two edits behind it, and a view is no watch.
+fn are_followed(rt: &impl Abort, session: &Session) {
+    assert_eq!(rt; followed(session, b"a"), Some(2));
+    assert_eq!(rt; followed(session, b"b"), Some(2));
+    assert_eq!(rt; followed(session, b"people"), None);
+}
+
+/// Serves the lines of a host in a session over its file, and looks at the watches behind them.
+fn serve_lines(rt: &impl Abort, alloc: Global, host: &mut MemHost) -> Result<Status, Fail>
+    requires { IsSettled (outside_of host.old).now.disk }
+{
+    let mut session = start(alloc, host, Mode::Write, CAP)?;
+    let status = serve(alloc, &mut session, host, MAX_BUDGET)?;
+    are_followed(rt, &session);
+    Ok(status)
+}
+
 #[test]
 fn watches_follow_each_line_once(rt: HostRuntime) -> Result<(), Fail> {
-    let served = serve_lines(rt.alloc())?;
-    assert_eq!(rt; served.status, Status::Done);
-    assert_eq!(rt; served.host.said(), SAID);
-    assert_eq!(rt; followed(&served.session, b"a"), Some(2));
-    assert_eq!(rt; followed(&served.session, b"b"), Some(2));
-    assert_eq!(rt; followed(&served.session, b"people"), None);
+    let mut host = host(rt.alloc(), b"", LINES, &[])?;
+    assert_eq!(rt; serve_lines(&rt, rt.alloc(), &mut host)?, Status::Done);
+    assert_eq!(rt; host.said(), SAID);
     Ok(())
 }

@@ -3,12 +3,13 @@ use crate::echo::run;
 use lines::{End, MAX_BUDGET, MAX_LINE};
 use mk_value::{Bytes, Memory};
 use std::alloc::Global;
+use std::process::Abort;
 use std::test::Fail;
 
 const REFUSED: &[u8] = b"err 8 limit\n";
 
 /// The letters of a line, what comes after them, and what is said; nothing: the line itself.
-const CASES: [(usize, &[u8], Option<&[u8]>); 5] = [
+static CASES: [(usize, &[u8], Option<&[u8]>); 5] = [
     (MAX_LINE, b"\n", None),
     (MAX_LINE + 1, b"", Some(REFUSED)),
     (MAX_LINE + 1, b"\n", Some(REFUSED)),
@@ -26,16 +27,25 @@ fn line_of(alloc: Global, count: usize, after: &[u8]) -> Result<Bytes, Memory> {
     Ok(line)
 }
 
+/// A run over a line says what is wanted, or the line itself.
+fn says(
+    rt: &impl Abort,
+    alloc: Global,
+    line: &[u8],
+    want: Option<&[u8]>,
+    after: &[u8],
+) -> Result<(), Fail> {
+    let (end, said) = run(alloc, line, None, 0, MAX_BUDGET)?;
+    assert_eq!(rt; end, End::Done, "before {after:?}");
+    assert!(rt; said.as_slice() == want.unwrap_or(line), "before {after:?}");
+    Ok(())
+}
+
 #[test]
 fn a_line_too_long_is_answered_once(rt: HostRuntime) -> Result<(), Fail> {
-    for (count, after, want) in CASES {
-        let line = line_of(rt.alloc(), count, after)?;
-        let (end, said) = run(rt.alloc(), line.as_slice(), None, 0, MAX_BUDGET)?;
-        assert_eq!(rt; end, End::Done, "before {after:?}");
-        assert!(rt;
-            said.as_slice() == want.unwrap_or(line.as_slice()),
-            "before {after:?}"
-        );
+    for (count, after, want) in &CASES {
+        let line = line_of(rt.alloc(), *count, after)?;
+        says(&rt, rt.alloc(), line.as_slice(), *want, after)?;
     }
     Ok(())
 }

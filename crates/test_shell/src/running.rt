@@ -1,15 +1,16 @@
 //! Runs of the whole program, each with its status.
-use crate::unviewed::run;
+ghost use Rattle.host_io.specs.Disk.{IsSettled};
+ghost use Rattle.host_io.specs.Memory.{outside_of};
+
+use crate::unviewed::{host, run, serve};
 use host_io::{Effect, Fault, MemHost};
-use lines::MAX_LINE;
-use mk_value::{Bytes, Memory, Text};
+use mk_value::{Bytes, Memory};
 use session::start;
-use shell::{Status, serve};
+use shell::Status;
 use std::alloc::Global;
 use std::process::Abort;
 use std::test::Fail;
 use storage::Mode;
-use viewers::StoredViewer;
 
 const ROOM: usize = 16_384;
 
@@ -58,7 +59,7 @@ ok 4064\nerr 10 full 800 608\nok 0\nok commit 6\n";
 
 const SAMPLE: &[&str] = &["mkshell", "--sample", "1", "--count", "0", "f"];
 
-const CASES: [Case; 28] = [
+static CASES: [Case; 28] = [
     (
         RIGHT,
         b"",
@@ -198,16 +199,19 @@ fn each_status_has_its_words(rt: HostRuntime) -> Result<(), Fail> {
     Ok(())
 }
 
+/// How a session over a host's file ends that takes five bytes at most.
+fn serve_five(alloc: Global, host: &mut MemHost) -> Result<Status, Fail>
+    requires { IsSettled (outside_of host.old).now.disk }
+{
+    let mut session = start(alloc, host, Mode::Write, CAP)?;
+    Ok(serve(alloc, &mut session, host, 5)?)
+}
+
 /// A run that takes five bytes of two lines: `size` is answered, and one more byte comes.
 #[test]
 fn a_budget_is_kept(rt: HostRuntime) -> Result<(), Fail> {
-    let mut host = MemHost::new(rt.alloc(), b"", b"size\nquit\n", &[], 0, ROOM)?;
-    let mut room = Bytes::with_room(rt.alloc(), MAX_LINE + 1)?;
-    let mut reply = Text::with_room(rt.alloc(), MAX_LINE + 1)?;
-    let mut session = start(rt.alloc(), &mut host, Mode::Write, CAP)?;
-    let viewers: [StoredViewer; 0] = [];
-    let status = serve(&mut session, &mut host, &viewers, &mut room, &mut reply, 5);
-    assert_eq!(rt; status, Status::TooMuch);
+    let mut host = host(rt.alloc(), b"", b"size\nquit\n", &[])?;
+    assert_eq!(rt; serve_five(rt.alloc(), &mut host)?, Status::TooMuch);
     assert_eq!(rt; host.said(), b"err 2 syntax 4\n".as_slice());
     Ok(())
 }

@@ -12,7 +12,7 @@ const CUT: &[u8] = b"one\n\ntwo three\n four\nlast";
 
 const SAID: &[u8] = b"one\ntwo three\n four\nlast\n";
 
-const CASES: [Case; 18] = [
+static CASES: [Case; 18] = [
     (b"", None, 0, 9, End::Done, b""),
     (b"a\n", None, 0, 9, End::Done, b"a\n"),
     (b"a\n\nb", None, 0, 9, End::Done, b"a\nb\n"),

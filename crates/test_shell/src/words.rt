@@ -11,7 +11,7 @@ type Asked = (&'static [&'static str], &'static str, Mode, u64, Task);
 /// The cap that is meant where none is given.
 const MOST: u64 = 2_147_483_632;
 
-const ASKED: [Asked; 27] = [
+static ASKED: [Asked; 27] = [
     (&["f"], "f", Mode::Write, MOST, Task::Serve),
     (&["--extend", "f"], "f", Mode::Extend, MOST, Task::Serve),
     (&["--read", "f"], "f", Mode::Read, MOST, Task::Serve),
@@ -102,7 +102,7 @@ const ASKED: [Asked; 27] = [
 ];
 
 /// Words behind the program's own name that ask for nothing.
-const ASK_NOTHING: [&[&str]; 61] = [
+static ASK_NOTHING: [&[&str]; 61] = [
     // No file, an empty name, and two files.
     &[],
     &["--read"],

@@ -6,7 +6,7 @@ use storage::Mode;
 
 const ANN: &str = r#"people[name:S,age:I]{("Ann",31)}"#;
 
-const CASES: [Case; 8] = [
+static CASES: [Case; 8] = [
     Case {
         title: "there and back",
         file: WORKED_FILE,

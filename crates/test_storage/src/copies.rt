@@ -8,7 +8,7 @@ const ANN: &str = r#"people[name:S,age:I]{("Ann",31)}"#;
 const BOOK: &str =
     r#"book[name:S,phones[kind:S,number:S],born:I]{("Ann",{("home","555-0100"),("work","555-0101")},1970),("Bob",{},1971)}"#;
 
-const CASES: [Case; 2] = [
+static CASES: [Case; 2] = [
     Case {
         title: "edits of a view of the worked file",
         file: WORKED_FILE,

@@ -23,7 +23,7 @@ struct Scenario {
     calls: u64,
 }
 
-const SCENARIOS: [Scenario; 4] = [
+static SCENARIOS: [Scenario; 4] = [
     // The other slot was never open, so no gate is closed. Three blocks, the directory and the body of the mark are written and
     // synced, and then the gate.
     Scenario {
@@ -147,7 +147,7 @@ const SCENARIOS: [Scenario; 4] = [
 ];
 
 /// A commit that fails.
-const FAILING: [Turn; 2] = [(Call::Commit(""), "Err(Failed)"), (Call::IsShut, "true")];
+static FAILING: [Turn; 2] = [(Call::Commit(""), "Err(Failed)"), (Call::IsShut, "true")];
 
 /// The commit that an image stands for.
 #[derive(Clone, Copy)]

@@ -7,7 +7,7 @@ use std::alloc::Global;
 use std::test::Fail;
 use storage::{Mode, Store};
 
-const CASES: [Case; 2] = [
+static CASES: [Case; 2] = [
     Case {
         title: "the worked file is made",
         file: EMPTY_FILE,

@@ -3,7 +3,7 @@ use crate::call::{CAP, Call, Case, DONE, EMPTY_FILE, WORKED_FILE, hold};
 use std::test::Fail;
 use storage::Mode;
 
-const CASES: [Case; 2] = [
+static CASES: [Case; 2] = [
     Case {
         title: "a note stays with the commits after it",
         file: WORKED_FILE,

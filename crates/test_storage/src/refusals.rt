@@ -26,7 +26,7 @@ const LAST: File = File {
 };
 
 /// All three causes stand together, then the last two, then the last alone.
-const UNPLANNED: [Case; 7] = [
+static UNPLANNED: [Case; 7] = [
     Case {
         title: "only read",
         file: LAST,
@@ -107,7 +107,7 @@ fn commits_are_not_planned(rt: HostRuntime) -> Result<(), Fail> {
 }
 
 /// Bytes of the worked file that are changed, and what a look at it finds.
-const CHECKED: [Case; 1] = [Case {
+static CHECKED: [Case; 1] = [Case {
     title: "looks at changed files",
     file: WORKED_FILE,
     faults: &[],
@@ -140,7 +140,7 @@ struct Failing {
 const CALLS: u64 = 7;
 
 /// A call fails with the disk, the store is as it was, and the call succeeds the next time.
-const FAILING: [Failing; 2] = [
+static FAILING: [Failing; 2] = [
     Failing {
         title: "the file is opened anew",
         calls: CALLS,
@@ -166,7 +166,7 @@ const FAILING: [Failing; 2] = [
     },
 ];
 
-const CALLS_MADE: [Case; 1] = [Case {
+static CALLS_MADE: [Case; 1] = [Case {
     title: "calls of the host are counted",
     file: WORKED_FILE,
     faults: &[],

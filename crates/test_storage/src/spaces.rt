@@ -3,7 +3,7 @@ use crate::call::{CAP, Call, Case, DONE, EMPTY_FILE, WORKED_FILE, hold};
 use std::test::Fail;
 use storage::Mode;
 
-const CASES: [Case; 4] = [
+static CASES: [Case; 4] = [
     Case {
         title: "a column goes from 0 bits to 1, 4 and 32 and back, and past the cap",
         file: EMPTY_FILE,
