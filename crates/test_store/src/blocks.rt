@@ -95,24 +95,24 @@ fn repeated(alloc: Global, bytes: &[u8], byte: u8, count: usize) -> Result<Vec<u
     Ok(all)
 }
 
-/// The column of numbers is written as these bytes, and so many zeros.
-fn writes_as(
+/// What was written is these bytes, and so many zeros.
+fn is_padded(
     rt: &impl Abort,
     alloc: Global,
-    column: &IntCol,
+    written: &[u8],
     front: &[u8],
     zeros: usize,
 ) -> Result<(), Fail> {
     let wanted = repeated(alloc, front, 0, zeros)?;
-    let bytes = written_numbers(rt, alloc, column)?;
-    assert_eq!(rt; bytes.as_slice(), wanted.as_slice());
+    assert_eq!(rt; written, wanted.as_slice());
     Ok(())
 }
 
 #[test]
 fn writes_numbers(rt: HostRuntime) -> Result<(), Fail> {
     let column = IntCol::from_values(rt.alloc(), &[31, 3, -1], None)?;
-    writes_as(&rt, rt.alloc(), &column, &[0x1f, 0x03, 0xff], 13)
+    let written = written_numbers(&rt, rt.alloc(), &column)?;
+    is_padded(&rt, rt.alloc(), &written, &[0x1f, 0x03, 0xff], 13)
 }
 
 /// The column of Ann, a long text, and Bo.
@@ -125,41 +125,15 @@ fn texts(alloc: Global, long: &[u8]) -> Result<BytesCol, Fail> {
     Ok(BytesCol::from_values(alloc, &values, None)?)
 }
 
-/// The short texts are written as these bytes, and so many zeros.
-fn writes_short_as(
-    rt: &impl Abort,
-    alloc: Global,
-    column: &BytesCol,
-    front: &[u8],
-    zeros: usize,
-) -> Result<(), Fail> {
-    let wanted = repeated(alloc, front, 0, zeros)?;
-    let bytes = written_short(rt, alloc, column)?;
-    assert_eq!(rt; bytes.as_slice(), wanted.as_slice());
-    Ok(())
-}
-
-/// The memo at place 1 is written as these bytes, and so many zeros.
-fn writes_memo_as(
-    rt: &impl Abort,
-    alloc: Global,
-    column: &BytesCol,
-    front: &[u8],
-    zeros: usize,
-) -> Result<(), Fail> {
-    let wanted = repeated(alloc, front, 0, zeros)?;
-    let bytes = written_memo(rt, alloc, column, 1)?;
-    assert_eq!(rt; bytes.as_slice(), wanted.as_slice());
-    Ok(())
-}
-
 /// A text that is a memo.
 static LONG: [u8; 600] = [b'x'; 600];
 
-/// The column of Ann, the long text and Bo is written so.
+/// The short texts of Ann, the long text and Bo are written so, and the long one as a memo.
 fn writes_all(rt: &impl Abort, alloc: Global, column: &BytesCol) -> Result<(), Fail> {
-    writes_short_as(rt, alloc, column, b"AnnBo", 11)?;
-    writes_memo_as(rt, alloc, column, &LONG, 8)
+    let short = written_short(rt, alloc, column)?;
+    is_padded(rt, alloc, &short, b"AnnBo", 11)?;
+    let memo = written_memo(rt, alloc, column, 1)?;
+    is_padded(rt, alloc, &memo, &LONG, 8)
 }
 
 #[test]
