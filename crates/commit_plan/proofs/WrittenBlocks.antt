@@ -75,7 +75,7 @@ more_none all k b p at empty =
     ap (filter is_some) (take_more all k b p ∙ ap (λ x. take k all ++ x ∷ []) at) ∙ filter-append is_some (take k all) (b ∷ []) ∙ ap (λ bs. filter is_some (take k all) ++ bs) (none_first b [] empty) ∙ append-nil (filter is_some (take k all))
 
 rounds : (span : Span) (bytes : List ℕ) → span.len ≡ length bytes → IsRounded (one span bytes) (rounded bytes)
-rounds span bytes e = record { own = ap (λ n. take n (rounded bytes)) e ∙ take-rounded bytes; long = length-rounded bytes ∙ ap extent_len (sym e) }
+rounds span bytes e = record { is = refl; own = ap (λ n. take n (rounded bytes)) e ∙ take-rounded bytes; long = length-rounded bytes ∙ ap extent_len (sym e) }
 
 -- One block more is put.
 puts_next : {U E : Type 0} {result : Result U E} (all : List Block) (k : ℕ) (span : Span) (bytes : List ℕ) {old mid new : Outside} → k < length all → get_or all k (one span bytes) ≡ one span bytes → AreWritable (filter is_some all) → BeginWithin (length old.now.disk.seen) (filter is_some all)

@@ -1,3 +1,4 @@
+mod Files
 mod Filling
 pub mod Frames
 pub mod Phases

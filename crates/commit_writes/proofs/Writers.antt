@@ -12,10 +12,11 @@ use Rattle.host_io.proofs.Moments.{begins, joins, weaker}
 use Rattle.host_io.proofs.Ranges.{bytes_agree, within_joins, within_same, within_wider}
 use Rattle.free_space.specs.Extents.{AreApart, Meets, extent_end, extent_len}
 use Rattle.free_space.proofs.ExtentLemmas.{le-extent_len}
-use Rattle.commit_writes.specs.Blocks.{Block, AreWritable, BeginWithin, IsBlockWithin, IsWritable, extent_range, extents_of, span_range, spans_of}
+use Rattle.commit_writes.specs.Blocks.{Block, AreWritable, BeginWithin, IsBlockWithin, IsWritable, extent_bytes, extent_range, extents_of, span_range, spans_of, with_blocks}
 use Rattle.commit_writes.specs.Footprints.{Footprint}
 use Rattle.commit_writes.specs.Plans.{IsSoundAfter}
 use Rattle.commit_writes.specs.Writing.{IsWhole, PutsBlocks}
+use Rattle.commit_writes.proofs.Files.{with_last}
 
 among_front : (xs ys : List Block) → AreWithin (extents_of xs) (extents_of (xs ++ ys))
 among_front [] ys place among = absurd among
@@ -28,6 +29,7 @@ among_last (x ∷ xs) b place among = inr (among_last xs b place among)
 -- no block is put
 pub puts_none : {T E : Type 0} {x : T} (outside : Outside) → PutsBlocks {E = E} [] outside outside (Ok x)
 puts_none outside = record {
+  file = refl;
   ok = All-nil (IsWhole outside.now.disk.seen);
   within = within_same [] outside.now.disk;
   moments = begins outside;
@@ -35,8 +37,9 @@ puts_none outside = record {
   input = refl;
 }
 
--- The bytes of a block as they are put: its own first, and as many as its extent has.
+-- The bytes of a block as they are put: those of its extent, its own first, and as many as the extent has.
 pub record IsRounded (b : Block) (bytes : List ℕ) : Type 0 where
+  pub is : bytes ≡ extent_bytes b
   pub own : take b.span.len bytes ≡ b.bytes
   pub long : length bytes ≡ extent_len b.span.len
 
@@ -44,6 +47,7 @@ pub record IsRounded (b : Block) (bytes : List ℕ) : Type 0 where
 pub puts_more : {T U E : Type 0} {x : T} {result : Result U E} (blocks : List Block) (b : Block) (bytes : List ℕ) {old mid new : Outside} → IsRounded b bytes → All (λ o. ¬ Meets o.span b.span) blocks → b.span.place ≤ length mid.now.disk.seen
     → PutsBlocks {E = E} blocks old mid (Ok x) → Puts b.span.place bytes mid new result → PutsBlocks (blocks ++ b ∷ []) old new result
 puts_more {result = result} blocks b bytes {old} {mid} {new} rounds apart within first then = record {
+  file = filled result then.ok;
   ok = all result then.ok;
   within = both new.now.disk then.within;
   moments = joins
@@ -61,7 +65,7 @@ puts_more {result = result} blocks b bytes {old} {mid} {new} rounds apart within
       (within_wider (extent_range b.span ∷ []) (extents_of (blocks ++ b ∷ [])) mid.now.disk disk (among_last blocks b) (extent disk more))
 
   agrees : AgreesBut (extent_range b.span ∷ []) mid.now.disk.seen new.now.disk.seen
-  agrees = (extent new.now.disk then.within).agrees
+  agrees = (extent new.now.disk then.within).changes.agrees
 
   clear : (o : Block) → ¬ Meets o.span b.span → IsClear (extent_range b.span ∷ []) (span_range o.span)
   clear o meets place there among = ⊎_elim
@@ -76,6 +80,13 @@ puts_more {result = result} blocks b bytes {old} {mid} {new} rounds apart within
         (let l = whole.long in let e = le-extent_len o.span.len in omega (arith, l, e)) ∙ whole.stands;
     long = let l = whole.long in let a = agrees.no_shorter in omega (arith, l, a);
   }
+
+  filled : {U E : Type 0} (r : Result U E) → OnOk r (new.now.disk.seen ≡ put_bytes mid.now.disk.seen b.span.place bytes) → OnOk r (new.now.disk.seen ≡ with_blocks (blocks ++ b ∷ []) old.now.disk.seen)
+  filled (Ok y) is =
+      is ∙ ap (λ (l : List ℕ). put_bytes l b.span.place bytes) first.file
+      ∙ ap (λ (l : List ℕ). put_bytes (with_blocks blocks old.now.disk.seen) b.span.place l) rounds.is
+      ∙ sym (with_last blocks b old.now.disk.seen)
+  filled (Err e) is = tt
 
   shorter : b.span.len ≤ length bytes
   shorter = let e = le-extent_len b.span.len in let l = rounds.long in omega (arith, e, l)
@@ -98,6 +109,7 @@ puts_more {result = result} blocks b bytes {old} {mid} {new} rounds apart within
 -- where putting the first ones failed, so did putting all
 pub puts_failed : {T U E F : Type 0} {e : E} {f : F} (front rest : List Block) {old new : Outside} → PutsBlocks {T = T} front old new (Err e) → PutsBlocks {T = U} (front ++ rest) old new (Err f)
 puts_failed front rest {old} {new} puts = record {
+  file = tt;
   ok = tt;
   within = within_wider (extents_of front) (extents_of (front ++ rest)) old.now.disk new.now.disk (among_front front rest) puts.within;
   moments = weaker (λ at is. (is.0, within_wider (extents_of front) (extents_of (front ++ rest)) old.now.disk at.disk (among_front front rest) is.1)) puts.moments;
@@ -113,7 +125,7 @@ next_begins end len (o ∷ front) b rest begin reach long =
 
 -- the next block begins within the file, once those before it were put
 pub next_within : {T E : Type 0} {x : T} {old mid : Outside} (front : List Block) (b : Block) (rest : List Block) → BeginWithin (length old.now.disk.seen) (front ++ b ∷ rest) → PutsBlocks {E = E} front old mid (Ok x) → b.span.place ≤ length mid.now.disk.seen
-next_within {old = old} {mid} front b rest begin puts = next_begins (length old.now.disk.seen) (length mid.now.disk.seen) front b rest begin puts.within.agrees.no_shorter
+next_within {old = old} {mid} front b rest begin puts = next_begins (length old.now.disk.seen) (length mid.now.disk.seen) front b rest begin puts.within.changes.agrees.no_shorter
     (All-weaker (IsWhole mid.now.disk.seen) (λ o. extent_end o.span ≤ length mid.now.disk.seen) (λ o whole. whole.long) front puts.ok)
 
 begin_later : (end later : ℕ) (blocks : List Block) → end ≤ later → BeginWithin end blocks → BeginWithin later blocks

@@ -1,7 +1,8 @@
 -- Blocks, as bytes and the spans where they stand.
-use Rattle.std.specs.Prelude.{◌≡◌, ℕ, ◌^◌, ◌<◌, ◌≤◌, ◌⊎◌, List, [], ◌∷◌, length, map, max, All}
+use Rattle.std.specs.Prelude.{◌≡◌, ℕ, ◌-◌, ◌^◌, ◌<◌, ◌≤◌, ◌⊎◌, List, [], ◌∷◌, ◌++◌, length, map, max, replicate, All}
 use Rattle.mk_value.specs.declared.span.Span.{Span}
 use Rattle.host_io.specs.Disk.{Range}
+use Rattle.host_io.specs.Calls.{put_bytes}
 use Rattle.host_io.specs.Ranges.{bytes_in}
 use Rattle.free_space.specs.Extents.{AreApart, extent_end, extent_len}
 use Rattle.free_space.specs.Sites.{IsSite, first_place, no_span}
@@ -27,6 +28,15 @@ extent_range span = record { start = span.place; count = extent_len span.len }
 
 abbrev pub extents_of : List Block → List Range
 extents_of blocks = map (λ b. extent_range b.span) blocks
+
+-- the bytes of a block's extent as they are written: its own, with zeros behind them
+abbrev pub extent_bytes : Block → List ℕ
+extent_bytes b = b.bytes ++ replicate (extent_len (length b.bytes) - length b.bytes) 0
+
+-- a file after these blocks were put at their spans, one after another
+abbrev pub with_blocks : List Block → List ℕ → List ℕ
+with_blocks [] file = file
+with_blocks (b ∷ blocks) file = with_blocks blocks (put_bytes file b.span.place (extent_bytes b))
 
 -- the image has the bytes of the block at its span
 abbrev pub StandsAt : List ℕ → Block → Type 0

@@ -3,7 +3,7 @@ use Rattle.std.specs.Prelude.{◌≡◌, ℕ, ◌≤◌, List, [], ◌∷◌, le
 use Rattle.host_io.specs.Disk.{DiskState, IsSettled, Range}
 use Rattle.host_io.specs.Ranges.{AgreesBut, WritesOnly, bytes_in}
 use Rattle.commit_marks.specs.declared.mark.Mark.{Mark}
-use Rattle.commit_marks.specs.Marks.{Chooses, IsOpen, body_bytes, body_range, gate_range, other_slot}
+use Rattle.commit_marks.specs.Marks.{Chooses, IsOpen, body_bytes, body_range, gate_range, other_slot, slot_range}
 use Rattle.commit_writes.specs.Blocks.{Block, StandsAt, extents_of}
 use Rattle.commit_writes.specs.Footprints.{Footprint, Holds}
 
@@ -17,6 +17,10 @@ pub record IsAtRest (f : Footprint) (slot : ℕ) (other : Option Mark) (disk : D
 -- what is written behind the closed gate of a slot: its body, and the blocks
 abbrev pub ranges_behind : ℕ → List Block → List Range
 ranges_behind slot writes = body_range slot ∷ extents_of writes
+
+-- where a commit writes at all: in the slot of the mark that is not chosen, and at the extents of its blocks
+abbrev pub commit_ranges : ℕ → List Block → List Range
+commit_ranges slot writes = slot_range (other_slot slot) ∷ extents_of writes
 
 -- the other gate was closed, over bytes at rest
 pub record IsClosed (slot : ℕ) (rest closed : List ℕ) : Type 0 where

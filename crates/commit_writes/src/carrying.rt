@@ -29,7 +29,7 @@ pub fn carry<D: Disk, B: WritesBlocks>(
     ensures counts { CountsDisk (D.outside disk.old) (D.outside disk.new) result }
     ensures carries { D.tells → (old after : Footprint) →
         IsReady old after marks.now (B.blocks blocks.now) next.now (D.outside disk.old).now.disk →
-        Carries old after marks.now.slot (B.blocks blocks.now) (D.outside disk.old) (D.outside disk.new) result }
+        Carries old after marks.now.slot marks.now.other (B.blocks blocks.now) (D.outside disk.old) (D.outside disk.new) result }
 {
     let other = 1 - marks.slot;
     close_other(disk, marks)?;

@@ -57,7 +57,7 @@ pub table_found : (views : List NamedTable) (all : List Followed) (name : List �
 table_found views all name f t e is = ap (λ o. shown_in views o name) e ∙ ap (option_map (shown_at f.watches (place_of f.watches name))) is
 
 pub watch_shows : (views : List NamedTable) (all : List Kept) (name : List ℕ) (watching : Watching) (number : ℕ) → AreKept views all → IsWatchOf all name watching number
-    → (t : StoredTable) × (shown : Table) × (table_of views (source_of (followed all) name).view ≡ Some t) × (watch_table views (followed all) name ≡ Some shown) × ShowsRows t.rows shown watching number
+    → (t : StoredTable) × (shown : Table) × (table_of views (source_of (followed all) name).view ≡ Some t) × (watch_table views (followed all) name ≡ Some shown) × ShowsRows t.rows shown watching number × AreNow t.schema t.rows watching.watches
 watch_shows views all name watching number h is =
     let k = is.watches in
     let kept : IsKept views k = found_in (λ (k : Kept). is_among (followed_of k).watches name) (IsKept views) all k h is.found in
@@ -84,4 +84,5 @@ watch_shows views all name watching number h is =
             let long = size any_watch in
             (row_stands t.schema t.rows watching.watches at any_watch i now is.there (omega arith)).1 ∙ ap (λ rows. get_or rows i []) (sym seen_is);
       },
+      now,
     )

@@ -1,5 +1,6 @@
 //! Laws of the watches of views.
 ghost use Rattle.std.specs.Prelude.{◌≡◌, ℕ, List, false, Some};
+ghost use Rattle.live.specs.Chains.{AreNow};
 ghost use Rattle.live.specs.States.{Watching};
 ghost use Rattle.mk_value.specs.Names.{same_bytes};
 ghost use Rattle.mk_value.specs.Tables.{Table};
@@ -29,10 +30,12 @@ pub fn kept_over_view()
     ensures { (views : List NamedTable) (all : List Kept) (view : List ℕ) (t : StoredTable) → AreKept views all → table_of views view ≡ Some t → AreKeptOver view t.schema t.rows all }
 {}
 
-/// The positions of a watch are those of the rows that it shows, in the rows of its view.
+/// The positions of a watch are those of the rows that it shows, in the rows of its view; and all watches of the view keep the positions
+/// that their operators give over the rows of their sources.
 pub fn watches_show_rows()
     ensures { (views : List NamedTable) (all : List Kept) (name : List ℕ) (watching : Watching) (number : ℕ) → AreKept views all → IsWatchOf all name watching number
-        → (t : StoredTable) × (shown : Table) × (table_of views (source_of (followed all) name).view ≡ Some t) × (watch_table views (followed all) name ≡ Some shown) × ShowsRows t.rows shown watching number }
+        → (t : StoredTable) × (shown : Table) × (table_of views (source_of (followed all) name).view ≡ Some t) × (watch_table views (followed all) name ≡ Some shown) × ShowsRows t.rows shown watching number
+        × AreNow t.schema t.rows watching.watches }
 {}
 
 /// That the watches are kept, as a fact that a type can hold.

@@ -12,11 +12,12 @@ pub record Counts {T E : Type 0} (before now : ℕ) (result : Result T E) : Type
   pub later : before ≤ now
   pub cause : IsErr result → Rose before now
 
--- the disk's faults are counted, and those of input and output stay
+-- The disk's faults are counted, those of input and output stay, and so does what the outside stands over.
 pub record CountsDisk {T E : Type 0} (old new : Outside) (result : Result T E) : Type 0 where
   pub disk : Counts old.disk_faults new.disk_faults result
   pub takes : new.take_faults ≡ old.take_faults
   pub says : new.say_faults ≡ old.say_faults
+  pub source : new.source ≡ old.source
 
 -- The same of a call that may be refused for other reasons too: the disk's faults rose where it failed by one of them.
 pub record CountsFaults (failed : Type 0) (old new : Outside) : Type 0 where
@@ -24,16 +25,19 @@ pub record CountsFaults (failed : Type 0) (old new : Outside) : Type 0 where
   pub cause : failed → Rose old.disk_faults new.disk_faults
   pub takes : new.take_faults ≡ old.take_faults
   pub says : new.say_faults ≡ old.say_faults
+  pub source : new.source ≡ old.source
 
 pub record CountsTake {T E : Type 0} (old new : Outside) (result : Result T E) : Type 0 where
   pub takes : Counts old.take_faults new.take_faults result
   pub disk : new.disk_faults ≡ old.disk_faults
   pub says : new.say_faults ≡ old.say_faults
+  pub source : new.source ≡ old.source
 
 pub record CountsSay {T E : Type 0} (old new : Outside) (result : Result T E) : Type 0 where
   pub says : Counts old.say_faults new.say_faults result
   pub disk : new.disk_faults ≡ old.disk_faults
   pub takes : new.take_faults ≡ old.take_faults
+  pub source : new.source ≡ old.source
 
 -- no moment passes: the bytes of the disk, what a crash may leave of them and what was said stay
 pub record StandsStill (old new : Outside) : Type 0 where

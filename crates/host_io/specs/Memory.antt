@@ -93,6 +93,7 @@ outside_of host = record {
   disk_faults = host.disk_faults;
   take_faults = host.take_faults;
   say_faults = host.say_faults;
+  source = [];
 }
 
 -- a count that goes up by one, up to the last value of its type

@@ -17,6 +17,8 @@ pub record Outside : Type 0 where
   pub disk_faults : ℕ
   pub take_faults : ℕ
   pub say_faults : ℕ
+  -- what it stands over, where that is something that its caller lent: no call changes it
+  pub source : List ℕ
 
 abbrev pub moments : Outside → List Moment
 moments outside = outside.now ∷ outside.past

@@ -2,10 +2,11 @@
 use Rattle.std.proofs.Common.{◌≡◌, ℕ, suc, ◌+◌, ◌-◌, ◌<◌, ◌≤◌, List, [], ◌∷◌, ◌++◌, length, take, Result, Ok, Err, refl, sym, ap, ◌∙◌, subst, ◌⊎◌, inl, inr, append_assoc, length-append, length-take, arith}
 use Rattle.std.proofs.lemmas.List.{append-nil, take_all}
 use Rattle.host_io.specs.Outside.{Moment, Outside, Left, LeftAt, moment, moments}
-use Rattle.host_io.specs.Calls.{StandsStill}
+use Rattle.host_io.specs.Calls.{CountsTake, StandsStill}
 use Rattle.lines.specs.declared.session.Flow.{Flow}
 use Rattle.lines.specs.declared.session.Flow.TheVariants.{Goes as GoesOn, Ends}
 use Rattle.lines.specs.declared.serving.End.TheVariants.{Done, SayFault, TooMuch}
+use Rattle.lines.specs.Later.{Advances}
 use Rattle.lines.specs.Lines.{newline, max_line, HasNoNewline, last_line, AreLinesOf, AreEndedLinesOf}
 use Rattle.lines.specs.Machine.{Machine, State, Turn, Run, IsLast, replies, HasEnded}
 use Rattle.lines.specs.Crash.{MayStand, IsReady, IsCrashSafe}
@@ -14,6 +15,7 @@ use Rattle.lines.specs.Steps.{AnswersLine, SoFar}
 use Rattle.lines.proofs.Splitting.{Splits-empty, Splits-span, Splits-newline, Splits-ended, some_split, take_more_held}
 use Rattle.lines.proofs.Turns.{Run-push, Run-later, HasEnded-push, goes_on-push, replies-push, state_after, state_after-run}
 use Rattle.host_io.proofs.Moments.{Left-goes, only_now}
+use Rattle.lines.proofs.Later.{Advances-joins, Advances-none, Advances-take}
 use Rattle.lines.proofs.Standing.{MayStand-before, MayStand-within}
 
 -- a run that begins
@@ -31,15 +33,17 @@ SoFar-start machine start begin ready = record {
   answered = refl;
   goes_on = λ ended. ended;
   spoke = sym (append-nil begin.now.said);
+  later = Advances-none begin;
   most = λ image n left. let first = (only_now begin image n left).1 in omega arith;
   crash = λ image n left. ready.allowed image (only_now begin image n left).0;
 }
 
 -- bytes are taken
-pub SoFar-take : {W : Type 0} (machine : Machine W) (start : W) (begin : Outside) (world : W) (old new : Outside) (room bytes : List ℕ) (count : ℕ)
-    → SoFar machine start begin world old room [] count → old.input ≡ bytes ++ new.input → StandsStill old new → new.disk_faults ≡ old.disk_faults
+pub SoFar-take : {W T E : Type 0} (machine : Machine W) (start : W) (begin : Outside) (world : W) (old new : Outside) (room bytes : List ℕ) (count : ℕ) (result : Result T E)
+    → SoFar machine start begin world old room [] count → old.input ≡ bytes ++ new.input → StandsStill old new → CountsTake old new result
     → SoFar machine start begin world new room bytes count
-SoFar-take {W} machine start begin world old new room bytes count so came still faults =
+SoFar-take {W} machine start begin world old new room bytes count result so came still counts =
+    let faults = counts.disk in
     let same : moments new ≡ moments old = rw (still.now, still.past) refl in
     let L : List ℕ → ℕ → List Moment → Type 0 = λ image n list. LeftAt (moment begin) list image n in
     let same_state : state_of world new ≡ state_of world old = rw (still.now, faults) refl in
@@ -57,6 +61,7 @@ SoFar-take {W} machine start begin world old new room bytes count so came still 
       answered = subst R (sym same_state) so.answered;
       goes_on = so.goes_on;
       spoke = said ∙ so.spoke;
+      later = Advances-joins begin old new so.later (Advances-take old new still counts);
       most = λ image n left. let h = so.most image n (subst (L image n) same left) in rw said h;
       crash = λ image n left. so.crash image n (subst (L image n) same left);
     }
@@ -77,6 +82,7 @@ SoFar-span machine start begin world outside room room' span ahead count so none
   answered = so.answered;
   goes_on = so.goes_on;
   spoke = so.spoke;
+  later = so.later;
   most = so.most;
   crash = so.crash;
 }
@@ -85,6 +91,7 @@ SoFar-span machine start begin world outside room room' span ahead count so none
 pub record Turned {W : Type 0} (machine : Machine W) (start : W) (begin : Outside) (after : W) (new : Outside) (lines : List (List ℕ)) (before : List (Turn W)) (turn : Turn W) (part : ℕ) : Type 0 where
   pub answered : Run machine (state_of start begin) lines (before ++ turn ∷ []) (state_of after new)
   pub spoke : new.now.said ≡ begin.now.said ++ (replies before ++ take part turn.reply)
+  pub later : Advances begin new
   pub most : part ≡ length turn.reply → (image : List ℕ) (n : ℕ) → Left (moment begin) new image n → n ≤ length new.now.said
   pub crash : IsCrashSafe machine (state_of start begin) (before ++ turn ∷ []) (moment begin) (length begin.now.said) new
 
@@ -102,6 +109,7 @@ turned {W} machine start begin world after old new room ahead count result so an
     record {
       answered = subst R answer.left (Run-push machine (state_of start begin) (state_of world old) so.lines so.turns so.rest turn so.answered so.goes_on answer.asked answer.answers);
       spoke = answer.spoke ∙ (ap (λ (x : List ℕ). x ++ take answer.part turn.reply) so.spoke ∙ append_assoc begin.now.said (replies so.turns) (take answer.part turn.reply));
+      later = Advances-joins begin old new so.later answer.later;
       most = λ whole image n left.
           let said = ap length answer.spoke ∙ length-append old.now.said (take answer.part turn.reply) in
           let all = length-take answer.part turn.reply in
@@ -143,6 +151,7 @@ SoFar-turn {W} machine start begin world after old new room ahead count so answe
       goes_on = goes_on-push machine so.turns turn so.goes_on other;
       spoke = let all : length turn.reply ≤ answer.part = let ok = answer.ok in omega arith in
           done.spoke ∙ ap (λ (x : List ℕ). begin.now.said ++ x) (ap (λ (x : List ℕ). replies so.turns ++ x) (take_all answer.part turn.reply all) ∙ sym (replies-push so.turns turn));
+      later = done.later;
       most = done.most answer.ok;
       crash = done.crash;
     }
@@ -161,6 +170,7 @@ Serves-done machine budget start begin after new lines later before turn part ta
       done.spoke ∙ ap (λ (x : List ℕ). begin.now.said ++ x) (ap (λ (x : List ℕ). replies before ++ x) (take_all part turn.reply most) ∙ sym (replies-push before turn));
   turns = before ++ turn ∷ [];
   ends = record { within = within; lines = lines ++ later; whole = whole; answered = answered; spoken = refl };
+  later = done.later;
   crash = done.crash;
 }
 
@@ -189,6 +199,7 @@ Serves-unsaid machine budget start begin after new lines later before turn part 
     short = short;
     spoken = refl;
   };
+  later = done.later;
   crash = done.crash;
 }
 
@@ -297,6 +308,7 @@ Serves-over machine budget start begin world outside room count so over none fit
         answered = so.answered;
         spoken = refl;
       };
+      later = so.later;
       crash = so.crash;
     }
 
@@ -320,5 +332,6 @@ Serves-beyond machine budget start begin world outside room byte so = record {
     spoken = refl;
     goes_on = so.goes_on;
   };
+  later = so.later;
   crash = so.crash;
 }

@@ -4,7 +4,8 @@ use Rattle.std.proofs.lemmas.List.{take_all, length-take-le}
 use Rattle.std.proofs.lemmas.Bool.{cases_lt}
 use Rattle.std.proofs.lemmas.Result.{IfOk-weaker}
 use Rattle.host_io.specs.Disk.{DiskState, IsImage}
-use Rattle.host_io.specs.Outside.{Moment, Outside, moments, Each, Goes}
+use Rattle.host_io.specs.Outside.{Moment, Outside, Goes}
+use Rattle.host_io.specs.Calls.{CountsSay}
 use Rattle.lines.specs.declared.session.Flow.{Flow}
 use Rattle.lines.specs.declared.session.Flow.TheVariants.{Goes as GoesOn, Ends}
 use Rattle.lines.specs.Lines.{max_line, IsTooLong}
@@ -14,6 +15,7 @@ use Rattle.lines.specs.Served.{state_of}
 use Rattle.lines.specs.Spoken.{IsSaying, SaysAll}
 use Rattle.lines.specs.Steps.{IsTurning, AnswersLine}
 use Rattle.host_io.proofs.Moments.{begins, joins, weaker}
+use Rattle.lines.proofs.Later.{Goes-now}
 
 -- a room that is not full holds the whole line
 pub whole_line : (held line : List ℕ) → held ≡ take (max_line + 1) line → length held ≤ max_line → held ≡ line
@@ -25,17 +27,6 @@ pub long_line : (held line : List ℕ) → held ≡ take (max_line + 1) line →
 long_line held line is long =
     let sizes = ap length is ∙ length-take (max_line + 1) line in
     omega arith
-
-heads : (xs ys : List Moment) (x y : Moment) → x ∷ xs ≡ y ∷ ys → x ≡ y
-heads xs ys x y is = cc
-
-by_added : (P : Moment → Type 0) (added : List Moment) (old new : Outside) → moments new ≡ added ++ moments old → Each P added → P old.now → P new.now
-by_added P [] old new follows each before = subst P (sym (heads new.past old.past new.now old.now follows)) before
-by_added P (at ∷ added) old new follows each before = subst P (sym (heads new.past (added ++ moments old) new.now at follows)) each.0
-
--- what holds at the first moment and at each that came holds now
-Goes-now : (P : Moment → Type 0) (old new : Outside) → Goes P old new → P old.now → P new.now
-Goes-now P old new goes before = by_added P goes.added old new goes.follows goes.each before
 
 -- a moment while a line is being answered
 pub record IsHolding {W : Type 0} (machine : Machine W) (state : State W) (line said : List ℕ) (at : Moment) : Type 0 where
@@ -50,6 +41,9 @@ pub record Answered {W : Type 0} (machine : Machine W) (line reply : List ℕ) (
   pub quiet : reply ≡ [] → (image : List ℕ) → MayStandWithin machine (state_of world old) line image → machine.allowed (state_of after mid) image
   pub said : mid.now.said ≡ old.now.said
   pub input : mid.input ≡ old.input
+  pub disk_faults : old.disk_faults ≤ mid.disk_faults
+  pub take_faults : mid.take_faults ≡ old.take_faults
+  pub say_faults : mid.say_faults ≡ old.say_faults
 
 -- what may stand where nothing of the reply has been said
 stands_first : {W : Type 0} (machine : Machine W) (line reply : List ℕ) (state after : State W) (image : List ℕ)
@@ -107,12 +101,14 @@ turning {W} machine line reply world after old mid new result turn is ready answ
 -- the line is answered and its answer said, whole or in part
 pub answers_line : {W T E : Type 0} (machine : Machine W) (line reply : List ℕ) (world after : W) (old mid new : Outside) (result : Result T E) (outcome : Result Flow E)
     → IsReady machine (state_of world old) → Answered machine line reply world after old mid
-    → (says : SaysAll reply mid new result) → new.disk_faults ≡ mid.disk_faults
+    → (says : SaysAll reply mid new result) → CountsSay mid new result
     → OnOk outcome (says.part ≡ length reply) → OnErr outcome (says.part < length reply) → IfOk outcome (λ flow. (flow ≡ Ends) ↔ IsLast machine line)
     → AnswersLine machine line world after old new outcome
 answers_line {W} machine line reply world after old mid new result outcome ready answered says counts ok err ends =
     let disk = says.disk in
-    let same : state_of after mid ≡ state_of after new = rw (disk, counts) refl in
+    let faults = counts.disk in
+    let same : state_of after mid ≡ state_of after new = rw (disk, faults) refl in
+    let moments = turning machine line reply world after old mid new result _ refl ready answered says in
     record {
       turn = record { line = line; reply = reply; after = state_of after mid };
       asked = refl;
@@ -124,7 +120,13 @@ answers_line {W} machine line reply world after old mid new result outcome ready
       ok = ok;
       err = err;
       input = says.input ∙ answered.input;
-      moments = turning machine line reply world after old mid new result _ refl ready answered says;
+      moments = moments;
+      later = record {
+        moments = weaker (λ at turn. let said = turn.said in omega arith) moments;
+        disk_faults = let first = answered.disk_faults in omega arith;
+        take_faults = let first = answered.take_faults in let then = counts.takes in omega arith;
+        say_faults = let first = answered.say_faults in let then = counts.says.later in omega arith;
+      };
       before = λ image allowed. stands_first machine line reply (state_of world old) (state_of after mid) image (λ none. answered.quiet none image) (inl allowed);
     }
 
@@ -138,6 +140,9 @@ Answered-limit machine line world outside long ready = record {
   quiet = λ none. absurd (let sizes : 12 ≡ 0 = ap length none in omega arith);
   said = refl;
   input = refl;
+  disk_faults = omega arith;
+  take_faults = refl;
+  say_faults = refl;
 }
 
 -- a line that is too long doesn't end the session
@@ -154,10 +159,11 @@ pub answers_short : {W T E : Type 0} (machine : Machine W) (held line reply byte
     → machine.answers (state_of world old) held reply (state_of after mid) → IsReady machine (state_of after mid)
     → Goes (IsWithin machine (state_of world old) held old.now.said) old mid → (reply ≡ [] → KeepsImages machine (state_of world old) held (state_of after mid))
     → mid.now.said ≡ old.now.said → mid.input ≡ old.input
-    → bytes ≡ reply → (says : SaysAll bytes mid new result) → new.disk_faults ≡ mid.disk_faults
+    → old.disk_faults ≤ mid.disk_faults → mid.take_faults ≡ old.take_faults → mid.say_faults ≡ old.say_faults
+    → bytes ≡ reply → (says : SaysAll bytes mid new result) → CountsSay mid new result
     → OnOk outcome (says.part ≡ length bytes) → OnErr outcome (says.part < length bytes) → IfOk outcome (λ flow. (flow ≡ Ends) ↔ (machine.ends held ≡ true))
     → AnswersLine machine line world after old new outcome
-answers_short {W} {T} {E} machine held line reply bytes world after old mid new result outcome is short ready answers ready' moments quiet said input same says counts ok err ends =
+answers_short {W} {T} {E} machine held line reply bytes world after old mid new result outcome is short ready answers ready' moments quiet said input disk_faults take_faults say_faults same says counts ok err ends =
     let fits : ¬ IsTooLong held = λ long. omega arith in
     let answered : Answered machine held reply world after old mid = record {
       answers = inr (fits, answers);
@@ -175,6 +181,9 @@ answers_short {W} {T} {E} machine held line reply bytes world after old mid new 
       ]);
       said = said;
       input = input;
+      disk_faults = disk_faults;
+      take_faults = take_faults;
+      say_faults = say_faults;
     } in
     let Q : List ℕ → Type 0 = λ line'. AnswersLine machine line' world after old new outcome in
     let R : List ℕ → Type 0 = λ reply'. (says' : SaysAll reply' mid new result) → OnOk outcome (says'.part ≡ length reply') → OnErr outcome (says'.part < length reply') → AnswersLine machine held world after old new outcome in

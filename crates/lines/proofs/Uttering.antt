@@ -21,6 +21,7 @@ pub record CountsNone (old new : Outside) : Type 0 where
   pub later : old.say_faults ≤ new.say_faults
   pub disk : new.disk_faults ≡ old.disk_faults
   pub takes : new.take_faults ≡ old.take_faults
+  pub source : new.source ≡ old.source
 
 pub SaidFront-none : (bytes : List ℕ) (outside : Outside) → SaidFront bytes 0 outside outside
 SaidFront-none bytes outside = record {
@@ -32,13 +33,14 @@ SaidFront-none bytes outside = record {
 }
 
 pub CountsNone-none : (outside : Outside) → CountsNone outside outside
-CountsNone-none outside = record { later = omega arith; disk = refl; takes = refl }
+CountsNone-none outside = record { later = omega arith; disk = refl; takes = refl; source = refl }
 
 pub CountsNone-more : {T E : Type 0} (old mid new : Outside) (result : Result T E) → CountsNone old mid → CountsSay mid new result → CountsNone old new
 CountsNone-more old mid new result before counts = record {
   later = let h = counts.says.later in omega arith;
   disk = counts.disk ∙ before.disk;
   takes = counts.takes ∙ before.takes;
+  source = counts.source ∙ before.source;
 }
 
 -- what is left of them, as a slice to the end says it
@@ -100,6 +102,7 @@ CountsSay-whole old new value counts = record {
   says = record { later = counts.later; cause = λ failed. absurd (false≢true failed) };
   disk = counts.disk;
   takes = counts.takes;
+  source = counts.source;
 }
 
 pub CountsSay-cut : {T U E : Type 0} (old mid new : Outside) (error : E) → CountsNone old mid → CountsSay {T = U} mid new (Err error) → CountsSay {T = T} old new (Err error)
@@ -109,4 +112,5 @@ CountsSay-cut old mid new error before counts =
       says = record { later = omega arith; cause = λ failed. elim (counts.says.cause refl) [ inl rose ↦ inl (omega arith) | inr full ↦ inr full ] };
       disk = counts.disk ∙ before.disk;
       takes = counts.takes ∙ before.takes;
+      source = counts.source ∙ before.source;
     }

@@ -3,6 +3,7 @@ use Rattle.std.specs.Prelude.{◌≡◌, ℕ, ◌<◌, ◌≤◌, List, [], ◌�
 use Rattle.host_io.specs.Outside.{Outside, moment}
 use Rattle.lines.specs.declared.serving.End.{End}
 use Rattle.lines.specs.declared.serving.End.TheVariants.{Done, TakeFault, SayFault, TooMuch}
+use Rattle.lines.specs.Later.{Advances}
 use Rattle.lines.specs.Lines.{AreLinesOf, AreEndedLinesOf}
 use Rattle.lines.specs.Machine.{Machine, State, Turn, Run, replies, HasEnded}
 use Rattle.lines.specs.Crash.{IsCrashSafe}
@@ -60,8 +61,8 @@ EndsAs TakeFault machine budget old last taken left said turns = IsCutOff machin
 EndsAs TooMuch machine budget old last taken left said turns = IsTooMuch machine budget old last taken said turns
 EndsAs SayFault machine budget old last taken left said turns = IsUnsaid machine budget old last taken left said turns
 
--- A whole run: which bytes were taken, which turns answered their lines, what was said, and what a crash at any moment
--- of it would have left.
+-- A whole run: which bytes were taken, which turns answered their lines, what was said, that the one outside went on to the other, and what
+-- a crash at any moment of it would have left.
 pub record Serves {W : Type 0} (machine : Machine W) (budget : ℕ) (end : End) (world after : W) (old new : Outside) : Type 0 where
   pub taken : List ℕ
   pub came : old.input ≡ taken ++ new.input
@@ -69,4 +70,5 @@ pub record Serves {W : Type 0} (machine : Machine W) (budget : ℕ) (end : End) 
   pub spoke : new.now.said ≡ old.now.said ++ said
   pub turns : List (Turn W)
   pub ends : EndsAs end machine budget (state_of world old) (state_of after new) taken new.input said turns
+  pub later : Advances old new
   pub crash : IsCrashSafe machine (state_of world old) turns (moment old) (length old.now.said) new

@@ -5,6 +5,7 @@ use Rattle.host_io.specs.Outside.{Moment, Outside, Left, moment, Goes}
 use Rattle.lines.specs.declared.session.Flow.{Flow}
 use Rattle.lines.specs.declared.session.Flow.TheVariants.{Goes as GoesOn, Ends}
 use Rattle.lines.specs.declared.serving.End.TheVariants.{Done, SayFault}
+use Rattle.lines.specs.Later.{Advances}
 use Rattle.lines.specs.Lines.{Splits, max_line}
 use Rattle.lines.specs.Machine.{Machine, State, Turn, Answers, IsLast, Run, replies, HasEnded}
 use Rattle.lines.specs.Crash.{MayStand, IsCrashSafe}
@@ -30,6 +31,7 @@ pub record AnswersLine {W E : Type 0} (machine : Machine W) (line : List ℕ) (w
   pub err : OnErr result (part < length turn.reply)
   pub input : new.input ≡ old.input
   pub moments : Goes (IsTurning machine (state_of world old) turn old.now) old new
+  pub later : Advances old new
   -- what stood before the line may stand at its beginning
   pub before : (image : List ℕ) → machine.allowed (state_of world old) image → MayStand machine (state_of world old) (turn ∷ []) 0 image
 
@@ -47,6 +49,7 @@ pub record SoFar {W : Type 0} (machine : Machine W) (start : W) (begin : Outside
   pub answered : Run machine (state_of start begin) lines turns (state_of world outside)
   pub goes_on : ¬ HasEnded machine turns
   pub spoke : outside.now.said ≡ begin.now.said ++ replies turns
+  pub later : Advances begin outside
   pub most : (image : List ℕ) (n : ℕ) → Left (moment begin) outside image n → n ≤ length outside.now.said
   pub crash : IsCrashSafe machine (state_of start begin) turns (moment begin) (length begin.now.said) outside
 

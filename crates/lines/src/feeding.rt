@@ -58,6 +58,7 @@ pub(crate) fn feed_piece<H: Host, C, S: Session<H, C>>(
     ensures say_faults { Counts (H.outside host.old).say_faults (H.outside host.new).say_faults result }
     ensures take_faults { (H.outside host.new).take_faults ≡ (H.outside host.old).take_faults }
     ensures disk_faults { (H.outside host.old).disk_faults ≤ (H.outside host.new).disk_faults }
+    ensures source { (H.outside host.new).source ≡ (H.outside host.old).source }
 {
     let mut from = 0;
     'lines: while let Some(len) = find_newline(&piece[from..]) {

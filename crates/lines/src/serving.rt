@@ -56,6 +56,7 @@ fn end_input<H: Host, C, S: Session<H, C>>(
     ensures say_faults { (H.outside host.old).say_faults ≤ (H.outside host.new).say_faults }
     ensures take_faults { (H.outside host.new).take_faults ≡ (H.outside host.old).take_faults }
     ensures disk_faults { (H.outside host.old).disk_faults ≤ (H.outside host.new).disk_faults }
+    ensures source { (H.outside host.new).source ≡ (H.outside host.old).source }
 {
     if room.is_empty() {
         return End::Done;
@@ -96,6 +97,7 @@ fn take_piece<H: Host, C, S: Session<H, C>>(
     ensures take_faults { (H.outside host.old).take_faults ≤ (H.outside host.new).take_faults }
     ensures say_faults { (H.outside host.old).say_faults ≤ (H.outside host.new).say_faults }
     ensures disk_faults { (H.outside host.old).disk_faults ≤ (H.outside host.new).disk_faults }
+    ensures source { (H.outside host.new).source ≡ (H.outside host.old).source }
 {
     let Ok(count) = host.take(piece) else {
         return Err(End::TakeFault);
@@ -132,6 +134,7 @@ fn end_budget<H: Host, C, S: Session<H, C>>(
     ensures take_faults { (H.outside host.old).take_faults ≤ (H.outside host.new).take_faults }
     ensures say_faults { (H.outside host.old).say_faults ≤ (H.outside host.new).say_faults }
     ensures disk_faults { (H.outside host.old).disk_faults ≤ (H.outside host.new).disk_faults }
+    ensures source { (H.outside host.new).source ≡ (H.outside host.old).source }
 {
     let mut byte = [0];
     match host.take(&mut byte) {
@@ -168,10 +171,11 @@ pub fn serve<H: Host, C, S: Session<H, C>>(
     ensures take_fault { result ≡ End.TakeFault → Rose (H.outside host.old).take_faults (H.outside host.new).take_faults }
     ensures say_fault { result ≡ End.SayFault → Rose (H.outside host.old).say_faults (H.outside host.new).say_faults }
 
-    // No count of faults falls.
+    // No count of faults falls, and what the host stands over stays.
     ensures take_faults { (H.outside host.old).take_faults ≤ (H.outside host.new).take_faults }
     ensures say_faults { (H.outside host.old).say_faults ≤ (H.outside host.new).say_faults }
     ensures disk_faults { (H.outside host.old).disk_faults ≤ (H.outside host.new).disk_faults }
+    ensures source { (H.outside host.new).source ≡ (H.outside host.old).source }
 {
     let mut piece = [0; PIECE];
     let mut left = budget;

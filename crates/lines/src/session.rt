@@ -45,5 +45,6 @@ pub trait Session<H: Host, C> {
         ensures input { H.tells → (H.outside host.new).input ≡ (H.outside host.old).input }
         ensures disk_faults { (H.outside host.old).disk_faults ≤ (H.outside host.new).disk_faults }
         ensures take_faults { (H.outside host.new).take_faults ≡ (H.outside host.old).take_faults }
-        ensures say_faults { (H.outside host.new).say_faults ≡ (H.outside host.old).say_faults };
+        ensures say_faults { (H.outside host.new).say_faults ≡ (H.outside host.old).say_faults }
+        ensures source { (H.outside host.new).source ≡ (H.outside host.old).source };
 }

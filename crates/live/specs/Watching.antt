@@ -103,3 +103,10 @@ pub record IsDue (schema : List Attribute) (op : WatchOp) (kept : List ℕ) (tur
   pub before : List (List Datum)
   pub now : kept ≡ positions schema op before
   pub made : IsTurn turn before rows
+
+-- an operator asks of rows what another asks: it shows the same rows in the same order, and stays where the other does
+pub record MeansAs (op other : WatchOp) : Type 0 where
+  pub asked : (schema : List Attribute) → IsAsked schema op → IsAsked schema other
+  pub shown : (schema : List Attribute) (rows : List (List Datum)) → positions schema other rows ≡ positions schema op rows
+  pub sorts : is_sorting other ≡ is_sorting op
+  pub keeps : (turn : Turn) → stays other turn ≡ stays op turn

@@ -4,13 +4,13 @@ ghost use Rattle.std.specs.Option.{option_map};
 ghost use Rattle.std.specs.Result.{result_err};
 ghost use Rattle.relations.specs.Sorting.{all_keys, keys_or_all};
 ghost use Rattle.live.specs.Putting.{as_watch_error, spelled};
-ghost use Rattle.live.specs.Watching.{op_due};
+ghost use Rattle.live.specs.Watching.{MeansAs, op_due};
 
 use crate::error::WatchError;
 use crate::op::{Keys, WatchOp};
 use mk_value::{Memory, Schema};
 use relations::lookup::is_view;
-use relations::{DerivedError, Key, check_criteria, check_keys};
+use relations::{DerivedError, Key, check_criteria, check_keys, deciding_keys, merged};
 use std::alloc::Global;
 
 /// Answers the refusal that the criteria or the keys are due.
@@ -44,6 +44,16 @@ pub(crate) fn spelled(alloc: Global, schema: &Schema, op: WatchOp) -> Result<Wat
     match op {
         WatchOp::Range(criteria) => Ok(WatchOp::Range(criteria)),
         WatchOp::Sort(keys) => Ok(WatchOp::Sort(keys_or_all(alloc, schema, keys)?)),
+    }
+}
+
+/// What an operator asks of rows, with each property once: so a row is looked at once by each.
+pub(crate) fn asked_once(alloc: Global, op: &WatchOp) -> Result<WatchOp, Memory>
+    ensures { IfOk result (MeansAs op.now) }
+{
+    match op {
+        WatchOp::Range(criteria) => Ok(WatchOp::Range(merged(alloc, criteria.as_slice())?)),
+        WatchOp::Sort(keys) => Ok(WatchOp::Sort(deciding_keys(alloc, keys.as_slice())?)),
     }
 }
 

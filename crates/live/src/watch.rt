@@ -2,7 +2,7 @@ ghost use Rattle.std.specs.Prelude.{◌≡◌, ◌+◌, ◌-◌, ◌*◌, ◌^�
 ghost use Rattle.std.specs.Option.{ForSome};
 ghost use Rattle.live.specs.Chains.{IsRaised, IsSame};
 ghost use Rattle.live.specs.Putting.{closed_source};
-ghost use Rattle.live.specs.Watching.{IsAsked, IsDue, goes_from, is_sorting, own, placed, positions};
+ghost use Rattle.live.specs.Watching.{IsAsked, IsDue, MeansAs, goes_from, is_sorting, own, placed, positions};
 ghost use Rattle.live.specs.declared.turn.Turn.TheVariants.{Still};
 
 use crate::keeper::Keeper;
@@ -18,6 +18,8 @@ use std::sync::ledger::Ledger;
 pub(crate) struct Watch {
     number: u32,
     source: Option<usize>,
+    op: WatchOp,
+    /// It asks rows what the operator asks, with each property once.
     keeper: Keeper,
     turn: Turn,
     followed: u64,
@@ -38,18 +40,29 @@ impl Model for Watch {
     ghost view = { λ w. record {
       number = w.number;
       source = w.source;
-      op = w.keeper.op;
+      op = w.op;
       kept = w.keeper.kept.items;
       room = vec_capacity w.keeper.kept - vec_len w.keeper.kept;
       going = w.keeper.going;
       turn = w.turn;
       followed = w.followed;
     } };
+
+    ghost use Rattle.live.specs.Watching.{MeansAs};
+
+    ghost invariant = { λ w. MeansAs w.op w.keeper.op };
 }
 
 impl Watch {
-    /// A watch that has followed nothing.
-    pub fn new(number: u32, source: Option<usize>, op: WatchOp, kept: Vec<u32>) -> Watch
+    /// A watch that has followed nothing. What is asked of rows is what the operator asks.
+    pub fn new(
+        number: u32,
+        source: Option<usize>,
+        op: WatchOp,
+        asked: WatchOp,
+        kept: Vec<u32>,
+    ) -> Watch
+        requires { MeansAs op asked }
         ensures number { result.number ≡ number }
         ensures source { result.source ≡ source }
         ensures op { result.op ≡ op }
@@ -57,11 +70,16 @@ impl Watch {
         ensures turn { result.turn ≡ Still }
         ensures followed { result.followed ≡ 0 }
     {
-        let going = None;
+        let keeper = Keeper {
+            op: asked,
+            kept,
+            going: None,
+        };
         Watch {
             number,
             source,
-            keeper: Keeper { op, kept, going },
+            op,
+            keeper,
             turn: Turn::Still,
             followed: 0,
         }
@@ -84,7 +102,7 @@ impl Watch {
     pub fn op(&self) -> &WatchOp
         ensures { result.now ≡ self.now.op }
     {
-        &self.keeper.op
+        &self.op
     }
 
     /// How many rows it shows.

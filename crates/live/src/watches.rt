@@ -23,7 +23,7 @@ use crate::op::WatchOp;
 use crate::out::Out;
 use crate::picked::seen_positions;
 use crate::probe::Probe;
-use crate::putting::{check_op, spelled};
+use crate::putting::{asked_once, check_op, spelled};
 use crate::turn::Turn;
 use crate::watch::Watch;
 use mk_value::{Memory, Schema, Steps, TableRead};
@@ -99,8 +99,9 @@ impl Watches {
         let alloc = *self.list.allocator();
         let kept = seen_positions(alloc, &self.list, over, &op, rows)?;
         let op = spelled(alloc, schema, op)?;
+        let asked = asked_once(alloc, &op)?;
         let number = free_number(&self.list);
-        push(&mut self.list, Watch::new(number, over, op, kept))?;
+        push(&mut self.list, Watch::new(number, over, op, asked, kept))?;
         self.noted = None;
         Ok(number)
     }

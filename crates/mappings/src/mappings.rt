@@ -1,5 +1,5 @@
 //! All mappings, by the names of their views.
-ghost use Rattle.std.specs.Prelude.{◌≡◌, ◌≤◌, ◌<◌, ◌+◌, ◌++◌, ◌∷◌, [], ℕ, List, length, take, true, None, Some, IfErr, IfOk, MatchOption, OnErr, OnOk};
+ghost use Rattle.std.specs.Prelude.{◌≡◌, ◌≤◌, ◌<◌, ◌+◌, ◌++◌, ◌∷◌, [], ℕ, List, length, take, true, None, Some, Err, IfErr, IfOk, MatchOption, OnErr, OnOk};
 ghost use Rattle.followers.specs.Keyed.{edits_of};
 ghost use Rattle.followers.specs.declared.keyed.KeyedEdit.TheVariants.{Remove};
 ghost use Rattle.mapped.specs.Refusals.{count_due};
@@ -10,6 +10,7 @@ ghost use Rattle.view_store.specs.Views.{NamedTable, table_of};
 ghost use Rattle.mappings.specs.Keeping.{AllBring, AreKept, AreKeptOver, AreReady, EditsRows, mapped};
 ghost use Rattle.mappings.specs.Mapped.{is_mapped as is_view_mapped, mapping_of, order_in, put_edit, set_edit, without_mapping};
 ghost use Rattle.mappings.specs.Refusals.{AnswersPut, put_due, schema_due};
+ghost use Rattle.mappings.specs.declared.error.MappingError.{MappingError as MappingErrorValue};
 ghost use Rattle.relations.specs.Fitting.{is_view as is_view_domain};
 ghost use Rattle.std.specs.List.{list_any};
 ghost use Rattle.std.specs.Result.{result_err};
@@ -136,6 +137,8 @@ impl Mappings {
         table: &Shared,
     ) -> Result<(), MappingError>
         ensures due { AnswersPut (put_due by keys table.now.schema table.now.rows (mapped self.old) view.now) result }
+        // By the schema it is refused without memory.
+        ensures unfit { (e : MappingErrorValue) → schema_due keys table.now.schema ≡ Some e → result ≡ Err e }
         ensures ok { OnOk result (mapped self.new ≡ mapped self.old ++ record { view = view.now; by = by; keys = keys } ∷ []) }
         ensures kept { (views : List NamedTable) → table_of views view.now ≡ Some table.now → AreKept views self.old → AreKept views self.new }
         ensures err { OnErr result (self.new ≡ self.old) }

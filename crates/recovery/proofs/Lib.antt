@@ -6,6 +6,7 @@ pub mod Footprints
 mod Memos
 pub mod NumberBlocks
 pub mod NumberColumns
+mod OneAnswer
 pub mod OneCommit
 pub mod OneRefusal
 mod OneRow
@@ -29,3 +30,4 @@ pub mod ViewsSoFar
 pub mod Refused
 pub mod Starts
 pub mod PlainTexts
+pub mod Undamaged

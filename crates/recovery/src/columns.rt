@@ -19,8 +19,9 @@ use bit_pack::Width;
 use dir_codec::{DirBodies, DirBody, DirCol, DirCols, Memo};
 use host_io::Disk;
 use mk_value::{Kind, Schema, Span};
+use segments::Shared;
 use std::alloc::Global;
-use tables::{Col, Cols, Table, Tables, from_cols, share};
+use tables::{Col, Cols, Table, Tables, share};
 
 /// What a directory has of a width and a span, of the count of memos, and of a memo, in bytes.
 const NUMBERS_LEN: u64 = 17;
@@ -198,12 +199,36 @@ fn read_columns<D: Disk>(
     Ok((cols, next))
 }
 
-/// Reads the tables in the rows of a view column.
+/// Reads the tables in the rows of a view column, which share its schema.
 #[cycle(read)]
 fn read_bodies<D: Disk>(
     alloc: Global,
     disk: &mut D,
     schema: &Schema,
+    bodies: &DirBodies,
+    at: u64,
+) -> Result<(Tables, u64), ColumnsError>
+    requires fits { EndsWithin D.tells (length (D.outside disk.old).now.disk.seen) (λ end. AreBodies end (heading_of schema.now) (bodies_from bodies.now)) }
+    requires room { at + length (spelled_bodies (bodies_from bodies.now)) < 2 ^ 64 }
+    ensures counts { CountsFaults (IsErrOf result ColumnsError.Failed) (D.outside disk.old) (D.outside disk.new) }
+    ensures same { D.tells → Looks (D.outside disk.old) (D.outside disk.new) }
+    ensures next { IfOk result (λ r. r.1 ≡ at + length (spelled_bodies (bodies_from bodies.now))) }
+    ensures whole { IfOk result (λ r. AreFormed schema.now bodies.now r.0) }
+    ensures made { IfOk result (λ r. AreTablesFound HasLength bodies.now r.0) }
+    ensures tables { D.tells → IfOk result (λ r. AreTablesRead (D.outside disk.old).now.disk.seen schema.now bodies.now at r.0) }
+    ensures unreadable { D.tells → IfErr result
+        (NamesUnreadable (D.outside disk.old).now.disk.seen (plain_bodies (bodies_from bodies.now) (heading_of schema.now) at)) }
+{
+    let shared = Shared::of(alloc, schema.copy()?)?;
+    read_each(alloc, disk, &shared, bodies, at)
+}
+
+/// The same, where the schema is shared already.
+#[cycle(read)]
+fn read_each<D: Disk>(
+    alloc: Global,
+    disk: &mut D,
+    schema: &Shared<Schema>,
     bodies: &DirBodies,
     at: u64,
 ) -> Result<(Tables, u64), ColumnsError>
@@ -228,12 +253,12 @@ fn read_bodies<D: Disk>(
     Ok((tables, next))
 }
 
-/// Reads a table, of which the directory has the first column at this offset.
+/// Reads a table, of which the directory has the first column at this offset. It has the schema together with others.
 #[cycle(read)]
 pub(crate) fn read_table<D: Disk>(
     alloc: Global,
     disk: &mut D,
-    schema: &Schema,
+    schema: &Shared<Schema>,
     body: &DirBody,
     at: u64,
 ) -> Result<(Table, u64), ColumnsError>
@@ -251,7 +276,7 @@ pub(crate) fn read_table<D: Disk>(
     ensures unreadable { D.tells → IfErr result (NamesUnreadable (D.outside disk.old).now.disk.seen
         (plain_entries (entries_from body.now.cols) (heading_of schema.now) at body.now.rows)) }
 {
-    let (cols, next) = read_columns(alloc, disk, schema, &body.cols, body.rows, at)?;
-    let table = from_cols(alloc, schema.copy()?, body.rows, cols)?;
+    let (cols, next) = read_columns(alloc, disk, schema.get(), &body.cols, body.rows, at)?;
+    let table = Table::of_columns(schema, body.rows as usize, cols)?;
     Ok((table, next))
 }

@@ -19,5 +19,5 @@ mod views;
 
 pub use error::OpenError;
 pub use kept::Kept;
-pub use laws::{one_commit, one_refusal, stands_or_refused};
+pub use laws::{a_file_has_one_answer, one_commit, one_refusal, stands_or_refused};
 pub use opening::{Opened, open, read_older};

@@ -10,7 +10,10 @@ pub mod Fitting
 pub mod Halving
 pub mod Headings
 pub mod KeyCells
+pub mod KeyColumns
+pub mod KeyNames
 pub mod Looking
+pub mod Narrowing
 pub mod Names
 pub mod Orders
 pub mod Outcomes

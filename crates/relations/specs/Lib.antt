@@ -6,6 +6,7 @@ pub mod Equality
 pub mod Firsts
 pub mod Fitting
 pub mod Keys
+pub mod Merging
 pub mod OrderLaws
 pub mod Positions
 pub mod Refusals

@@ -7,6 +7,7 @@ ghost use Rattle.relations.specs.Refusals.{range_due};
 use crate::columns::Columns;
 use crate::criteria::Criterion;
 use crate::lookup::column;
+use crate::merging::merged;
 use crate::scanning::{Window, first_lead, is_within, passes_by};
 use mk_value::{Memory, Positions, Schema, TableRead};
 use std::alloc::Global;
@@ -20,8 +21,10 @@ pub fn positions_in_range<T: TableRead>(
     requires { range_due criteria.now (T.schema table.now) ≡ None }
     ensures { IfOk result (λ positions. positions ≡ passing (is_row_in_range (T.schema table.now) criteria.now) [] (T.rows table.now)) }
 {
-    let columns = columns_of(alloc, table.schema(), criteria)?;
-    passing_positions(alloc, table, &columns, criteria)
+    let asked = merged(alloc, criteria)?;
+    let items = asked.as_slice();
+    let columns = columns_of(alloc, table.schema(), items)?;
+    passing_positions(alloc, table, &columns, items)
 }
 
 /// The first position, not before a start, of a row whose values lie at or between the bounds of the criteria, if there is one.
@@ -34,8 +37,10 @@ pub fn find<T: TableRead>(
     requires { range_due criteria.now (T.schema table.now) ≡ None }
     ensures { IfOk result (λ found. found ≡ first_passing (is_row_in_range (T.schema table.now) criteria.now) (T.rows table.now) start) }
 {
-    let columns = columns_of(alloc, table.schema(), criteria)?;
-    first_from(alloc, table, &columns, criteria, start)
+    let asked = merged(alloc, criteria)?;
+    let items = asked.as_slice();
+    let columns = columns_of(alloc, table.schema(), items)?;
+    first_from(alloc, table, &columns, items, start)
 }
 
 /// Whether the values of a row lie at or between the bounds of the criteria. It takes no memory, and looks each name up.

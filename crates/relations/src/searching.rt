@@ -10,6 +10,7 @@ ghost use Rattle.relations.specs.Sorting.{row_cmp};
 use crate::columns::Columns;
 use crate::criteria::{Criterion, Key};
 use crate::lookup::column;
+use crate::merging::merged;
 use crate::passing::columns_of;
 use crate::scanning::{Window, first_lead, passes_by};
 use crate::sorting::turned;
@@ -26,8 +27,10 @@ pub fn count_equal<T: TableRead>(
     requires { range_due criteria.now (T.schema table.now) ≡ None }
     ensures { IfOk result (λ count. count ≡ count_by (is_in_range (T.schema table.now) criteria.now) (T.rows table.now)) }
 {
-    let columns = columns_of(alloc, table.schema(), criteria)?;
-    count_passing(alloc, table, &columns, criteria)
+    let asked = merged(alloc, criteria)?;
+    let items = asked.as_slice();
+    let columns = columns_of(alloc, table.schema(), items)?;
+    count_passing(alloc, table, &columns, items)
 }
 
 /// The number of rows that lie within the bounds.

@@ -6,7 +6,7 @@ use Rattle.lines.specs.Machine.{State}
 use Rattle.viewers.specs.Meanings.{Meaning}
 use Rattle.session.specs.Carried.{Acknowledges, BringsBack, Carried, Comes, FailsToReopen, FailsToRevert, FailsUnderWay, FindsDamage, Gives, IsFull, LeavesDiskBy, Reopens}
 use Rattle.session.specs.Commands.{Outcome, Reach, commits, gives, off_disk, opens_disk, outcome_of, reach_of, reads_disk, reopens, reverts, writes_disk}
-use Rattle.session.specs.Disk.{LeavesDisk, ReadsDisk, SettlesAtMost, WritesCommit}
+use Rattle.session.specs.Disk.{LeavesDisk, ReadsDisk, SettlesAtMost, WritesCommit, WritesInPart}
 use Rattle.session.specs.Step.{Step}
 use Rattle.session.specs.World.{World}
 
@@ -23,12 +23,16 @@ module _ {known : Type 0} (k : known) (old new : State World) where
   known_writes : (planned : Planned) → WritesCommit known planned old new → WritesCommit (Unit {0}) planned old new
   known_writes planned d = record { bytes = λ _. d.bytes k; later = d.later }
 
+  known_in_part : (planned : Planned) → WritesInPart known planned old new → WritesInPart (Unit {0}) planned old new
+  known_in_part planned d = record { bytes = λ _. d.bytes k; later = d.later }
+
   known_gives : (said : List ℕ) (left : World) (reply : List ℕ) → Gives known said left old reply new → Gives (Unit {0}) said left old reply new
   known_gives said left reply g = record { answer = g.answer; world = g.world; disk = known_leaves g.disk }
 
   known_acknowledges : (note reply : List ℕ) → Acknowledges known note old reply new → Acknowledges (Unit {0}) note old reply new
   known_acknowledges note reply a = record {
     planned = a.planned;
+    due = a.due;
     next = a.next;
     within = a.within;
     answer = a.answer;
@@ -39,7 +43,7 @@ module _ {known : Type 0} (k : known) (old new : State World) where
   }
 
   known_fails : (note reply : List ℕ) → FailsUnderWay known note old reply new → FailsUnderWay (Unit {0}) note old reply new
-  known_fails note reply f = record { planned = f.planned; next = f.next; answer = f.answer; world = f.world; rose = f.rose; writes = known_writes f.planned f.writes }
+  known_fails note reply f = record { planned = f.planned; due = f.due; next = f.next; within = f.within; answer = f.answer; world = f.world; rose = f.rose; writes = known_in_part f.planned f.writes }
 
   known_full : (note reply : List ℕ) → IsFull known note old reply new → IsFull (Unit {0}) note old reply new
   known_full note reply f = record { end = f.end; ends = f.ends; past = f.past; gives = known_gives _ _ reply f.gives }

@@ -11,6 +11,7 @@ mod KeyedPut
 mod LinesOn
 pub mod Machines
 pub mod OnDisk
+mod OnlyReading
 pub mod Outcomes
 mod Putting
 pub mod Readings
@@ -18,7 +19,6 @@ pub mod Ready
 pub mod Started
 pub mod Stepped
 pub mod Structured
-pub mod Undamaged
 pub mod Unfaulted
 pub mod Walked
 mod Watched

@@ -13,7 +13,6 @@ use Rattle.commit_plan.specs.Plans.{Planned}
 use Rattle.host_io.specs.Calls.{Looks, Rose}
 use Rattle.host_io.specs.Disk.{DiskState, IsImage, IsSound, settled}
 use Rattle.host_io.specs.Outside.{Goes, Moment, Outside}
-use Rattle.host_io.specs.Ranges.{AgreesBut}
 use Rattle.host_io.proofs.Images.{IsSettled-settled, IsSound-settled, image_of_settled}
 use Rattle.host_io.proofs.Moments.{steps, steps_looks, weaker}
 use Rattle.lines.specs.Machine.{State}
@@ -34,15 +33,15 @@ use Rattle.view_store.specs.Views.{NamedTable}
 use Rattle.viewers.specs.Meanings.{Meaning}
 use Rattle.session.specs.Carried.{Carried, Comes}
 use Rattle.session.specs.Commands.{Outcome, commit_due, commits, outcome_of, reopens, reverts, unless_due}
-use Rattle.session.specs.Disk.{IsAllowed, IsSteady, SettlesAtMost, commit_ranges}
+use Rattle.session.specs.Disk.{IsAllowed, IsSteady, SettlesAtMost}
 use Rattle.session.specs.Going.{GoesOn}
-use Rattle.session.specs.Moments.{IsWithinCommand}
+use Rattle.session.specs.Moments.{IsMade, IsWithinCommand}
 use Rattle.session.specs.Planning.{IsPlannedNext, IsUnplanned}
 use Rattle.session.specs.Refusals.{first_of, refusal_of_opening, refusal_of_revert, unless}
 use Rattle.session.specs.World.{World, with_store, without_followers}
 use Rattle.session.proofs.Outcomes.{goes_always, open_goes, outcome_open, refused_comes, still}
 use Rattle.session.proofs.Ready.{SameFile, ready_at_rest, ready_same, ready_when_shut}
-use Rattle.session.proofs.Undamaged.{no_cause}
+use Rattle.recovery.proofs.Undamaged.{no_cause}
 
 -- `commit`, where the session is not shut
 pub open_commit : (viewers : List Meaning) (w : World) (note : List ℕ) (o : Option Refusal) → is_shut w.store ≡ false → commit_due w.store ≡ o → outcome_of viewers w (commands.Commit note) ≡ unless_due o w (commits note)
@@ -50,7 +49,7 @@ open_commit viewers w note o unshut due = outcome_open viewers w (commands.Commi
 
 -- the views changed, or nothing
 pub views_same : (s new : Stored) (views : List NamedTable) → new ≡ with_views s views → SameFile s new
-views_same s new views is = subst (SameFile s) (sym is) (record { kept = refl; before = refl; attempted = refl; slot = refl; other = refl })
+views_same s new views is = subst (SameFile s) (sym is) (record { kept = refl; before = refl; attempted = refl; slot = refl; other = refl; mode = refl })
 
 module _ (known : Type 0) (viewers : List Meaning) (w : World) (note reply : List ℕ) (unshut : is_shut w.store ≡ false) where
   pub commit_refused : (outside : Outside) (refusal : Refusal) → IsUnplanned w.store note refusal → reply ≡ reply_bytes (Refused refusal)
@@ -67,43 +66,49 @@ module _ (known : Type 0) (viewers : List Meaning) (w : World) (note reply : Lis
   commit_refused outside refusal (inr (inr memory)) answer =
       inr (record { takes = refl; answer = answer ∙ ap (λ r. reply_bytes (Refused r)) memory; world = refl; disk = still w w outside })
 
-  module _ (planned : Planned) (is_planned : IsPlannedNext w.store note planned) (new : World) (from to : Outside) (places : known → AgreesBut (commit_ranges w.store planned) from.now.disk.seen to.now.disk.seen) (later : from.disk_faults ≤ to.disk_faults) where
+  module _ (planned : Planned) (is_planned : IsPlannedNext w.store note planned) (new : World) (from to : Outside) (later : from.disk_faults ≤ to.disk_faults) where
     pub commit_made : (number : ℕ) → number ≡ planned.next.number → reply ≡ reply_bytes (Commit number) → new ≡ with_store w (committed w.store planned.next)
-        → {E : Type 0} → (known → Commits {E = E} w.store.kept planned.next from to (Ok number)) → Carried known viewers (commands.Commit note) (state_of w from) reply (state_of new to)
+        → {E : Type 0} → (known → Commits {E = E} w.store planned from to (Ok number)) → Carried known viewers (commands.Commit note) (state_of w from) reply (state_of new to)
     commit_made number is answer made commits_ =
         inl (subst (λ (o : Outcome). Comes known o (state_of w from) reply (state_of new to)) (sym (open_commit viewers w note None unshut is_planned.due)) (inl (record {
           planned = planned;
+          due = is_planned.due;
           next = is_planned.next;
           within = is_planned.within;
           answer = answer ∙ ap (λ n. reply_bytes (Commit n)) is;
           world = made;
           stands = λ k. (commits_ k).stands;
           before = λ k. (commits_ k).before;
-          writes = record { bytes = places; later = later };
+          writes = record { bytes = λ k. (commits_ k).file; later = later };
         })))
 
-    pub commit_failed : reply ≡ reply_bytes (Refused refusals.Disk) → new ≡ with_store w (failed w.store planned.next) → Rose from.disk_faults to.disk_faults
-        → Carried known viewers (commands.Commit note) (state_of w from) reply (state_of new to)
-    commit_failed answer made rose =
+    pub commit_failed : {E : Type 0} → (error : E) → reply ≡ reply_bytes (Refused refusals.Disk) → new ≡ with_store w (failed w.store planned.next) → Rose from.disk_faults to.disk_faults
+        → (known → Commits {T = ℕ} w.store planned from to (Err error)) → Carried known viewers (commands.Commit note) (state_of w from) reply (state_of new to)
+    commit_failed error answer made rose commits_ =
         inl (subst (λ (o : Outcome). Comes known o (state_of w from) reply (state_of new to)) (sym (open_commit viewers w note None unshut is_planned.due)) (inr (inl (record {
           planned = planned;
+          due = is_planned.due;
           next = is_planned.next;
+          within = is_planned.within;
           answer = answer;
           world = made;
           rose = rose;
-          writes = record { bytes = places; later = later };
+          writes = record { bytes = λ k. (commits_ k).changes; later = later };
         }))))
 
 module _ (w : World) (note : List ℕ) (unshut : is_shut w.store ≡ false) (planned : Planned) (is_planned : IsPlannedNext w.store note planned) (new : World) (from to : Outside) where
-  commit_moments : {E : Type 0} (result : Result ℕ E) → Commits w.store.kept planned.next from to result → Goes (IsWithinCommand (state_of w from) (commands.Commit note) from.now.said) from to
+  is_made : IsMade (state_of w from) (commands.Commit note) planned
+  is_made = record { note = note; asked = refl; unshut = unshut; due = is_planned.due; next = is_planned.next; within = is_planned.within }
+
+  commit_moments : {E : Type 0} (result : Result ℕ E) → Commits w.store planned from to result → Goes (IsWithinCommand (state_of w from) (commands.Commit note) from.now.said) from to
   commit_moments result made =
       weaker (λ at h. record {
-        silent = h.0;
-        images = λ image is.
-            inr (record { note = note; asked = refl; unshut = unshut; due = is_planned.due; planned = planned; next = is_planned.next; stands = h.1 image is });
+        silent = h.silent;
+        file = inr (record { planned = planned; made = is_made; changes = h.changes });
+        images = λ image is. inr (record { planned = planned; made = is_made; stands = h.images image is });
       }) made.moments
 
-  pub commit_goes : {E : Type 0} (number : ℕ) → new ≡ with_store w (committed w.store planned.next) → Rests new.store to.now.disk → Commits {E = E} w.store.kept planned.next from to (Ok number)
+  pub commit_goes : {E : Type 0} (number : ℕ) → new ≡ with_store w (committed w.store planned.next) → Rests new.store to.now.disk → Commits {E = E} w.store planned from to (Ok number)
       → GoesOn (commands.Commit note) (state_of w from) (state_of new to) from to
   commit_goes number made rests commits_ = record {
     moments = commit_moments (Ok number) commits_;
@@ -112,7 +117,7 @@ module _ (w : World) (note : List ℕ) (unshut : is_shut w.store ≡ false) (pla
     ready = ready_at_rest (state_of new to) (subst (λ (x : World). StandsFor to.now.disk.seen x.store.kept) (sym made) commits_.stands) rests;
   }
 
-  pub commit_goes_wrong : {E : Type 0} (error : E) → new ≡ with_store w (failed w.store planned.next) → Commits {T = ℕ} w.store.kept planned.next from to (Err error)
+  pub commit_goes_wrong : {E : Type 0} (error : E) → new ≡ with_store w (failed w.store planned.next) → Commits {T = ℕ} w.store planned from to (Err error)
       → GoesOn (commands.Commit note) (state_of w from) (state_of new to) from to
   commit_goes_wrong error made commits_ = record {
     moments = commit_moments (Err error) commits_;
@@ -163,6 +168,7 @@ module _ (command : Command) (w : World) (from to : Outside) (ready : IsSteady (
   synced_moments false looks = steps_looks looks
   synced_moments true (inr settles) = steps settles.past (record {
     silent = settles.said;
+    file = inl (ap (λ (d : DiskState). d.seen) settles.disk);
     images = λ image is.
         let same : image ≡ from.now.disk.seen = image_of_settled (settled from.now.disk.seen) image (IsSettled-settled from.now.disk.seen) (subst (λ (d : DiskState). IsImage d image) settles.disk is) in
         inl (subst (IsAllowed (state_of w from)) (sym same) (ready.allowed from.now.disk.seen ready.ready.sound));
@@ -185,7 +191,7 @@ module _ (command : Command) (w : World) (from to : Outside) (ready : IsSteady (
     said = synced_said shut syncs;
     input = synced_input shut syncs;
     ready = elim (settled_by w w from to shut e syncs) [
-      | inl same ↦ ready_same (state_of w from) (state_of w to) (record { kept = refl; before = refl; attempted = refl; slot = refl; other = refl }) same ready
+      | inl same ↦ ready_same (state_of w from) (state_of w to) (record { kept = refl; before = refl; attempted = refl; slot = refl; other = refl; mode = refl }) same ready
       | inr settles ↦ ready_settled w from to settles.0 settles.1 ready
     ];
   }

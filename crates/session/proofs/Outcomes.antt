@@ -102,7 +102,7 @@ same_world : (w new left : World) → new ≡ left → SameFile w.store left.sto
 same_world w new left is same = subst (λ (x : World). SameFile w.store x.store) (sym is) same
 
 nothing_changed : (w : World) → SameFile w.store w.store
-nothing_changed w = record { kept = refl; before = refl; attempted = refl; slot = refl; other = refl }
+nothing_changed w = record { kept = refl; before = refl; attempted = refl; slot = refl; other = refl; mode = refl }
 
 given_left : (w left new : World) (said reply : List ℕ) → IsGiven (gives said left) reply new → SameFile w.store left.store → SameFile w.store new.store
 given_left w left new said reply given same = same_world w new left given.1 same
@@ -116,7 +116,7 @@ given_unless None w left new said reply given same = given_left w left new said 
 given_unless (Some refusal) w left new said reply given same = given_left w w new (reply_bytes (Refused refusal)) reply given (nothing_changed w)
 
 changed_views : (w : World) (views : List NamedTable) → SameFile w.store (with_tables w views).store
-changed_views w views = record { kept = refl; before = refl; attempted = refl; slot = refl; other = refl }
+changed_views w views = record { kept = refl; before = refl; attempted = refl; slot = refl; other = refl; mode = refl }
 
 -- an answer that changes nothing
 nothing_given : (w new : World) (said reply : List ℕ) → IsGiven (gives said w) reply new → SameFile w.store new.store

@@ -51,6 +51,7 @@ pub record SameFile (old new : Stored) : Type 0 where
   pub attempted : new.attempted ≡ old.attempted
   pub slot : new.slot ≡ old.slot
   pub other : new.other ≡ old.other
+  pub mode : new.mode ≡ old.mode
 
 allowed_same : (old new : State World) → SameFile old.world.store new.world.store → new.disk ≡ old.disk → (image : List ℕ) → IsAllowed old image → IsAllowed new image
 allowed_same old new same disk image (inl kept) = inl (record {

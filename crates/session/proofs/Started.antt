@@ -6,7 +6,8 @@ use Rattle.session.specs.declared.starting.StartError.{StartError}
 use Rattle.session.specs.declared.starting.StartError.TheVariants as start_error
 use Rattle.host_io.specs.Calls.{Looks}
 use Rattle.host_io.specs.Disk.{DiskState}
-use Rattle.host_io.specs.Outside.{Moment, Outside}
+use Rattle.host_io.specs.Outside.{Goes, Moment, Outside}
+use Rattle.host_io.proofs.Moments.{joins, steps_looks, weaker}
 use Rattle.lines.specs.Machine.{State}
 use Rattle.lines.specs.Served.{state_of}
 use Rattle.recovery.specs.Commits.{IsCommit}
@@ -43,6 +44,13 @@ refusal_after mode old mid new (start_error.Damaged place) looks h =
     (subst (λ (bytes : List ℕ). bytes ≢ []) same h.0, subst (λ (bytes : List ℕ). IsDamagedAt bytes place) same h.1, looks_join old mid new looks h.2)
 refusal_after mode old mid new start_error.Failed looks h = tt
 refusal_after mode old mid new start_error.Memory looks h = looks_join old mid new looks h
+
+-- a look at the disk says nothing, and what comes behind one goes on from it
+pub silent_looks : {old new : Outside} → Looks old new → Goes (λ at. at.said ≡ old.now.said) old new
+silent_looks looks = steps_looks looks
+
+pub silent_later : {old mid new : Outside} → Looks old mid → Goes (λ at. at.said ≡ mid.now.said) mid new → Goes (λ at. at.said ≡ old.now.said) old new
+silent_later looks goes = joins (steps_looks looks) (weaker (λ at same. same ∙ ap (λ (m : Moment). m.said) looks.still.now) goes)
 
 -- why none is started, after a look at the file
 pub refused_after : {T : Type 0} (mode : Mode) (old mid new : Outside) (r : Result T StartError) → Looks old mid → IfErr r (IsStartRefusal mode mid new) → IfErr r (IsStartRefusal mode old new)

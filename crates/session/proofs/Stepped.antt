@@ -41,13 +41,14 @@ nothing_commits note e = let same : ◌≡◌ {A = Command} commands.Nothing (co
 pub quiet_of_blank : (state : State World) (line image : List ℕ) → is_blank line ≡ true → IsAllowed state image ⊎ IsUnderWay state line image → IsAllowed state image
 quiet_of_blank state line image blank (inl allowed) = allowed
 quiet_of_blank state line image blank (inr under_way) =
-    absurd (nothing_commits under_way.commits.note (sym (blank_only line under_way.command blank under_way.reads) ∙ under_way.commits.asked))
+    absurd (nothing_commits under_way.commits.made.note (sym (blank_only line under_way.command blank under_way.reads) ∙ under_way.commits.made.asked))
 
 -- what goes on in a command goes on in its line
 pub line_goes : (old new : State World) (from to : Outside) (line : List ℕ) (command : Command) → Reads line command → GoesOn command old new from to → GoesOnLine line old new from to
 line_goes old new from to line command reads goes = record {
   moments = weaker (λ at h. record {
     silent = h.silent;
+    file = ⊎_elim (λ same. inl same) (λ file. inr (record { command = command; reads = reads; file_of = file })) h.file;
     images = λ image is. ⊎_elim (λ allowed. inl allowed) (λ commits. inr (record { command = command; reads = reads; commits = commits })) (h.images image is);
   }) goes.moments;
   said = goes.said;

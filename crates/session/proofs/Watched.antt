@@ -156,4 +156,17 @@ keeps_positions w all name None watching number same kept h = subst (λ ws. is_w
 keeps_positions w all name (Some x) watching number same kept h =
     let s = watch_shows w.store.views all name (watching x) (number x) kept h in
     subst (λ ws. KeepsPositions (record w { watches = ws }) name (watching x) (number x)) same
-    (record { view = s.0; shown = s.1; over = s.2; shows = s.3; keeps = s.4; there = h.there; counts = events_kept all name (watching x) (number x) h })
+    (record {
+      named = followed_of h.watches;
+      listed = found_kept all name h.watches h.found;
+      names = h.watches.names;
+      beside = ap (λ (k : Watching). shown_by h.watches.names k.watches) h.watching_is;
+      view = s.0;
+      shown = s.1;
+      over = s.2;
+      shows = s.3;
+      keeps = s.4;
+      now = s.5;
+      there = h.there;
+      counts = events_kept all name (watching x) (number x) h;
+    })

@@ -1,5 +1,5 @@
 -- What may come of a command: the one reply and world that it is due, or what the disk or want of memory makes of it, each with its cause.
-use Rattle.std.specs.Prelude.{◌≡◌, ◌⊎◌, ℕ, ◌<◌, ◌≤◌, List, Option, true}
+use Rattle.std.specs.Prelude.{◌≡◌, ◌⊎◌, ℕ, ◌<◌, ◌≤◌, List, None, Option, true}
 use Rattle.cmd_text.specs.Replies.{reply_bytes}
 use Rattle.cmd_text.specs.declared.command.Command.{Command}
 use Rattle.cmd_text.specs.declared.refusal.Refusal.TheVariants.{Damaged, Disk, Full, Memory}
@@ -14,8 +14,8 @@ use Rattle.recovery.specs.Standing.{StandsFor}
 use Rattle.storage.specs.Reverting.{views_without_homes}
 use Rattle.storage.specs.Stored.{Rests, committed, failed, floor_of, reopened}
 use Rattle.viewers.specs.Meanings.{Meaning}
-use Rattle.session.specs.Commands.{Outcome, Reach, gives, commits, opens_disk, outcome_of, reach_of, reads_disk, reopens, reverts, takes_memory}
-use Rattle.session.specs.Disk.{IsNext, LeavesDisk, ReadsDisk, SettlesAtMost, WritesCommit}
+use Rattle.session.specs.Commands.{Outcome, Reach, commit_due, gives, commits, opens_disk, outcome_of, reach_of, reads_disk, reopens, reverts, takes_memory}
+use Rattle.session.specs.Disk.{IsNext, LeavesDisk, ReadsDisk, SettlesAtMost, WritesCommit, WritesInPart}
 use Rattle.session.specs.World.{World, with_store, with_tables, without_followers}
 
 -- This is said, and this world is left.
@@ -27,6 +27,7 @@ pub record Gives (known : Type 0) (said : List ℕ) (left : World) (old : State 
 -- The commit is acknowledged: the file stands for it, and the one that was kept is the one before it.
 pub record Acknowledges (known : Type 0) (note : List ℕ) (old : State World) (reply : List ℕ) (new : State World) : Type 0 where
   pub planned : Planned
+  pub due : commit_due old.world.store ≡ None
   pub next : IsNext old.world.store note planned
   pub within : planned.next.end ≤ old.world.store.cap
   pub answer : reply ≡ reply_bytes (committed_as planned.next.number)
@@ -38,11 +39,13 @@ pub record Acknowledges (known : Type 0) (note : List ℕ) (old : State World) (
 -- The disk failed under way. The file may stand for the next commit or for the one that is kept, and the session is shut.
 pub record FailsUnderWay (known : Type 0) (note : List ℕ) (old : State World) (reply : List ℕ) (new : State World) : Type 0 where
   pub planned : Planned
+  pub due : commit_due old.world.store ≡ None
   pub next : IsNext old.world.store note planned
+  pub within : planned.next.end ≤ old.world.store.cap
   pub answer : reply ≡ reply_bytes (Refused Disk)
   pub world : new.world ≡ with_store old.world (failed old.world.store planned.next)
   pub rose : Rose old.disk_faults new.disk_faults
-  pub writes : WritesCommit known planned old new
+  pub writes : WritesInPart known planned old new
 
 -- The file would end past the cap, and nothing changed.
 pub record IsFull (known : Type 0) (note : List ℕ) (old : State World) (reply : List ℕ) (new : State World) : Type 0 where

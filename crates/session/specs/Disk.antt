@@ -1,12 +1,12 @@
 -- What a line may do to the disk, and how the disk is between lines. What is said of its bytes is said where they are known.
-use Rattle.std.specs.Prelude.{◌≡◌, ◌⊎◌, ℕ, ◌≤◌, List, ◌∷◌, Some, IsSome, true, false}
-use Rattle.commit_marks.specs.Marks.{other_slot, slot_range}
+use Rattle.std.specs.Prelude.{◌≡◌, ◌⊎◌, ℕ, ◌≤◌, List, Some, IsSome, true, false}
 use Rattle.commit_plan.specs.Plans.{IsPlanOf, Planned}
-use Rattle.commit_writes.specs.Blocks.{extents_of}
-use Rattle.host_io.specs.Disk.{IsImage, IsSound, Range, settled}
-use Rattle.host_io.specs.Ranges.{AgreesBut}
+use Rattle.commit_writes.specs.Carrying.{file_after}
+use Rattle.commit_writes.specs.Phases.{commit_ranges}
+use Rattle.host_io.specs.Disk.{IsImage, IsSound, settled}
+use Rattle.host_io.specs.Ranges.{ChangesOnly}
 use Rattle.lines.specs.Machine.{State}
-use Rattle.recovery.specs.Commits.{Commit}
+use Rattle.recovery.specs.Commits.{Commit, mark_of}
 use Rattle.recovery.specs.Refusals.{IsBefore, Older, whole}
 use Rattle.recovery.specs.Standing.{StandsFor}
 use Rattle.storage.specs.Stored.{Stored, Rests, floor_of, is_shut}
@@ -31,13 +31,19 @@ pub record SettlesAtMost (known : Type 0) (old new : State World) : Type 0 where
 abbrev pub IsNext : Stored → List ℕ → Planned → Type 0
 IsNext s note planned = IsPlanOf (floor_of s.mode s.kept.end) s.kept s.views note planned
 
--- where a commit writes: in the slot of the mark that is not the kept one's, and at the extents of its blocks
-abbrev pub commit_ranges : Stored → Planned → List Range
-commit_ranges s planned = slot_range (other_slot s.slot) ∷ extents_of planned.writes
+-- The bytes of a file where the commit that is planned of a store was made: the blocks and the slot of the mark that was not chosen are
+-- written, and every other byte is as it was.
+abbrev pub committed_file : Stored → Planned → List ℕ → List ℕ
+committed_file s planned file = file_after s.slot s.other planned.writes (mark_of planned.next) file
+
+-- the commit was written whole, and nothing is pending
+pub record WritesCommit (known : Type 0) (planned : Planned) (old new : State World) : Type 0 where
+  pub bytes : known → new.disk ≡ settled (committed_file old.world.store planned old.disk.seen)
+  pub later : old.disk_faults ≤ new.disk_faults
 
 -- no byte was changed but where the commit writes
-pub record WritesCommit (known : Type 0) (planned : Planned) (old new : State World) : Type 0 where
-  pub bytes : known → AgreesBut (commit_ranges old.world.store planned) old.disk.seen new.disk.seen
+pub record WritesInPart (known : Type 0) (planned : Planned) (old new : State World) : Type 0 where
+  pub bytes : known → ChangesOnly (commit_ranges old.world.store.slot planned.writes) old.disk.seen new.disk.seen
   pub later : old.disk_faults ≤ new.disk_faults
 
 -- The image stands for the commit that is kept. Where the session is not shut and there is a commit before, the image has it as the

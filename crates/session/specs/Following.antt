@@ -1,7 +1,8 @@
 -- A line that edits the view of a path, as an edit of the rows of the view itself; and what a watch keeps.
 use Rattle.std.specs.Prelude.{◌≡◌, ◌<◌, ℕ, false, List, [], ◌∷◌, length, map, slice_index_or, Option, None, Some}
-use Rattle.following.specs.Keeping.{ShowsRows}
+use Rattle.following.specs.Keeping.{ShowsRows, shown_by}
 use Rattle.following.specs.Watches.{Followed, Shown, found, place_of, watch_table}
+use Rattle.live.specs.Chains.{AreNow}
 use Rattle.live.specs.Numbers.{place_of as place_numbered, watch_of}
 use Rattle.live.specs.States.{WatchState, Watching}
 use Rattle.mk_value.specs.Names.{same_bytes}
@@ -43,12 +44,19 @@ abbrev pub events_followed : List Followed → List ℕ → ℕ
 events_followed watches name = events_in (found watches name) name
 
 -- The positions of a watch of a number, among the watches of its view, are those of the rows that the watch of a name shows, and it has
--- followed as many events.
+-- followed as many events. Each watch of the view keeps the positions that its operator gives over the rows of its source, so that of rows
+-- that are the same each has its own position, and in the order that the operator gives.
 pub record KeepsPositions (w : World) (name : List ℕ) (watching : Watching) (number : ℕ) : Type 0 where
+  -- the watches of the view by name: what they show and how many events they have followed is what is kept
+  pub named : Followed
+  pub listed : found w.watches name ≡ Some named
+  pub names : List (List ℕ)
+  pub beside : named.watches ≡ shown_by names watching.watches
   pub view : StoredTable
   pub shown : Table
   pub over : table_under w name ≡ Some view
   pub shows : watch_table w.store.views w.watches name ≡ Some shown
   pub keeps : ShowsRows view.rows shown watching number
+  pub now : AreNow view.schema view.rows watching.watches
   pub there : place_numbered watching.watches number < length watching.watches
   pub counts : (d : WatchState) → (watch_of watching.watches number d).followed ≡ events_followed w.watches name

@@ -11,6 +11,7 @@ pub mod Moments
 pub mod Naming
 pub mod Planning
 pub mod Questions
+pub mod Reading
 pub mod Refusals
 pub mod Saying
 pub mod Starting

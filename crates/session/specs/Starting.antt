@@ -28,8 +28,9 @@ pub record StartsFrom (mode : Mode) (cap : ℕ) (file : List ℕ) (new : State W
   pub rests : Rests new.world.store new.disk
   pub same : new.disk.seen ≡ file
 
--- a store without views was made, and it is on the disk
+-- a store without views was made, where it may be written, and it is on the disk
 pub record StartsAnew (mode : Mode) (cap : ℕ) (new : State World) : Type 0 where
+  pub writes : mode ≢ Read
   pub store : new.world ≡ world_over (new_store mode cap)
   pub made : new.disk ≡ settled new_file
   pub rests : Rests new.world.store new.disk

@@ -1,3 +1,4 @@
+ghost use Rattle.session.specs.Reading.{LeavesTheFile};
 ghost use Rattle.session.specs.Unfaulted.{AnswersUnfaulted};
 
 /// A law of runs: where no call of the disk fails, a session that is not shut stays so, and each line gets what it is due: no reply says
@@ -5,4 +6,9 @@ ghost use Rattle.session.specs.Unfaulted.{AnswersUnfaulted};
 /// number or the cap, or for want of memory.
 pub fn lines_are_answered()
     ensures { AnswersUnfaulted }
+{}
+
+/// A law of runs: a session that only reads leaves the file as it is, whatever its lines ask for.
+pub fn reading_leaves_the_file()
+    ensures { LeavesTheFile }
 {}

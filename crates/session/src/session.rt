@@ -122,6 +122,11 @@ impl Session {
 
         ensures counts { CountsFaults ⊥ (H.outside host.old) (H.outside host.new) }
         ensures goes { H.tells → GoesOn command.now (state_of self.old (H.outside host.old)) (state_of self.new (H.outside host.new)) (H.outside host.old) (H.outside host.new) }
+
+        // No call of any host is made but for a commit, an opening anew or a look at the commit before, and none for these where the
+        // session is shut for them.
+        ensures off_disk { reach_of command.now ≡ off_disk → host.new ≡ host.old }
+        ensures shut { is_shut self.old.store && not (goes_when_shut command.now) ≡ true → host.new ≡ host.old }
     {
         if self.refuses(command) {
             return replies::refused(Refusal::Shut);

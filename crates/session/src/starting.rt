@@ -1,7 +1,8 @@
 //! Opening the store of a file, or making one.
-ghost use Rattle.std.specs.Prelude.{◌≡◌, ◌≢◌, ◌<◌, ◌^◌, [], IfErr, IfOk, IsErrOf};
+ghost use Rattle.std.specs.Prelude.{◌≡◌, ◌≢◌, ◌<◌, ◌≤◌, ◌^◌, [], IfErr, IfOk, IsErrOf};
 ghost use Rattle.host_io.specs.Calls.{CountsFaults, Looks};
 ghost use Rattle.host_io.specs.Disk.{IsSettled};
+ghost use Rattle.host_io.specs.Outside.{Goes};
 ghost use Rattle.lines.specs.Served.{state_of};
 ghost use Rattle.recovery.specs.Commits.{IsCommit};
 ghost use Rattle.session.specs.Disk.{IsSteady};
@@ -74,6 +75,7 @@ fn of_opening(error: OpenError) -> StartError
 /// `Empty` exactly where the file is empty and only read. `NotAStore` and `Damaged` with its place exactly where the file is not empty
 /// and stands for no commit. `Failed`, which comes only where the disk failed; an empty file may hold any bytes then. `Memory`. But for
 /// `Failed` the disk is as before.
+#[tactic(auto, using(crate::proofs::Started::silent_looks, crate::proofs::Started::silent_later))]
 pub fn start<H: Host>(
     alloc: Global,
     host: &mut H,
@@ -81,8 +83,10 @@ pub fn start<H: Host>(
     cap: u64,
 ) -> Result<Session, StartError>
     requires settled { H.tells → IsSettled (H.outside host.old).now.disk }
+    requires room { 208 ≤ cap }
     requires capped { cap < 2 ^ 63 }
     ensures counts { CountsFaults (IsErrOf result StartError.Failed) (H.outside host.old) (H.outside host.new) }
+    ensures moments { H.tells → Goes (λ at. at.said ≡ (H.outside host.old).now.said) (H.outside host.old) (H.outside host.new) }
     ensures said { H.tells → (H.outside host.new).now.said ≡ (H.outside host.old).now.said }
     ensures input { H.tells → (H.outside host.new).input ≡ (H.outside host.old).input }
 
@@ -101,6 +105,7 @@ pub fn start<H: Host>(
 }
 
 /// Opens the store of a file that is not empty.
+#[tactic(auto, using(crate::proofs::Started::silent_looks))]
 fn open_store<H: Host>(
     alloc: Global,
     host: &mut H,
@@ -112,6 +117,7 @@ fn open_store<H: Host>(
     requires capped { cap < 2 ^ 63 }
     ensures counts { CountsFaults (IsErrOf result StartError.Failed) (H.outside host.old) (H.outside host.new) }
     ensures same { H.tells → Looks (H.outside host.old) (H.outside host.new) }
+    ensures moments { H.tells → Goes (λ at. at.said ≡ (H.outside host.old).now.said) (H.outside host.old) (H.outside host.new) }
     ensures refused { H.tells → IfErr result (IsStartRefusal mode (H.outside host.old) (H.outside host.new)) }
     ensures starts { H.tells → IfOk result (λ session. StartsAs mode cap (H.outside host.old).now.disk.seen (state_of session (H.outside host.new))) }
     ensures ready { H.tells → IfOk result (λ session. IsSteady (state_of session (H.outside host.new))) }
@@ -132,10 +138,13 @@ fn session_over(alloc: Global, store: Store) -> Session
 }
 
 /// Makes a store without views in an empty file, unless it is only read.
+#[tactic(auto, using(host_io::proofs::Moments::begins))]
 fn make<H: Host>(alloc: Global, host: &mut H, mode: Mode, cap: u64) -> Result<Session, StartError>
     requires empty { H.tells → (H.outside host.old).now.disk.seen ≡ [] }
+    requires room { 208 ≤ cap }
     requires capped { cap < 2 ^ 63 }
     ensures counts { CountsFaults (IsErrOf result StartError.Failed) (H.outside host.old) (H.outside host.new) }
+    ensures moments { H.tells → Goes (λ at. at.said ≡ (H.outside host.old).now.said) (H.outside host.old) (H.outside host.new) }
     ensures said { H.tells → (H.outside host.new).now.said ≡ (H.outside host.old).now.said }
     ensures input { H.tells → (H.outside host.new).input ≡ (H.outside host.old).input }
     ensures refused { H.tells → IfErr result (IsStartRefusal mode (H.outside host.old) (H.outside host.new)) }

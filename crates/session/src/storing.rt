@@ -42,6 +42,7 @@ impl Session {
 
     /// Plans the commit of the views. It takes all memory of the commit.
     fn plan(&self, note: &Note) -> Result<Plan, Refusal>
+        requires open { is_shut self.now.store ≡ false }
         ensures planned { IfOk result (IsPlannedNext self.now.store note.now) }
         ensures refused { IfErr result (IsUnplanned self.now.store note.now) }
     {

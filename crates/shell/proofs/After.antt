@@ -1,42 +1,89 @@
 -- What comes of a file after a look at it.
-use Rattle.std.proofs.Common.{◌≡◌, ◌≢◌, ℕ, List, [], ap, sym, subst, ◌∙◌}
-use Rattle.host_io.specs.Calls.{Looks}
-use Rattle.host_io.specs.Outside.{Moment, Outside}
+use Rattle.std.proofs.Common.{◌≡◌, ◌≢◌, ℕ, ◌+◌, List, [], length, ap, sym, subst, ◌∙◌, inl, inr}
+use Rattle.host_io.specs.Outside.{Moment, Outside, moment}
 use Rattle.lines.specs.Served.{state_of}
+use Rattle.lines.specs.declared.serving.End.{End}
+use Rattle.lines.specs.declared.serving.End.TheVariants as ends
 use Rattle.session.specs.Starting.{StartsAs}
+use Rattle.session.specs.World.{World}
 use Rattle.storage.specs.Spaces.{Reports}
 use Rattle.storage.specs.declared.mode.Mode.{Mode}
 use Rattle.storage.specs.declared.mode.Mode.TheVariants.{Read}
 use Rattle.viewers.specs.Meanings.{Meaning}
+use Rattle.shell.specs.Crashes.{IsSafeGreeting, IsSafeSample, IsSafeServing}
 use Rattle.shell.specs.Faults.{IsFault}
-use Rattle.shell.specs.Ran.{Answers, Checks, Opens, RanChecking, RanSampling, RanServing, RefusesFile, Samples}
-use Rattle.shell.specs.Said.{IsSilent, check_line, fault_line}
+use Rattle.shell.specs.Ran.{Answers, Checks, GreetsInPart, Opens, RanAs, RanChecking, RanFrom, RanSampling, RanServing, RefusesFile, Samples, SamplesFrom, ServesFrom}
+use Rattle.shell.specs.Said.{IsSilent, fault_line, greeting_line}
 use Rattle.shell.specs.declared.fault.FileFault.TheVariants.{NotEmpty}
 use Rattle.shell.specs.declared.status.Status.{Status}
 use Rattle.shell.specs.declared.status.Status.TheVariants.{Done, Usage, Refused, TakeFault, SayFault, Memory, TooMuch, DiskFault}
-use Rattle.shell.proofs.Saying.{part_after, says_only-after}
+use Rattle.shell.proofs.Saying.{opens_of, says_only-after, silence_joins, silence_of, silent_joins}
+use Rattle.command_line.specs.declared.job.Task.{Task}
+use Rattle.command_line.specs.declared.job.Task.TheVariants.{Serve, Check, Sample}
 
-module _ (old looked new : Outside) (looks : Looks old looked) (says : looked.say_faults ≡ old.say_faults) where
+module _ (old looked new : Outside) (silent : IsSilent old looked) where
   same_seen : looked.now.disk.seen ≡ old.now.disk.seen
-  same_seen = ap (λ (m : Moment). m.disk.seen) looks.still.now
+  same_seen = ap (λ (m : Moment). m.disk.seen) silent.now
 
-  refuses_after : (mode : Mode) → RefusesFile mode looked new → RefusesFile mode old new
-  refuses_after mode (fault, cause, said) =
-      (fault, subst (λ (bytes : List ℕ). IsFault mode bytes fault) same_seen cause, says_only-after (fault_line fault) old looked new looks says said)
+  same_moment : moment looked ≡ moment old
+  same_moment = ap length silent.past
 
-  silent_after : IsSilent looked new → IsSilent old new
-  silent_after silent = record { now = silent.now ∙ looks.still.now; past = silent.past ∙ looks.still.past; input = silent.input ∙ looks.input }
+  same_said : length looked.now.said ≡ length old.now.said
+  same_said = ap (λ (m : Moment). length m.said) silent.now
 
-  opens_after : (opened : Outside) → Opens looked opened → Opens old opened
+  pub refuses_after : (mode : Mode) → RefusesFile mode looked new → RefusesFile mode old new
+  refuses_after mode (fault, cause, said) = (fault, subst (λ (bytes : List ℕ). IsFault mode bytes fault) same_seen cause, says_only-after (fault_line fault) old looked new silent said)
+
+  pub opens_after : (opened : Outside) → Opens looked opened → Opens old opened
   opens_after opened opens = record {
-    said = opens.said ∙ ap (λ (m : Moment). m.said) looks.still.now;
-    input = opens.input ∙ looks.input;
+    silence = silence_joins old looked opened (silence_of old looked silent) opens.silence;
     untouched = λ some.
         let then = opens.untouched (subst (λ (bytes : List ℕ). bytes ≢ []) (sym same_seen) some) in
-        record { now = then.now ∙ looks.still.now; past = then.past ∙ looks.still.past };
+        record { now = then.now ∙ silent.now; past = then.past ∙ silent.past };
   }
 
-  answers_after : (viewers : List Meaning) (mode : Mode) (cap : ℕ) (status : Status) → Answers viewers mode cap status looked new → Answers viewers mode cap status old new
+  greeting_after : (world : World) (opened : Outside) (more : ℕ) → IsSafeGreeting (state_of world opened) (moment looked) (length looked.now.said) (moment opened) (length looked.now.said + more) new
+      → IsSafeGreeting (state_of world opened) (moment old) (length old.now.said) (moment opened) (length old.now.said + more) new
+  greeting_after world opened more safe =
+      subst (λ (said : ℕ). IsSafeGreeting (state_of world opened) (moment old) said (moment opened) (said + more) new) same_said
+      (subst (λ (since : ℕ). IsSafeGreeting (state_of world opened) since (length looked.now.said) (moment opened) (length looked.now.said + more) new) same_moment safe)
+
+  serves_after : (viewers : List Meaning) (end : End) (world : World) (opened : Outside) → ServesFrom viewers world end looked opened new → ServesFrom viewers world end old opened new
+  serves_after viewers end world opened from =
+      let more = length (greeting_line world.store.kept.number) in
+      let state = state_of world opened in
+      record {
+        greeted = from.greeted;
+        greeting = from.greeting;
+        last = from.last;
+        serves = from.serves;
+        greets = greeting_after world opened more from.greets;
+        crash = subst (λ (said : ℕ). IsSafeServing viewers state from.serves.turns (moment old) (said + more) new) same_said
+            (subst (λ (since : ℕ). IsSafeServing viewers state from.serves.turns since (length looked.now.said + more) new) same_moment from.crash);
+      }
+
+  greets_after : (world : World) (opened : Outside) → GreetsInPart world looked opened new → GreetsInPart world old opened new
+  greets_after world opened part = record {
+    said = part.said;
+    part = part.part;
+    short = part.short;
+    greets = greeting_after world opened (length (greeting_line world.store.kept.number)) part.greets;
+  }
+
+  ran_from_after : (viewers : List Meaning) (status : Status) (world : World) (opened : Outside) → RanFrom viewers world status looked opened new → RanFrom viewers world status old opened new
+  ran_from_after viewers Done world opened ran = serves_after viewers ends.Done world opened ran
+  ran_from_after viewers TakeFault world opened ran = serves_after viewers ends.TakeFault world opened ran
+  ran_from_after viewers TooMuch world opened ran = serves_after viewers ends.TooMuch world opened ran
+  ran_from_after viewers SayFault world opened ran = elim ran [
+    | inl part ↦ inl (greets_after world opened part)
+    | inr served ↦ inr (serves_after viewers ends.SayFault world opened served)
+  ]
+  ran_from_after viewers Usage world opened ran = ran
+  ran_from_after viewers Refused world opened ran = ran
+  ran_from_after viewers Memory world opened ran = ran
+  ran_from_after viewers DiskFault world opened ran = ran
+
+  pub answers_after : (viewers : List Meaning) (mode : Mode) (cap : ℕ) (status : Status) → Answers viewers mode cap status looked new → Answers viewers mode cap status old new
   answers_after viewers mode cap status a = record {
     opened = a.opened;
     world = a.world;
@@ -44,63 +91,82 @@ module _ (old looked new : Outside) (looks : Looks old looked) (says : looked.sa
       opens = opens_after a.opened a.starts.opens;
       starts = subst (λ (bytes : List ℕ). StartsAs mode cap bytes (state_of a.world a.opened)) same_seen a.starts.starts;
     };
-    ran = a.ran;
+    ran = ran_from_after viewers status a.world a.opened a.ran;
   }
 
-  checks_after : Checks Done looked new → Checks Done old new
-  checks_after c = record {
+  pub checks_after : (status : Status) → Checks status looked new → Checks status old new
+  checks_after status c = record {
     report = c.report;
     reports = subst (λ (bytes : List ℕ). Reports bytes c.report) same_seen c.reports;
-    says = part_after (check_line c.report) (check_line c.report) old looked new looks c.says;
+    looked = c.looked;
+    looks = silent_joins old looked c.looked silent c.looks;
+    says = c.says;
   }
 
-  checks_in_part_after : Checks SayFault looked new → Checks SayFault old new
-  checks_in_part_after c = record {
-    report = c.report;
-    reports = subst (λ (bytes : List ℕ). Reports bytes c.report) same_seen c.reports;
-    says = (c.says.0, part_after (check_line c.report) c.says.0 old looked new looks c.says.1, c.says.2);
+  pub samples_from_after : (viewers : List Meaning) (number edits : ℕ) (world : World) (status : Status) (opened : Outside) → SamplesFrom viewers number edits world status looked opened new
+      → SamplesFrom viewers number edits world status old opened new
+  samples_from_after viewers number edits world status opened s = record {
+    answered = s.answered;
+    last = s.last;
+    line = s.line;
+    outcome = s.outcome;
+    silence = s.silence;
+    says = s.says;
+    told = subst (λ (said : ℕ). IsSafeSample (state_of s.last new) (moment old) said new) same_said
+        (subst (λ (since : ℕ). IsSafeSample (state_of s.last new) since (length looked.now.said) new) same_moment s.told);
+    crash = s.crash;
   }
 
-module _ (old looked new : Outside) (looks : Looks old looked) (viewers : List Meaning) (number edits : ℕ) (mode : Mode) (cap : ℕ) where
-  samples_after : looked.say_faults ≡ old.say_faults → (status : Status) → Samples viewers number edits mode cap status looked new → Samples viewers number edits mode cap status old new
-  samples_after says status s = record {
-    empty = sym (ap (λ (m : Moment). m.disk.seen) looks.still.now) ∙ s.empty;
+  pub samples_after : (viewers : List Meaning) (number edits : ℕ) (mode : Mode) (cap : ℕ) (status : Status) → Samples viewers number edits mode cap status looked new → Samples viewers number edits mode cap status old new
+  samples_after viewers number edits mode cap status s = record {
+    empty = sym same_seen ∙ s.empty;
     opened = s.opened;
     world = s.world;
     starts = record {
-      opens = opens_after old looked new looks says s.opened s.starts.opens;
-      starts = subst (λ (bytes : List ℕ). StartsAs mode cap bytes (state_of s.world s.opened)) (ap (λ (m : Moment). m.disk.seen) looks.still.now) s.starts.starts;
+      opens = opens_after s.opened s.starts.opens;
+      starts = subst (λ (bytes : List ℕ). StartsAs mode cap bytes (state_of s.world s.opened)) same_seen s.starts.starts;
     };
-    sampled = s.sampled;
+    sampled = samples_from_after viewers number edits s.world status s.opened s.sampled;
   }
 
-  pub ran_sampling_after : (status : Status) → looked.say_faults ≡ old.say_faults → RanSampling viewers number edits mode cap status looked new → RanSampling viewers number edits mode cap status old new
-  ran_sampling_after Usage says ran = ran
-  ran_sampling_after Refused says ran =
-      (λ none. ran.0 (ap (λ (m : Moment). m.disk.seen) looks.still.now ∙ none), says_only-after (fault_line NotEmpty) old looked new looks says ran.1)
-  ran_sampling_after Memory says ran = silent_after old looked new looks says ran
-  ran_sampling_after DiskFault says ran = opens_after old looked new looks says new ran
-  ran_sampling_after Done says ran = samples_after says Done ran
-  ran_sampling_after TakeFault says ran = ran
-  ran_sampling_after TooMuch says ran = ran
-  ran_sampling_after SayFault says ran = samples_after says SayFault ran
+pub ran_sampling_after : (old looked new : Outside) → IsSilent old looked → (viewers : List Meaning) (number edits : ℕ) (mode : Mode) (cap : ℕ) (status : Status) → RanSampling viewers number edits mode cap status looked new
+    → RanSampling viewers number edits mode cap status old new
+ran_sampling_after old looked new silent viewers number edits mode cap Usage ran = ran
+ran_sampling_after old looked new silent viewers number edits mode cap Refused ran = ((λ none. ran.0 (same_seen old looked new silent ∙ none)), says_only-after (fault_line NotEmpty) old looked new silent ran.1)
+ran_sampling_after old looked new silent viewers number edits mode cap Memory ran = silent_joins old looked new silent ran
+ran_sampling_after old looked new silent viewers number edits mode cap DiskFault ran = opens_after old looked new silent new ran
+ran_sampling_after old looked new silent viewers number edits mode cap Done ran = samples_after old looked new silent viewers number edits mode cap Done ran
+ran_sampling_after old looked new silent viewers number edits mode cap TakeFault ran = ran
+ran_sampling_after old looked new silent viewers number edits mode cap TooMuch ran = ran
+ran_sampling_after old looked new silent viewers number edits mode cap SayFault ran = samples_after old looked new silent viewers number edits mode cap SayFault ran
 
-pub ran_serving_after : (viewers : List Meaning) (mode : Mode) (cap : ℕ) (status : Status) (old looked new : Outside) → Looks old looked → looked.say_faults ≡ old.say_faults → RanServing viewers mode cap status looked new → RanServing viewers mode cap status old new
-ran_serving_after viewers mode cap Usage old looked new looks says ran = ran
-ran_serving_after viewers mode cap Refused old looked new looks says ran = refuses_after old looked new looks says mode ran
-ran_serving_after viewers mode cap Memory old looked new looks says ran = silent_after old looked new looks says ran
-ran_serving_after viewers mode cap DiskFault old looked new looks says ran = opens_after old looked new looks says new ran
-ran_serving_after viewers mode cap Done old looked new looks says ran = answers_after old looked new looks says viewers mode cap Done ran
-ran_serving_after viewers mode cap TakeFault old looked new looks says ran = answers_after old looked new looks says viewers mode cap TakeFault ran
-ran_serving_after viewers mode cap TooMuch old looked new looks says ran = answers_after old looked new looks says viewers mode cap TooMuch ran
-ran_serving_after viewers mode cap SayFault old looked new looks says ran = answers_after old looked new looks says viewers mode cap SayFault ran
+pub ran_serving_after : (viewers : List Meaning) (mode : Mode) (cap : ℕ) (status : Status) (old looked new : Outside) → IsSilent old looked → RanServing viewers mode cap status looked new → RanServing viewers mode cap status old new
+ran_serving_after viewers mode cap Usage old looked new silent ran = ran
+ran_serving_after viewers mode cap Refused old looked new silent ran = refuses_after old looked new silent mode ran
+ran_serving_after viewers mode cap Memory old looked new silent ran = silent_joins old looked new silent ran
+ran_serving_after viewers mode cap DiskFault old looked new silent ran = opens_after old looked new silent new ran
+ran_serving_after viewers mode cap Done old looked new silent ran = answers_after old looked new silent viewers mode cap Done ran
+ran_serving_after viewers mode cap TakeFault old looked new silent ran = answers_after old looked new silent viewers mode cap TakeFault ran
+ran_serving_after viewers mode cap TooMuch old looked new silent ran = answers_after old looked new silent viewers mode cap TooMuch ran
+ran_serving_after viewers mode cap SayFault old looked new silent ran = answers_after old looked new silent viewers mode cap SayFault ran
 
-pub ran_checking_after : (status : Status) (old looked new : Outside) → Looks old looked → looked.say_faults ≡ old.say_faults → RanChecking status looked new → RanChecking status old new
-ran_checking_after Usage old looked new looks says ran = ran
-ran_checking_after Refused old looked new looks says ran = refuses_after old looked new looks says Read ran
-ran_checking_after Memory old looked new looks says ran = silent_after old looked new looks says ran
-ran_checking_after DiskFault old looked new looks says ran = silent_after old looked new looks says ran
-ran_checking_after Done old looked new looks says ran = checks_after old looked new looks says ran
-ran_checking_after TakeFault old looked new looks says ran = ran
-ran_checking_after TooMuch old looked new looks says ran = ran
-ran_checking_after SayFault old looked new looks says ran = checks_in_part_after old looked new looks says ran
+pub ran_checking_after : (status : Status) (old looked new : Outside) → IsSilent old looked → RanChecking status looked new → RanChecking status old new
+ran_checking_after Usage old looked new silent ran = ran
+ran_checking_after Refused old looked new silent ran = refuses_after old looked new silent Read ran
+ran_checking_after Memory old looked new silent ran = silent_joins old looked new silent ran
+ran_checking_after DiskFault old looked new silent ran = silent_joins old looked new silent ran
+ran_checking_after Done old looked new silent ran = checks_after old looked new silent Done ran
+ran_checking_after TakeFault old looked new silent ran = ran
+ran_checking_after TooMuch old looked new silent ran = ran
+ran_checking_after SayFault old looked new silent ran = checks_after old looked new silent SayFault ran
+
+-- a job for which memory was wanting before the file was attached, or whose file was not attached
+pub lacks_memory : (viewers : List Meaning) (task : Task) (mode : Mode) (cap : ℕ) (old new : Outside) → IsSilent old new → RanAs viewers task mode cap Memory old new
+lacks_memory viewers Serve mode cap old new silent = silent
+lacks_memory viewers Check mode cap old new silent = silent
+lacks_memory viewers (Sample number edits) mode cap old new silent = silent
+
+pub not_attached : (viewers : List Meaning) (task : Task) (mode : Mode) (cap : ℕ) (old new : Outside) → IsSilent old new → RanAs viewers task mode cap DiskFault old new
+not_attached viewers Serve mode cap old new silent = opens_of old new silent
+not_attached viewers Check mode cap old new silent = silent
+not_attached viewers (Sample number edits) mode cap old new silent = opens_of old new silent

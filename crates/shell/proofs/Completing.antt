@@ -1,5 +1,5 @@
 -- A run in which nothing goes wrong is done, or wanted memory.
-use Rattle.std.proofs.Common.{◌≡◌, ◌≢◌, ℕ, ◌≤◌, ◌⊎◌, List, [], ◌∷◌, length, length-append, refl, ap, sym, subst, ◌∙◌, inl, inr, arith}
+use Rattle.std.proofs.Common.{◌≡◌, ◌≢◌, ℕ, ◌≤◌, ◌⊎◌, false, List, [], ◌∷◌, ◌++◌, length, length-append, refl, ap, sym, subst, ◌∙◌, inl, inr, arith}
 use Rattle.command_line.specs.Asking.{IsSameJob}
 use Rattle.command_line.specs.Words.{AsksFor}
 use Rattle.command_line.specs.declared.job.Job.{Job}
@@ -7,17 +7,26 @@ use Rattle.command_line.specs.declared.job.Task.{Task}
 use Rattle.command_line.specs.declared.job.Task.TheVariants.{Serve, Check, Sample}
 use Rattle.host_io.specs.Calls.{Rose}
 use Rattle.host_io.specs.Outside.{Outside}
+use Rattle.host_io.proofs.Faults.{Rose-last}
 use Rattle.lines.specs.Lines.{max_budget}
+use Rattle.lines.specs.Machine.{State}
+use Rattle.lines.specs.Served.{state_of}
+use Rattle.recovery.proofs.Undamaged.{no_cause}
 use Rattle.recovery.specs.Commits.{Commit}
 use Rattle.recovery.specs.Standing.{StandsFor}
 use Rattle.recovery.specs.declared.error.OpenError.{OpenError}
 use Rattle.recovery.specs.declared.error.OpenError.TheVariants as opening
-use Rattle.session.proofs.Undamaged.{no_cause}
+use Rattle.sample.specs.Lines.{sample_lines}
+use Rattle.session.specs.Starting.{StartsAs}
+use Rattle.session.specs.Unfaulted.{AnswersUnfaulted, AreAnswered}
+use Rattle.session.specs.World.{World}
+use Rattle.storage.specs.Stored.{is_shut}
 use Rattle.storage.specs.declared.mode.Mode.{Mode}
 use Rattle.storage.specs.declared.mode.Mode.TheVariants.{Read}
 use Rattle.viewers.specs.Meanings.{Meaning}
+use Rattle.shell.specs.Complete.{AnswersWell, AreSampleAnswered}
 use Rattle.shell.specs.Faults.{IsFault}
-use Rattle.shell.specs.Ran.{GoesWell, MayOpen, Ran, RanAs}
+use Rattle.shell.specs.Ran.{GoesWell, IsSampleLine, MayOpen, Ran, RanAs}
 use Rattle.shell.specs.declared.fault.FileFault.{FileFault}
 use Rattle.shell.specs.declared.fault.FileFault.TheVariants.{Empty, NotEmpty, NotAStore, Damaged}
 use Rattle.shell.specs.declared.status.Status.{Status}
@@ -55,7 +64,7 @@ within_budget viewers (Sample number edits) mode cap old new short ran = ran
 within_budget viewers Serve mode cap old new short ran =
     let from = ran.ran in
     let serves = from.serves in
-    let same : from.greeted.input ≡ old.input = from.greeting.input ∙ ran.starts.opens.input in
+    let same : from.greeted.input ≡ old.input = from.greeting.input ∙ ran.starts.opens.silence.input in
     let came = ap length (sym same ∙ serves.came) in
     let taken = length-append serves.taken new.input in
     let more = ap length serves.ends.more in
@@ -92,3 +101,35 @@ ran_job viewers words job TakeFault old new asks right ran = record { job = job;
 ran_job viewers words job SayFault old new asks right ran = record { job = job; asks = asks; ran = ran }
 ran_job viewers words job TooMuch old new asks right ran = record { job = job; asks = asks; ran = ran }
 ran_job viewers words job DiskFault old new asks right ran = record { job = job; asks = asks; ran = ran }
+
+-- a store that was made or opened is not shut
+started_unshut : (mode : Mode) (cap : ℕ) (file : List ℕ) (state : State World) → StartsAs mode cap file state → is_shut state.world.store ≡ false
+started_unshut mode cap [] state starts = ap (λ (w : World). is_shut w.store) starts.store
+started_unshut mode cap (byte ∷ bytes) state starts = ap (λ (w : World). is_shut w.store) starts.store
+
+sampled_well : AnswersUnfaulted → (viewers : List Meaning) (number edits : ℕ) (old last : State World) (line : List ℕ) → is_shut old.world.store ≡ false → (¬ Rose old.disk_faults last.disk_faults)
+    → (outcome : IsSampleLine viewers number edits old last line) → AreSampleAnswered viewers number edits old last line outcome
+sampled_well law viewers number edits old last line unshut still (inl all) = law viewers old last (sample_lines number edits) all.0.turns unshut all.0.answered still
+sampled_well law viewers number edits old last line unshut still (inr one) = law viewers old last one.front (one.before ++ one.final ∷ []) unshut one.answered still
+
+-- what each line of a run got, by what it did
+pub answers_well : AnswersUnfaulted → (viewers : List Meaning) (task : Task) (mode : Mode) (cap : ℕ) (old new : Outside) → (¬ Rose old.disk_faults new.disk_faults) → (ran : RanAs viewers task mode cap Done old new)
+    → AnswersWell viewers task mode cap old new ran
+answers_well law viewers Serve mode cap old new still ran =
+    let from = ran.ran in
+    let serves = from.serves in
+    let opened = ran.starts.opens.silence.disk_faults in
+    let greeted = from.greeting.disk_faults in
+    let unshut = started_unshut mode cap old.now.disk.seen (state_of ran.world ran.opened) ran.starts.starts in
+    let same : state_of ran.world from.greeted ≡ state_of ran.world ran.opened = let disk = from.greeting.disk in rw (disk, greeted) refl in
+    subst (λ (state : State World). AreAnswered viewers state serves.turns) same
+    (law viewers (state_of ran.world from.greeted) (state_of from.last new) serves.ends.lines serves.turns unshut serves.ends.answered
+    (λ rose. still (Rose-last old.disk_faults from.greeted.disk_faults new.disk_faults (omega arith) rose)))
+answers_well law viewers Check mode cap old new still ran = tt
+answers_well law viewers (Sample number edits) mode cap old new still ran =
+    let from = ran.sampled in
+    let opened = ran.starts.opens.silence.disk_faults in
+    let said = from.says.disk_faults in
+    let unshut = started_unshut mode cap old.now.disk.seen (state_of ran.world ran.opened) ran.starts.starts in
+    sampled_well law viewers number edits (state_of ran.world ran.opened) (state_of from.last from.answered) from.line unshut
+    (λ rose. still (Rose-last old.disk_faults ran.opened.disk_faults new.disk_faults opened (subst (λ (n : ℕ). Rose ran.opened.disk_faults n) (sym said) rose))) from.outcome

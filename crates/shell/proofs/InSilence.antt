@@ -8,7 +8,9 @@ use Rattle.lines.specs.Lines.{max_line}
 use Rattle.lines.specs.Machine.{Answers, HasEnded, Machine, Run, Turn}
 use Rattle.lines.specs.Served.{state_of}
 use Rattle.lines.proofs.Turns.{Run-push, goes_on-push}
+use Rattle.shell.specs.Said.{GoesInSilence}
 use Rattle.shell.specs.Sampled.{AcceptsAll, AnswersOne, AreAccepted, RefusesOne, is_refusal}
+use Rattle.shell.proofs.Saying.{silence_joins, silence_of, silent_none}
 
 -- Where the lines stand: those in front were answered and accepted, and these are left.
 pub record Reaches {W : Type 0} (machine : Machine W) (start : W) (begin : Outside) (world : W) (outside : Outside) (lines left : List (List ℕ)) : Type 0 where
@@ -18,8 +20,7 @@ pub record Reaches {W : Type 0} (machine : Machine W) (start : W) (begin : Outsi
   pub answered : Run machine (state_of start begin) front turns (state_of world outside)
   pub goes_on : ¬ HasEnded machine turns
   pub accepted : AreAccepted turns
-  pub said : outside.now.said ≡ begin.now.said
-  pub input : outside.input ≡ begin.input
+  pub silence : GoesInSilence begin outside
 
 pub reaches_none : {W : Type 0} (machine : Machine W) (start : W) (begin : Outside) (lines : List (List ℕ)) → Reaches machine start begin start begin lines lines
 reaches_none {W} machine start begin lines = record {
@@ -29,8 +30,7 @@ reaches_none {W} machine start begin lines = record {
   answered = refl;
   goes_on = λ ended. ended;
   accepted = All-nil (λ (turn : Turn W). is_refusal turn.reply ≡ false);
-  said = refl;
-  input = refl;
+  silence = silence_of begin begin (silent_none begin);
 }
 
 module _ {W : Type 0} (machine : Machine W) (start : W) (begin : Outside) (world after : W) (old new : Outside) (lines left : List (List ℕ)) (line reply : List ℕ)
@@ -60,8 +60,7 @@ module _ {W : Type 0} (machine : Machine W) (start : W) (begin : Outside) (world
         answered = one_more;
         goes_on = goes_on-push machine so.turns last so.goes_on (λ ends. false≢true (sym goes ∙ ends.1));
         accepted = All-append P so.turns (last ∷ []) so.accepted (All-cons P last [] accepted (All-nil P));
-        said = answers.said ∙ so.said;
-        input = answers.input ∙ so.input;
+        silence = silence_joins begin old new so.silence answers.silence;
       }
 
   -- the first that is refused

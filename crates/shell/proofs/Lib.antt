@@ -1,5 +1,6 @@
 pub mod After
 pub mod Completing
+pub mod Crashing
 pub mod InSilence
 pub mod Outcomes
 pub mod Quitting

@@ -1,3 +1,5 @@
+pub mod Complete
+pub mod Crashes
 pub mod Faults
 pub mod Ran
 pub mod Said

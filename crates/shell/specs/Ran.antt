@@ -1,5 +1,5 @@
 -- What each status of a run says of the bytes taken and said, and of what a crash would have left.
-use Rattle.std.specs.Prelude.{◌≡◌, ◌≢◌, ℕ, ◌<◌, ◌≤◌, List, [], length, ◌⊎◌}
+use Rattle.std.specs.Prelude.{◌≡◌, ◌≢◌, ℕ, ◌+◌, ◌<◌, ◌≤◌, List, [], length, ◌⊎◌}
 use Rattle.command_line.specs.Words.{AsksFor, AsksForSome}
 use Rattle.command_line.specs.declared.job.Job.{Job}
 use Rattle.command_line.specs.declared.job.Task.{Task}
@@ -23,18 +23,18 @@ use Rattle.storage.specs.declared.mode.Mode.{Mode}
 use Rattle.storage.specs.declared.mode.Mode.TheVariants.{Read}
 use Rattle.storage.specs.declared.space.Report.{Report}
 use Rattle.viewers.specs.Meanings.{Meaning}
+use Rattle.shell.specs.Crashes.{IsSafeGreeting, IsSafeSample, IsSafeServing}
 use Rattle.shell.specs.Faults.{IsFault}
-use Rattle.shell.specs.Said.{IsSilent, SaysOnly, SaysPart, check_line, fault_line, greeting_line, sample_line, usage_line}
+use Rattle.shell.specs.Said.{GoesInSilence, IsSilent, SaysOnly, Speaks, check_line, fault_line, greeting_line, sample_line, usage_line}
 use Rattle.shell.specs.Sampled.{AcceptsAll, RefusesOne}
 use Rattle.shell.specs.declared.fault.FileFault.{FileFault}
 use Rattle.shell.specs.declared.fault.FileFault.TheVariants.{NotEmpty}
 use Rattle.shell.specs.declared.status.Status.{Status}
 use Rattle.shell.specs.declared.status.Status.TheVariants.{Done, Usage, Refused, TakeFault, SayFault, Memory, TooMuch, DiskFault}
 
--- The file is attached and opened: nothing is said or taken, and a file that is not empty is read alone.
+-- The file is attached and opened in silence, and one that is not empty is read alone.
 pub record Opens (old opened : Outside) : Type 0 where
-  pub said : opened.now.said ≡ old.now.said
-  pub input : opened.input ≡ old.input
+  pub silence : GoesInSilence old opened
   pub untouched : old.now.disk.seen ≢ [] → StandsStill old opened
 
 -- A session was started from what the file stands for, or from a store that was made in an empty file.
@@ -42,54 +42,63 @@ pub record Starts (mode : Mode) (cap : ℕ) (old opened : Outside) (world : Worl
   pub opens : Opens old opened
   pub starts : StartsAs mode cap old.now.disk.seen (state_of world opened)
 
+-- the bytes that have been said when the greeting of a run stands whole, which names the commit that is kept
+abbrev pub greeted_length : World → Outside → ℕ
+greeted_length world old = length old.now.said + length (greeting_line world.store.kept.number)
+
 -- The greeting was said whole, and names the commit that is kept. From then on lines were served, up to this end: what was taken, answered
--- and said, and what a crash at any moment since the greeting would have left, are those of a run of the session over the lines of the
--- bytes taken.
-pub record ServesFrom (viewers : List Meaning) (world : World) (end : End) (old new : Outside) : Type 0 where
+-- and said are those of a run of the session over the lines of the bytes taken. What a crash would have left is said over the whole run, from
+-- its first call on.
+pub record ServesFrom (viewers : List Meaning) (world : World) (end : End) (old opened new : Outside) : Type 0 where
   pub greeted : Outside
-  pub greeting : SaysPart (greeting_line world.store.kept.number) (greeting_line world.store.kept.number) old greeted
+  pub greeting : Speaks (greeting_line world.store.kept.number) (greeting_line world.store.kept.number) opened greeted
   pub last : World
   pub serves : Serves (machine viewers) max_budget end world last greeted new
+  pub greets : IsSafeGreeting (state_of world opened) (moment old) (length old.now.said) (moment opened) (greeted_length world old) new
+  pub crash : IsSafeServing viewers (state_of world opened) serves.turns (moment old) (greeted_length world old) new
 
 -- the output failed within the greeting
-pub record GreetsInPart (world : World) (old new : Outside) : Type 0 where
+pub record GreetsInPart (world : World) (old opened new : Outside) : Type 0 where
   pub said : List ℕ
-  pub part : SaysPart (greeting_line world.store.kept.number) said old new
+  pub part : Speaks (greeting_line world.store.kept.number) said opened new
   pub short : length said < length (greeting_line world.store.kept.number)
+  pub greets : IsSafeGreeting (state_of world opened) (moment old) (length old.now.said) (moment opened) (greeted_length world old) new
 
--- what each status says of a run that began with this world
-abbrev pub RanFrom : List Meaning → World → Status → Outside → Outside → Type 0
-RanFrom viewers world Done old new = ServesFrom viewers world all_done old new
-RanFrom viewers world TakeFault old new = ServesFrom viewers world take_fault old new
-RanFrom viewers world TooMuch old new = ServesFrom viewers world too_much old new
-RanFrom viewers world SayFault old new = GreetsInPart world old new ⊎ ServesFrom viewers world say_fault old new
-RanFrom viewers world Usage old new = ⊥
-RanFrom viewers world Refused old new = ⊥
-RanFrom viewers world Memory old new = ⊥
-RanFrom viewers world DiskFault old new = ⊥
+-- what each status says of a run that opened its file so, and began with this world
+abbrev pub RanFrom : List Meaning → World → Status → Outside → Outside → Outside → Type 0
+RanFrom viewers world Done old opened new = ServesFrom viewers world all_done old opened new
+RanFrom viewers world TakeFault old opened new = ServesFrom viewers world take_fault old opened new
+RanFrom viewers world TooMuch old opened new = ServesFrom viewers world too_much old opened new
+RanFrom viewers world SayFault old opened new = GreetsInPart world old opened new ⊎ ServesFrom viewers world say_fault old opened new
+RanFrom viewers world Usage old opened new = ⊥
+RanFrom viewers world Refused old opened new = ⊥
+RanFrom viewers world Memory old opened new = ⊥
+RanFrom viewers world DiskFault old opened new = ⊥
 
 -- The file was opened, and a run began with what it stands for.
 pub record Answers (viewers : List Meaning) (mode : Mode) (cap : ℕ) (status : Status) (old new : Outside) : Type 0 where
   pub opened : Outside
   pub world : World
   pub starts : Starts mode cap old opened world
-  pub ran : RanFrom viewers world status opened new
+  pub ran : RanFrom viewers world status old opened new
 
 -- the line that a run ends with was said, or a front of it where the output failed
 abbrev pub SaysLine : List ℕ → Status → Outside → Outside → Type 0
-SaysLine line Done old new = SaysPart line line old new
-SaysLine line SayFault old new = (said : List ℕ) × SaysPart line said old new × (length said < length line)
+SaysLine line Done old new = Speaks line line old new
+SaysLine line SayFault old new = (said : List ℕ) × Speaks line said old new × (length said < length line)
 SaysLine line _ old new = ⊥
 
 -- a report was said, or a front of it where the output failed
 abbrev pub SaysReport : Report → Status → Outside → Outside → Type 0
 SaysReport report status old new = SaysLine (check_line report) status old new
 
--- the file was looked at as a whole, and a report on it was said
+-- the file was looked at as a whole, and then a report on it was said
 pub record Checks (status : Status) (old new : Outside) : Type 0 where
   pub report : Report
   pub reports : Reports old.now.disk.seen report
-  pub says : SaysReport report status old new
+  pub looked : Outside
+  pub looks : IsSilent old looked
+  pub says : SaysReport report status looked new
 
 -- Lines were served from this world up to the end that the status tells.
 abbrev pub ServesAs : List Meaning → Status → ℕ → World → World → Outside → Outside → Type 0
@@ -135,15 +144,15 @@ IsSampleLine viewers number edits old last line =
     ⊎ RefusesOne (machine viewers) old last (sample_lines number edits) line
 
 -- The lines of a sample were answered in silence, up to the first that was refused, and then one line was said of them. From the last answer
--- on, while that line was said and after it, each image that a crash would have left is one that the last world allows.
-pub record SamplesFrom (viewers : List Meaning) (number edits : ℕ) (world : World) (status : Status) (old new : Outside) : Type 0 where
+-- on, and so when any byte of that line had been said, each image that a crash would have left is one that the last state allows.
+pub record SamplesFrom (viewers : List Meaning) (number edits : ℕ) (world : World) (status : Status) (old opened new : Outside) : Type 0 where
   pub answered : Outside
   pub last : World
   pub line : List ℕ
-  pub outcome : IsSampleLine viewers number edits (state_of world old) (state_of last answered) line
-  pub silent : answered.now.said ≡ old.now.said
-  pub untaken : answered.input ≡ old.input
+  pub outcome : IsSampleLine viewers number edits (state_of world opened) (state_of last answered) line
+  pub silence : GoesInSilence opened answered
   pub says : SaysLine line status answered new
+  pub told : IsSafeSample (state_of last new) (moment old) (length old.now.said) new
   pub crash : (image : List ℕ) (n : ℕ) → Left (moment answered) new image n → IsAllowed (state_of last answered) image
 
 -- a store was made in the empty file, and the lines of the sample were answered over it
@@ -152,7 +161,7 @@ pub record Samples (viewers : List Meaning) (number edits : ℕ) (mode : Mode) (
   pub opened : Outside
   pub world : World
   pub starts : Starts mode cap old opened world
-  pub sampled : SamplesFrom viewers number edits world status opened new
+  pub sampled : SamplesFrom viewers number edits world status old opened new
 
 -- a run that makes a store of the lines of a sample, in an empty file and in no other
 abbrev pub RanSampling : List Meaning → ℕ → ℕ → Mode → ℕ → Status → Outside → Outside → Type 0

@@ -1,8 +1,9 @@
 -- Lines that the program says by itself, and how they are said.
-use Rattle.std.specs.Prelude.{◌≡◌, ℕ, List, [], ◌∷◌, ◌++◌, codes, decimal, ◌⊎◌}
-use Rattle.host_io.specs.Outside.{Outside}
+use Rattle.std.specs.Prelude.{◌≡◌, ℕ, ◌≤◌, List, [], ◌∷◌, ◌++◌, codes, decimal, ◌⊎◌}
+use Rattle.host_io.specs.Outside.{Goes, Outside}
 use Rattle.host_io.specs.Calls.{Rose}
 use Rattle.lines.specs.Lines.{newline}
+use Rattle.lines.specs.Spoken.{IsSaying}
 use Rattle.storage.specs.declared.space.Report.{Report}
 use Rattle.shell.specs.declared.fault.FileFault.{FileFault}
 use Rattle.shell.specs.declared.fault.FileFault.TheVariants.{Empty, NotEmpty, NotAStore, Damaged}
@@ -34,21 +35,40 @@ check_line r = codes "ok check" ++ (spaced (r.space.number ∷ r.space.end ∷ r
 abbrev pub sample_line : ℕ → ℕ → ℕ → List ℕ
 sample_line edits size number = codes "ok sample" ++ (spaced (edits ∷ size ∷ number ∷ []) ++ newline ∷ [])
 
--- this front of a line was said and nothing else; nothing was taken, and the disk is as it was
-pub record SaysPart (line front : List ℕ) (old new : Outside) : Type 0 where
+-- This front of a line was said and nothing else. At each moment that came a front of the line stood behind what had been said before, and
+-- the disk was as it is. Nothing was taken, and no call failed but one that says.
+pub record Speaks (line front : List ℕ) (old new : Outside) : Type 0 where
   pub prefix : (rest : List ℕ) × (line ≡ front ++ rest)
   pub spoke : new.now.said ≡ old.now.said ++ front
   pub disk : new.now.disk ≡ old.now.disk
   pub input : new.input ≡ old.input
+  pub moments : Goes (IsSaying line old.now) old new
+  pub disk_faults : new.disk_faults ≡ old.disk_faults
+  pub take_faults : new.take_faults ≡ old.take_faults
+  pub say_faults : old.say_faults ≤ new.say_faults
 
--- the line was said whole, or a front of it where the output failed
-pub record SaysOnly (line : List ℕ) (old new : Outside) : Type 0 where
-  pub said : List ℕ
-  pub part : SaysPart line said old new
-  pub whole : (said ≡ line) ⊎ Rose old.say_faults new.say_faults
+-- Nothing was said or taken. At each moment that came the bytes said were those before, and no call failed but one of the disk.
+pub record GoesInSilence (old new : Outside) : Type 0 where
+  pub said : new.now.said ≡ old.now.said
+  pub input : new.input ≡ old.input
+  pub moments : Goes (λ at. at.said ≡ old.now.said) old new
+  pub disk_faults : old.disk_faults ≤ new.disk_faults
+  pub take_faults : new.take_faults ≡ old.take_faults
+  pub say_faults : new.say_faults ≡ old.say_faults
 
--- nothing was said or taken, and the disk is as it was
+-- no moment came: nothing was said, taken or written, and no call failed but one that reads the disk
 pub record IsSilent (old new : Outside) : Type 0 where
   pub now : new.now ≡ old.now
   pub past : new.past ≡ old.past
   pub input : new.input ≡ old.input
+  pub disk_faults : old.disk_faults ≤ new.disk_faults
+  pub take_faults : new.take_faults ≡ old.take_faults
+  pub say_faults : new.say_faults ≡ old.say_faults
+
+-- The disk was read at most, and then the line was said whole, or a front of it where the output failed.
+pub record SaysOnly (line : List ℕ) (old new : Outside) : Type 0 where
+  pub looked : Outside
+  pub looks : IsSilent old looked
+  pub said : List ℕ
+  pub part : Speaks line said looked new
+  pub whole : (said ≡ line) ⊎ Rose old.say_faults new.say_faults

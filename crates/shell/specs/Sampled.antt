@@ -6,6 +6,7 @@ use Rattle.lines.specs.Machine.{Machine, Run, State, Turn}
 use Rattle.lines.specs.Served.{state_of}
 use Rattle.mk_value.specs.Buffer.{Buffer}
 use Rattle.sample.specs.Lines.{BeginsWithVerb}
+use Rattle.shell.specs.Said.{GoesInSilence}
 
 -- a reply that is a refusal
 abbrev pub is_refusal : List ℕ → Bool
@@ -40,14 +41,12 @@ ComesOf machine old last lines reply (Err error) = RefusesOne machine old last l
 -- lines were answered, and nothing was said or taken
 pub record AnswersAll {W T E : Type 0} (machine : Machine W) (lines : List (List ℕ)) (reply : List ℕ) (world after : W) (old new : Outside) (result : Result T E) : Type 0 where
   pub comes : ComesOf machine (state_of world old) (state_of after new) lines reply result
-  pub said : new.now.said ≡ old.now.said
-  pub input : new.input ≡ old.input
+  pub silence : GoesInSilence old new
 
 -- a line was answered by this reply, and nothing was said or taken
 pub record AnswersOne {W : Type 0} (machine : Machine W) (line reply : List ℕ) (world after : W) (old new : Outside) : Type 0 where
   pub answers : machine.answers (state_of world old) line reply (state_of after new)
-  pub said : new.now.said ≡ old.now.said
-  pub input : new.input ≡ old.input
+  pub silence : GoesInSilence old new
 
 -- no line that begins with a verb ends the session
 pub record GoesOnAfterVerbs {W : Type 0} (machine : Machine W) : Type 0 where

@@ -35,6 +35,7 @@ pub(crate) fn answer_all<H: Host, C, S: Session<H, C>>(
     ensures size { OnOk result (sample.new.size ≡ sample.old.size) }
     ensures clear { OnOk result (IsClear out.new) }
     ensures say_faults { (H.outside host.new).say_faults ≡ (H.outside host.old).say_faults }
+    ensures source { (H.outside host.new).source ≡ (H.outside host.old).source }
 {
     'lines: while sample.next_line(line) {
         answer_one(session, host, context, line, out)?;
@@ -60,6 +61,7 @@ fn answer_one<H: Host, C, S: Session<H, C>>(
     ensures refused { is_refusal out.new.bytes ≡ is_err result }
     ensures room { max_line + 1 ≤ out.new.spare + length out.new.bytes }
     ensures say_faults { (H.outside host.new).say_faults ≡ (H.outside host.old).say_faults }
+    ensures source { (H.outside host.new).source ≡ (H.outside host.old).source }
 {
     session.answer(host, context, line.as_str().as_bytes(), out);
     if is_refusal(out) {

@@ -29,6 +29,7 @@ pub(crate) fn check_file<H: Host>(alloc: Global, out: &mut Text, host: &mut H) -
     ensures take_fault { result ≢ Status.TakeFault }
     ensures say_fault { result ≡ Status.SayFault → Rose (H.outside host.old).say_faults (H.outside host.new).say_faults }
     ensures disk_fault { result ≡ Status.DiskFault → Rose (H.outside host.old).disk_faults (H.outside host.new).disk_faults }
+    ensures source { (H.outside host.new).source ≡ (H.outside host.old).source }
 {
     match check_store(alloc, host) {
         Ok(report) => say_report(&report, out, host),
@@ -72,6 +73,7 @@ fn report_on<H: Host>(alloc: Global, host: &mut H) -> Result<Report, StartError>
 fn say_report<H: Host>(report: &Report, out: &mut Text, host: &mut H) -> Status
     requires { IsClear out.old }
     ensures says { H.tells → SaysReport report.now result (H.outside host.old) (H.outside host.new) }
+    ensures source { (H.outside host.new).source ≡ (H.outside host.old).source }
     ensures say_fault { result ≡ Status.SayFault → Rose (H.outside host.old).say_faults (H.outside host.new).say_faults }
     ensures status { (result ≡ Status.Done) ⊎ (result ≡ Status.SayFault) }
 {

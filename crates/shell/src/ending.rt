@@ -14,6 +14,7 @@ pub(crate) fn say_line<H: Host>(line: &Text, host: &mut H) -> Status
     ensures says { H.tells → SaysLine line.now.bytes result (H.outside host.old) (H.outside host.new) }
     ensures moments { H.tells → Goes (IsSaying line.now.bytes (H.outside host.old).now) (H.outside host.old) (H.outside host.new) }
     ensures say_fault { result ≡ Status.SayFault → Rose (H.outside host.old).say_faults (H.outside host.new).say_faults }
+    ensures source { (H.outside host.new).source ≡ (H.outside host.old).source }
     ensures status { (result ≡ Status.Done) ⊎ (result ≡ Status.SayFault) }
 {
     match say_all(host, line.as_str().as_bytes()) {

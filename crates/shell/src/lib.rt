@@ -9,6 +9,7 @@ mod answering;
 mod checking;
 mod ending;
 mod fault;
+mod laws;
 mod own_lines;
 mod refusing;
 mod rooms;
@@ -18,6 +19,7 @@ mod serving;
 mod status;
 
 pub use fault::FileFault;
+pub use laws::runs_are_answered;
 pub use running::run;
 pub use serving::serve;
 pub use status::Status;

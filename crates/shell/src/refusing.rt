@@ -15,6 +15,7 @@ pub(crate) fn refuse<H: Host>(fault: FileFault, out: &mut Text, host: &mut H) ->
     requires { IsClear out.old }
     ensures status { result ≡ Status.Refused }
     ensures says { H.tells → SaysOnly (fault_line fault) (H.outside host.old) (H.outside host.new) }
+    ensures source { (H.outside host.new).source ≡ (H.outside host.old).source }
 {
     write_fault(fault, out);
     let _ = say_all(host, out.as_str().as_bytes());

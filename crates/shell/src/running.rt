@@ -1,4 +1,4 @@
-ghost use Rattle.std.specs.Prelude.{◌≡◌, ◌⊎◌, ◌≢◌, ◌<◌, ◌^◌, map, IfOk, OnOk};
+ghost use Rattle.std.specs.Prelude.{◌≡◌, ◌⊎◌, ◌≢◌, ◌<◌, ◌≤◌, ◌^◌, map, IfOk, OnOk};
 ghost use Rattle.command_line.specs.Words.{AsksForSome, texts_of};
 ghost use Rattle.host_io.specs.Calls.{CountsDisk, CountsSay, Looks, Rose};
 ghost use Rattle.host_io.specs.Disk.{IsSettled};
@@ -50,6 +50,9 @@ pub fn run<H: Host, V: Viewer>(alloc: Global, words: &[&str], viewers: &[V], hos
     ensures say_fault { result ≡ Status.SayFault → Rose (H.outside host.old).say_faults (H.outside host.new).say_faults }
     ensures disk_fault { result ≡ Status.DiskFault → Rose (H.outside host.old).disk_faults (H.outside host.new).disk_faults }
 
+    // What the host stands over stays.
+    ensures source { (H.outside host.new).source ≡ (H.outside host.old).source }
+
     // Where nothing goes wrong, every line is answered.
     ensures complete { H.tells → GoesWell (texts_of words.now) (H.outside host.old) (H.outside host.new)
         → (result ≡ Status.Done) ⊎ (result ≡ Status.Memory) }
@@ -68,6 +71,7 @@ pub fn run<H: Host, V: Viewer>(alloc: Global, words: &[&str], viewers: &[V], hos
 /// Does what the words ask for.
 fn run_job<H: Host, V: Viewer>(alloc: Global, job: &Job, viewers: &[V], host: &mut H) -> Status
     requires settled { H.tells → IsSettled (H.outside host.old).now.disk }
+    requires room { 208 ≤ job.now.cap }
     requires capped { job.now.cap < 2 ^ 63 }
     requires written { IsWritten job.now.task job.now.mode }
     ensures ran { H.tells → RanAs (map V.meaning viewers.now) job.now.task job.now.mode job.now.cap result (H.outside host.old) (H.outside host.new) }
@@ -75,6 +79,7 @@ fn run_job<H: Host, V: Viewer>(alloc: Global, job: &Job, viewers: &[V], host: &m
     ensures take_fault { result ≡ Status.TakeFault → Rose (H.outside host.old).take_faults (H.outside host.new).take_faults }
     ensures say_fault { result ≡ Status.SayFault → Rose (H.outside host.old).say_faults (H.outside host.new).say_faults }
     ensures disk_fault { result ≡ Status.DiskFault → Rose (H.outside host.old).disk_faults (H.outside host.new).disk_faults }
+    ensures source { (H.outside host.new).source ≡ (H.outside host.old).source }
 {
     let Ok(mut rooms) = Rooms::new(alloc) else {
         return Status::Memory;
@@ -117,12 +122,14 @@ fn serve_file<H: Host, V: Viewer>(
     requires line { IsClear rooms.old.line }
     requires reply { IsClear rooms.old.reply }
     requires settled { H.tells → IsSettled (H.outside host.old).now.disk }
+    requires room { 208 ≤ cap }
     requires capped { cap < 2 ^ 63 }
     ensures ran { H.tells → RanServing (map V.meaning viewers.now) mode cap result (H.outside host.old) (H.outside host.new) }
     ensures right { result ≢ Status.Usage }
     ensures take_fault { result ≡ Status.TakeFault → Rose (H.outside host.old).take_faults (H.outside host.new).take_faults }
     ensures say_fault { result ≡ Status.SayFault → Rose (H.outside host.old).say_faults (H.outside host.new).say_faults }
     ensures disk_fault { result ≡ Status.DiskFault → Rose (H.outside host.old).disk_faults (H.outside host.new).disk_faults }
+    ensures source { (H.outside host.new).source ≡ (H.outside host.old).source }
 {
     match start(alloc, host, mode, cap) {
         Ok(mut session) => greet_and_serve(&mut session, viewers, rooms, host),
@@ -143,7 +150,8 @@ fn greet_and_serve<H: Host, V: Viewer>(
     requires line { IsClear rooms.old.line }
     requires reply { IsClear rooms.old.reply }
     requires ready { H.tells → IsSteady (state_of session.old (H.outside host.old)) }
-    ensures ran { H.tells → RanFrom (map V.meaning viewers.now) session.old result (H.outside host.old) (H.outside host.new) }
+    ensures ran { H.tells → RanFrom (map V.meaning viewers.now) session.old result (H.outside host.old) (H.outside host.old) (H.outside host.new) }
+    ensures source { (H.outside host.new).source ≡ (H.outside host.old).source }
     ensures status { IsServed result }
     ensures take_fault { result ≡ Status.TakeFault → Rose (H.outside host.old).take_faults (H.outside host.new).take_faults }
     ensures say_fault { result ≡ Status.SayFault → Rose (H.outside host.old).say_faults (H.outside host.new).say_faults }

@@ -1,5 +1,5 @@
 //! The lines of a sample are answered in place of the input's.
-ghost use Rattle.std.specs.Prelude.{◌≡◌, ◌≢◌, ◌⊎◌, ◌<◌, ◌^◌, [], map};
+ghost use Rattle.std.specs.Prelude.{◌≡◌, ◌≢◌, ◌⊎◌, ◌<◌, ◌≤◌, ◌^◌, [], map};
 ghost use Rattle.host_io.specs.Calls.{Rose};
 ghost use Rattle.host_io.specs.Disk.{IsSettled};
 ghost use Rattle.host_io.specs.Outside.{Outside};
@@ -7,6 +7,7 @@ ghost use Rattle.lines.specs.Rooms.{IsClear};
 ghost use Rattle.lines.specs.Served.{state_of};
 ghost use Rattle.session.specs.Disk.{IsSteady};
 ghost use Rattle.shell.specs.Ran.{IsSampleLine, RanSampling, SamplesFrom};
+ghost use Rattle.shell.specs.Said.{GoesInSilence};
 ghost use Rattle.shell.specs.Sampled.{IsLineRoom};
 ghost use Rattle.storage.specs.declared.mode.Mode.TheVariants as modes;
 
@@ -47,6 +48,7 @@ pub(crate) fn sample_file<H: Host, V: Viewer>(
 ) -> Status
     requires out { IsClear out.old }
     requires settled { H.tells → IsSettled (H.outside host.old).now.disk }
+    requires room { 208 ≤ asked.cap }
     requires capped { asked.cap < 2 ^ 63 }
     requires writes { asked.mode ≢ modes.Read }
     ensures ran { H.tells → RanSampling (map V.meaning viewers.now) asked.number asked.edits asked.mode asked.cap result (H.outside host.old) (H.outside host.new) }
@@ -54,6 +56,7 @@ pub(crate) fn sample_file<H: Host, V: Viewer>(
     ensures take_fault { result ≢ Status.TakeFault }
     ensures say_fault { result ≡ Status.SayFault → Rose (H.outside host.old).say_faults (H.outside host.new).say_faults }
     ensures disk_fault { result ≡ Status.DiskFault → Rose (H.outside host.old).disk_faults (H.outside host.new).disk_faults }
+    ensures source { (H.outside host.new).source ≡ (H.outside host.old).source }
 {
     let Ok(mut line) = Text::with_room(alloc, MAX_SAMPLE_LINE) else {
         return Status::Memory;
@@ -79,6 +82,7 @@ fn sample_empty<H: Host, V: Viewer>(
     requires line { IsLineRoom line.old }
     requires out { IsClear out.old }
     requires settled { H.tells → IsSettled (H.outside host.old).now.disk }
+    requires room { 208 ≤ asked.cap }
     requires capped { asked.cap < 2 ^ 63 }
     requires writes { asked.mode ≢ modes.Read }
     requires empty { H.tells → (H.outside host.old).now.disk.seen ≡ [] }
@@ -87,6 +91,7 @@ fn sample_empty<H: Host, V: Viewer>(
     ensures take_fault { result ≢ Status.TakeFault }
     ensures say_fault { result ≡ Status.SayFault → Rose (H.outside host.old).say_faults (H.outside host.new).say_faults }
     ensures disk_fault { result ≡ Status.DiskFault → Rose (H.outside host.old).disk_faults (H.outside host.new).disk_faults }
+    ensures source { (H.outside host.new).source ≡ (H.outside host.old).source }
 {
     match start(alloc, host, asked.mode, asked.cap) {
         Ok(mut session) => sample_with(&mut session, asked, viewers, line, out, host),
@@ -109,9 +114,10 @@ fn sample_with<H: Host, V: Viewer>(
     requires line { IsLineRoom line.old }
     requires out { IsClear out.old }
     requires ready { H.tells → IsSteady (state_of session.old (H.outside host.old)) }
-    ensures sampled { H.tells → SamplesFrom (map V.meaning viewers.now) asked.number asked.edits session.old result (H.outside host.old) (H.outside host.new) }
+    ensures sampled { H.tells → SamplesFrom (map V.meaning viewers.now) asked.number asked.edits session.old result (H.outside host.old) (H.outside host.old) (H.outside host.new) }
     ensures say_fault { result ≡ Status.SayFault → Rose (H.outside host.old).say_faults (H.outside host.new).say_faults }
     ensures status { (result ≡ Status.Done) ⊎ (result ≡ Status.SayFault) }
+    ensures source { (H.outside host.new).source ≡ (H.outside host.old).source }
 {
     answer_sample(session, asked, viewers, line, out, host);
     say_line(out, host)
@@ -130,10 +136,10 @@ fn answer_sample<H: Host, V: Viewer>(
     requires out { IsClear out.old }
     requires ready { H.tells → IsSteady (state_of session.old (H.outside host.old)) }
     ensures outcome { H.tells → IsSampleLine (map V.meaning viewers.now) asked.number asked.edits (state_of session.old (H.outside host.old)) (state_of session.new (H.outside host.new)) out.new.bytes }
-    ensures said { H.tells → (H.outside host.new).now.said ≡ (H.outside host.old).now.said }
-    ensures input { H.tells → (H.outside host.new).input ≡ (H.outside host.old).input }
+    ensures silence { H.tells → GoesInSilence (H.outside host.old) (H.outside host.new) }
     ensures ready { H.tells → IsSteady (state_of session.new (H.outside host.new)) }
     ensures say_faults { (H.outside host.new).say_faults ≡ (H.outside host.old).say_faults }
+    ensures source { (H.outside host.new).source ≡ (H.outside host.old).source }
 {
     let mut sample = Sample::new(asked.number, asked.edits);
     let context = Viewers { list: viewers };

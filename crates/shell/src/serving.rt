@@ -38,10 +38,11 @@ pub fn serve<H: Host, V: Viewer>(
     ensures take_fault { result ≡ Status.TakeFault → Rose (H.outside host.old).take_faults (H.outside host.new).take_faults }
     ensures say_fault { result ≡ Status.SayFault → Rose (H.outside host.old).say_faults (H.outside host.new).say_faults }
 
-    // No count of faults falls.
+    // No count of faults falls, and what the host stands over stays.
     ensures take_faults { (H.outside host.old).take_faults ≤ (H.outside host.new).take_faults }
     ensures say_faults { (H.outside host.old).say_faults ≤ (H.outside host.new).say_faults }
     ensures disk_faults { (H.outside host.old).disk_faults ≤ (H.outside host.new).disk_faults }
+    ensures source { (H.outside host.new).source ≡ (H.outside host.old).source }
 {
     let context = Viewers { list: viewers };
     lines::serve(session, host, &context, room, out, budget).into()

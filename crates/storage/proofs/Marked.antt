@@ -1,7 +1,8 @@
 -- A file that has marks is not refused for them.
-use Rattle.std.proofs.Common.{◌≡◌, ◌≢◌, ℕ, ◌<◌, ◌≤◌, ◌⊎◌, inl, inr, ⊎_elim, List, length, refl, ap, sym, subst, arith, true≢false}
+use Rattle.std.proofs.Common.{◌≡◌, ◌≢◌, ℕ, ◌<◌, ◌≤◌, ◌⊎◌, inl, inr, ⊎_elim, List, length, refl, ap, sym, subst, ◌∙◌, arith, eqb-true, true≢false}
 use Rattle.std.proofs.lemmas.Bool.{cases_eq, false≢true}
-use Rattle.std.specs.Prelude.{Option, Some, None, IsSome, is_some}
+use Rattle.std.specs.Prelude.{Bool, true, false, cond, ◌==◌, Option, Some, None, is_some}
+use Rattle.std.specs.Option.{option_map}
 use Rattle.host_io.specs.Disk.{DiskState}
 use Rattle.commit_marks.specs.declared.mark.Mark.{Mark}
 use Rattle.commit_marks.specs.declared.error.MarkError.{MarkError}
@@ -15,7 +16,7 @@ use Rattle.recovery.specs.declared.error.OpenError.TheVariants as open_error
 use Rattle.recovery.specs.Opening.{NamesBroken}
 use Rattle.recovery.specs.Refusals.{IsOlder, no_older}
 use Rattle.storage.specs.Reverting.{NamesRefusal, cause_of_older}
-use Rattle.storage.specs.Stored.{Rests, Stored}
+use Rattle.storage.specs.Stored.{HasNumber, Rests, Stored, if_marked}
 
 -- each open slot beside a chosen mark has a mark
 beside_marked : (image : List ℕ) (slot : ℕ) (chosen : Mark) (other : Option Mark) → Chooses image slot chosen other → IsOpen image (other_slot slot) → (m : Mark) × HasMark image (other_slot slot) m × (m.number < chosen.number)
@@ -94,10 +95,19 @@ pub none_older : (image : List ℕ) (slot : ℕ) (other : Option Mark) → IsOld
 none_older image slot None h = refl
 none_older image slot (Some m) h = absurd h
 
-pub none_before : (before : Option ℕ) (other : Option Mark) → (IsSome before → IsSome other) → other ≡ None → before ≡ None
+pub none_before : (before : Option ℕ) (other : Option Mark) → ((number : ℕ) → before ≡ Some number → HasNumber number other) → other ≡ None → before ≡ None
 none_before None other h e = refl
-none_before (Some n) None h e = absurd (false≢true (h refl))
-none_before (Some n) (Some m) h e = absurd (true≢false (ap is_some e))
+none_before (Some n) other h e = absurd (true≢false (ap is_some (sym (h n refl) ∙ ap (option_map (λ m. m.number)) e)))
+
+-- a number of which the other slot has the mark
+pub marked_number : (number : Option ℕ) (other : Option Mark) (n : ℕ) → if_marked number other ≡ Some n → HasNumber n other
+marked_number None other n e = absurd (false≢true (ap is_some e))
+marked_number (Some number) None n e = absurd (false≢true (ap is_some e))
+marked_number (Some number) (Some m) n e = by_test (m.number == number) refl
+  where
+    by_test : (t : Bool) → (m.number == number) ≡ t → HasNumber n (Some m)
+    by_test true same = ap Some (eqb-true m.number number same) ∙ sym (ap (λ (t : Bool). cond t (Some number) None) same) ∙ e
+    by_test false differs = absurd (false≢true (ap is_some (sym (ap (λ (t : Bool). cond t (Some number) None) differs) ∙ e)))
 
 -- why the commit before is not read
 pub refused_older : (s : Stored) (image : List ℕ) (slot : ℕ) (chosen : Mark) (other : Option Mark) (e : OpenError) → Chooses image slot chosen other → NamesBroken image (other_slot slot) other e → NamesRefusal s image (cause_of_older e)

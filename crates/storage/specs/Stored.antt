@@ -1,5 +1,5 @@
 -- What a store is seen as, and what its calls leave of it.
-use Rattle.std.specs.Prelude.{ℕ, ◌^◌, ◌<◌, ◌≤◌, List, [], Option, None, Some, Bool, if◌then◌else◌, ◌==◌, IsSome, All}
+use Rattle.std.specs.Prelude.{◌≡◌, ℕ, ◌^◌, ◌<◌, ◌≤◌, List, [], Option, None, Some, Bool, if◌then◌else◌, ◌==◌, All}
 use Rattle.std.specs.Option.{is_some, option_map}
 use Rattle.commit_marks.specs.declared.mark.Mark.{Mark}
 use Rattle.commit_marks.specs.Marks.{other_slot}
@@ -38,6 +38,10 @@ floor_of Write end = first_place
 floor_of Extend end = end
 floor_of Read end = first_place
 
+-- the other slot has the mark of this number
+abbrev pub HasNumber : ℕ → Option Mark → Type 0
+HasNumber number other = option_map (λ m. m.number) other ≡ Some number
+
 -- What a store keeps: the commit is whole, the views rest on those that it keeps, and a commit before has its mark in the other slot.
 pub record IsStore (s : Stored) : Type 0 where
   pub kept : IsCommit s.kept
@@ -45,7 +49,7 @@ pub record IsStore (s : Stored) : Type 0 where
   pub shaped : All (λ v. HasHomes v.table) s.views
   pub rests : ViewsRestOn s.views s.kept.views
   pub low : s.slot ≤ 1
-  pub beside : IsSome s.before → IsSome s.other
+  pub beside : (number : ℕ) → s.before ≡ Some number → HasNumber number s.other
   pub capped : s.cap < 2 ^ 63
 
 -- The disk is as the store knows it: nothing is pending, the file chooses the mark of the commit that is kept, whose blocks are there,
@@ -79,12 +83,20 @@ opened_store kept slot other mode cap = record {
   cap = cap;
 }
 
--- The commit before, after a file was opened anew, which has this mark in its other slot: without one there is none. Where the store was
--- shut it is the one that was kept, if the one that was attempted stands, and else none.
+-- The commit before that a store expects, once its file was opened anew and stands for the commit of this number: the same one as
+-- before. Where the store was shut it is the one that was kept, if the one that was attempted stands, and else none.
+abbrev pub before_expected : Stored → ℕ → Option ℕ
+before_expected s number = if is_shut s then (if number == s.kept.number then None else Some s.kept.number) else s.before
+
+-- this number, where the other slot has its mark
+abbrev pub if_marked : Option ℕ → Option Mark → Option ℕ
+if_marked None other = None
+if_marked (Some number) None = None
+if_marked (Some number) (Some m) = if m.number == number then Some number else None
+
+-- The commit before, after a file was opened anew, which has this mark in its other slot: the one that is expected, where that is its mark.
 abbrev pub before_reopened : Stored → ℕ → Option Mark → Option ℕ
-before_reopened s number None = None
-before_reopened s number (Some m) =
-    if is_shut s then (if number == s.kept.number then None else Some s.kept.number) else s.before
+before_reopened s number other = if_marked (before_expected s number) other
 
 -- a store after its file was opened anew, and stands for the commit
 abbrev pub reopened : Stored → Commit → ℕ → Option Mark → Stored

@@ -2,6 +2,7 @@
 ghost use Rattle.std.specs.Prelude.{◌≡◌, [], OnOk, length};
 ghost use Rattle.host_io.specs.Calls.{CountsDisk};
 ghost use Rattle.host_io.specs.Disk.{settled};
+ghost use Rattle.host_io.specs.Outside.{Goes};
 ghost use Rattle.recovery.specs.Keeping.{commit_in};
 ghost use Rattle.storage.specs.NewStore.{new_commit, new_file};
 
@@ -53,6 +54,7 @@ pub(crate) fn make_file<D: Disk>(disk: &mut D) -> Result<(), Failed>
     requires empty { D.tells → (D.outside disk.old).now.disk.seen ≡ [] }
     ensures counts { CountsDisk (D.outside disk.old) (D.outside disk.new) result }
     ensures made { D.tells → OnOk result ((D.outside disk.new).now.disk ≡ settled new_file) }
+    ensures moments { D.tells → Goes (λ at. at.said ≡ (D.outside disk.old).now.said) (D.outside disk.old) (D.outside disk.new) }
     ensures said { D.tells → (D.outside disk.new).now.said ≡ (D.outside disk.old).now.said }
     ensures input { D.tells → (D.outside disk.new).input ≡ (D.outside disk.old).input }
 {

@@ -1,13 +1,11 @@
 //! A store in memory, over its file.
-ghost use Rattle.std.specs.Prelude.{◌≡◌, ◌≢◌, Err, ◌^◌, ◌<◌, ◌≤◌, [], ◌∷◌, map, IfErr, IfOk, IsErrOf, IsSome, OnErr, OnOk, false, true};
+ghost use Rattle.std.specs.Prelude.{◌≡◌, ◌≢◌, ℕ, Err, Some, ◌^◌, ◌<◌, ◌≤◌, [], map, IfErr, IfOk, IsErrOf, OnErr, OnOk, false, true};
 ghost use Rattle.std.specs.Option.{option_map};
 ghost use Rattle.host_io.specs.Calls.{CountsDisk, CountsFaults, Looks};
 ghost use Rattle.view_store.specs.Rests.{ViewsRestOn};
 ghost use Rattle.storage.specs.declared.mode.Mode.TheVariants as modes;
 ghost use Rattle.host_io.specs.Disk.{IsSettled, settled};
-ghost use Rattle.host_io.specs.Ranges.{AgreesBut};
-ghost use Rattle.commit_marks.specs.Marks.{other_slot, slot_range};
-ghost use Rattle.commit_writes.specs.Blocks.{extents_of};
+ghost use Rattle.host_io.specs.Outside.{Goes};
 ghost use Rattle.commit_writes.specs.Plans.{IsSoundAfter};
 ghost use Rattle.commit_plan.specs.Following.{IsNote};
 ghost use Rattle.dir_codec.specs.Values.{note_of};
@@ -20,7 +18,7 @@ ghost use Rattle.storage.specs.Marking.{marks_of};
 ghost use Rattle.storage.specs.NewStore.{new_file};
 ghost use Rattle.storage.specs.Planning.{IsPlanned, IsRefusedFor};
 ghost use Rattle.storage.specs.declared.error.PlanError.TheVariants as plan_error;
-ghost use Rattle.storage.specs.Stored.{Rests, committed, failed, floor_of, is_shut, new_store, before_reopened, opened_store, reopened, rolled_back, with_views};
+ghost use Rattle.storage.specs.Stored.{HasNumber, Rests, committed, failed, floor_of, if_marked, is_shut, new_store, before_expected, before_reopened, opened_store, reopened, rolled_back, with_views};
 ghost use Rattle.storage.specs.Syncing.{SyncsAtMost};
 ghost use Rattle.recovery.specs.Standing.{StandsFor};
 
@@ -83,11 +81,13 @@ impl Store {
     ) -> Result<Store, Failed>
         requires empty { D.tells → (D.outside disk.old).now.disk.seen ≡ [] }
         requires writes { mode ≢ modes.Read }
+        requires room { 208 ≤ cap }
         requires capped { cap < 2 ^ 63 }
         ensures counts { CountsDisk (D.outside disk.old) (D.outside disk.new) result }
         ensures new { IfOk result (λ store. store ≡ new_store mode cap) }
         ensures made { D.tells → OnOk result ((D.outside disk.new).now.disk ≡ settled new_file) }
         ensures rests { D.tells → IfOk result (λ store. Rests store (D.outside disk.new).now.disk) }
+        ensures moments { D.tells → Goes (λ at. at.said ≡ (D.outside disk.old).now.said) (D.outside disk.old) (D.outside disk.new) }
         ensures said { D.tells → (D.outside disk.new).now.said ≡ (D.outside disk.old).now.said }
         ensures input { D.tells → (D.outside disk.new).input ≡ (D.outside disk.old).input }
     {
@@ -212,7 +212,7 @@ impl Store {
         ensures value { result ≡ self.now.before }
 
         // Its mark is that of the other slot.
-        ensures marked { IsSome result → IsSome self.now.other }
+        ensures marked { (number : ℕ) → result ≡ Some number → HasNumber number self.now.other }
     {
         self.before
     }
@@ -299,9 +299,15 @@ impl Store {
     /// other slot.
     fn before_of(&self, number: u64, other: Option<Mark>) -> Option<u64>
         ensures value { result ≡ before_reopened self.now number other }
-        ensures there { IsSome result → IsSome other }
+        ensures beside { (number : ℕ) → result ≡ Some number → HasNumber number other }
     {
-        other?;
+        if_marked(self.before_expected(number), other)
+    }
+
+    /// The number of the commit before that is expected, once the file was opened anew and stands for the commit of this number.
+    fn before_expected(&self, number: u64) -> Option<u64>
+        ensures { result ≡ before_expected self.now number }
+    {
         if !self.is_shut() {
             return self.before;
         }
@@ -335,15 +341,13 @@ impl Store {
         requires sound { IsSoundAfter (footprint_of self.now.kept) (B.blocks blocks.now) (footprint_of (commit_in next.now)) }
         requires rests { D.tells → Rests self.now (D.outside disk.old).now.disk }
         ensures counts { CountsDisk (D.outside disk.old) (D.outside disk.new) result }
-        ensures commits { D.tells → Commits self.now.kept (commit_in next.now) (D.outside disk.old) (D.outside disk.new) result }
+        ensures commits { D.tells → Commits self.now (record { next = commit_in next.now; writes = B.blocks blocks.now }) (D.outside disk.old) (D.outside disk.new) result }
         ensures rests { D.tells → OnOk result (Rests (committed self.now (commit_in next.now)) (D.outside disk.new).now.disk) }
-        ensures places { D.tells → AgreesBut (slot_range (other_slot self.now.slot) ∷ extents_of (B.blocks blocks.now))
-            (D.outside disk.old).now.disk.seen (D.outside disk.new).now.disk.seen }
     {
         carry(disk, &self.marks(), blocks, &mark_of(next))
     }
 
-    /// Plans the next commit, with this note where it is not empty. It takes all memory of the commit.
+    /// Plans the next commit of a store that is not shut, with this note where it is not empty. It takes all memory of the commit.
     ///
     /// # Errors
     ///
@@ -351,6 +355,7 @@ impl Store {
     /// `Full` exactly where the file would end past the cap, with that end and the cap. `Memory` may come in place of `Full` and where
     /// none of them does.
     pub fn plan(&self, alloc: Global, note: &Text) -> Result<Plan, PlanError>
+        requires open { is_shut self.now ≡ false }
         requires note { IsNote note.now.bytes }
         ensures plans { IfOk result (IsPlanOf (floor_of self.now.mode self.now.kept.end) self.now.kept self.now.views note.now.bytes) }
         ensures within { IfOk result (λ plan. plan.next.end ≤ self.now.cap) }
@@ -368,24 +373,24 @@ impl Store {
         Ok(plan)
     }
 
-    /// Writes the commit that was planned of this store as it is, and gives its number. It takes no memory. A crash at any moment of
-    /// it leaves the commit that is kept, or the next one with that as the one before it.
+    /// Writes the commit that was planned of this store as it is, which is not shut, and gives its number. It takes no memory. A crash at
+    /// any moment of it leaves the commit that is kept, or the next one with that as the one before it, and at each moment only the
+    /// slot that is not chosen and the extents of the blocks have changed.
     ///
     /// # Errors
     ///
     /// `Failed`, which comes only where the disk failed. The file may stand for either commit then, and the store is shut until the
     /// file is opened anew.
     pub fn carry<D: Disk>(&mut self, disk: &mut D, plan: Plan) -> Result<u64, Failed>
+        requires open { is_shut self.old ≡ false }
         requires planned { IsPlanned self.old plan }
         requires rests { D.tells → Rests self.old (D.outside disk.old).now.disk }
         ensures counts { CountsDisk (D.outside disk.old) (D.outside disk.new) result }
         ensures number { IfOk result (λ number. number ≡ plan.next.number) }
         ensures ok { OnOk result (self.new ≡ committed self.old plan.next) }
         ensures err { OnErr result (self.new ≡ failed self.old plan.next) }
-        ensures commits { D.tells → Commits self.old.kept plan.next (D.outside disk.old) (D.outside disk.new) result }
+        ensures commits { D.tells → Commits self.old plan (D.outside disk.old) (D.outside disk.new) result }
         ensures rests { D.tells → OnOk result (Rests self.new (D.outside disk.new).now.disk) }
-        ensures places { D.tells → AgreesBut (slot_range (other_slot self.old.slot) ∷ extents_of plan.writes)
-            (D.outside disk.old).now.disk.seen (D.outside disk.new).now.disk.seen }
     {
         match self.write_commit(disk, &plan, plan.next()) {
             Ok(()) => Ok(self.put_committed(plan.into_next())),
@@ -422,8 +427,17 @@ impl Store {
 
 /// The number of a mark, where there is one.
 fn number_of(mark: Option<Mark>) -> Option<u64>
-    ensures value { result ≡ option_map (λ m. m.number) mark }
-    ensures there { IsSome result → IsSome mark }
+    ensures { result ≡ option_map (λ m. m.number) mark }
 {
     Some(mark?.number)
+}
+
+/// This number, where the other slot has its mark.
+fn if_marked(number: Option<u64>, other: Option<Mark>) -> Option<u64>
+    ensures { result ≡ if_marked number other }
+{
+    match (number, other) {
+        (Some(number), Some(mark)) if mark.number == number => Some(number),
+        _ => None,
+    }
 }

@@ -15,6 +15,9 @@ use view_store::{EditError, empty_table, structure_fits};
 /// How many writes and syncs, and how many bytes written, a host has room for.
 const ROOM: usize = 100_000;
 
+/// The least cap of a new store, which is as long.
+const LEAST_CAP: u32 = 208;
+
 /// A store, and the host that its file is on. A contract sees whether the store is shut.
 #[derive(Drop)]
 pub struct Fixture {
@@ -60,6 +63,9 @@ impl Fixture {
     pub fn create(alloc: Global, script: &[Fault], mode: Mode, cap: u32) -> Result<Fixture, Fail> {
         if mode == Mode::Read {
             return Err(Fail::new("a new store is not only read"));
+        }
+        if cap < LEAST_CAP {
+            return Err(Fail::new("a new store does not fit the cap"));
         }
         let mut host = MemHost::new(alloc, b"", b"", script, 0, ROOM)?;
         let store = Store::create(alloc, &mut host, mode, u64::from(cap))?;

@@ -10,14 +10,14 @@ returns-in_err-say_all-clause-answers g c =
     let long = long_line c.args.held.now line is (omega arith) in
     let ready = c.requires.ready tells in
     let says = c.in_err-say_all.ensures.says tells in
-    answers_line (g.S.Session.machine c.args.context.now) line _ _ _ _ _ _ _ _ ready (Answered-limit (g.S.Session.machine c.args.context.now) line _ _ long ready) says c.in_err-say_all.ensures.counts.disk tt says.err tt)
+    answers_line (g.S.Session.machine c.args.context.now) line _ _ _ _ _ _ _ _ ready (Answered-limit (g.S.Session.machine c.args.context.now) line _ _ long ready) says c.in_err-say_all.ensures.counts tt says.err tt)
 
 pub returns-then-held-gt-MAX_LINE-clause-answers : goal.returns-then-held-gt-MAX_LINE-clause-answers
 returns-then-held-gt-MAX_LINE-clause-answers g c = λ tells line is.
     let long = long_line c.args.held.now line is (omega arith) in
     let ready = c.requires.ready tells in
     let says = c.in_ok-say_all.ensures.says tells in
-    answers_line (g.S.Session.machine c.args.context.now) line _ _ _ _ _ _ _ _ ready (Answered-limit (g.S.Session.machine c.args.context.now) line _ _ long ready) says c.in_ok-say_all.ensures.counts.disk says.ok tt (goes_on-limit (g.S.Session.machine c.args.context.now) line long)
+    answers_line (g.S.Session.machine c.args.context.now) line _ _ _ _ _ _ _ _ ready (Answered-limit (g.S.Session.machine c.args.context.now) line _ _ long ready) says c.in_ok-say_all.ensures.counts says.ok tt (goes_on-limit (g.S.Session.machine c.args.context.now) line long)
 
 pub returns-in_err-say_all-2-clause-answers : goal.returns-in_err-say_all-2-clause-answers
 returns-in_err-say_all-2-clause-answers g c =
@@ -27,7 +27,8 @@ returns-in_err-say_all-2-clause-answers g c =
     let says = c.in_err-say_all-2.ensures.says tells in
     answers_short (g.S.Session.machine c.args.context.now) c.args.held.now line c.answer-flow.new.out.bytes _ _ _ _ _ _ _ _ is (omega arith) (c.requires.ready tells)
     (answer.answers tells) (answer.ready tells) (answer.moments tells) (answer.quiet tells) (answer.said tells) (answer.input tells)
-    (c.as_bytes.ensures.value ∙ c.as_str.ensures.value) says c.in_err-say_all-2.ensures.counts.disk tt says.err tt)
+    answer.disk_faults answer.take_faults answer.say_faults
+    (c.as_bytes.ensures.value ∙ c.as_str.ensures.value) says c.in_err-say_all-2.ensures.counts tt says.err tt)
 
 pub returns-clause-answers : goal.returns-clause-answers
 returns-clause-answers g c = λ tells line is.
@@ -35,4 +36,5 @@ returns-clause-answers g c = λ tells line is.
     let says = c.in_ok-say_all-2.ensures.says tells in
     answers_short (g.S.Session.machine c.args.context.now) c.args.held.now line c.answer-flow.new.out.bytes _ _ _ _ _ _ _ _ is (omega arith) (c.requires.ready tells)
     (answer.answers tells) (answer.ready tells) (answer.moments tells) (answer.quiet tells) (answer.said tells) (answer.input tells)
-    (c.as_bytes.ensures.value ∙ c.as_str.ensures.value) says c.in_ok-say_all-2.ensures.counts.disk says.ok tt answer.ends
+    answer.disk_faults answer.take_faults answer.say_faults
+    (c.as_bytes.ensures.value ∙ c.as_str.ensures.value) says c.in_ok-say_all-2.ensures.counts says.ok tt answer.ends

@@ -20,6 +20,7 @@ lines-preserved g c =
       say_faults = omega arith;
       take_faults = counts.take_faults ∙ c.lines.invariant.take_faults;
       disk_faults = omega arith;
+      source = counts.source ∙ c.lines.invariant.source;
     }
 
 pub returns-in_err-answer_line-clause-comes : goal.returns-in_err-answer_line-clause-comes

@@ -19,6 +19,7 @@ invariant-lines g l = record {
   say_faults : (g.H.Disk.outside l.initial.host).say_faults ≤ (g.H.Disk.outside l.host).say_faults;
   take_faults : (g.H.Disk.outside l.host).take_faults ≡ (g.H.Disk.outside l.initial.host).take_faults;
   disk_faults : (g.H.Disk.outside l.initial.host).disk_faults ≤ (g.H.Disk.outside l.host).disk_faults;
+  source : (g.H.Disk.outside l.host).source ≡ (g.H.Disk.outside l.initial.host).source;
 }
 
 abbrev pub decreases-lines : goal.decreases-lines

@@ -1,4 +1,4 @@
-use Rattle.std.proofs.Common.{◌≡◌, ◌+◌, ◌-◌, ◌≤◌, length, take, length-take, ap, arith}
+use Rattle.std.proofs.Common.{◌≡◌, ◌+◌, ◌-◌, ◌≤◌, length, take, length-take, refl, ap, ◌∙◌, arith}
 use Rattle.lines.proofs.Going.{SoFar-start}
 use Rattle.lines.proofs.serving.serve.Goals as goal
 
@@ -16,6 +16,7 @@ taking-init g c =
       take_faults = omega arith;
       say_faults = omega arith;
       disk_faults = omega arith;
+      source = refl;
     }
 
 pub taking-preserved : goal.taking-preserved
@@ -37,6 +38,7 @@ taking-preserved g c =
       take_faults = omega arith;
       say_faults = omega arith;
       disk_faults = omega arith;
+      source = c.in-Ok.ensures.source ∙ c.taking.invariant.source;
     }
 
 pub returns-in-Err-clause-serves : goal.returns-in-Err-clause-serves

@@ -17,6 +17,7 @@ invariant-taking g l = record {
   take_faults : (g.H.Disk.outside l.initial.host).take_faults ≤ (g.H.Disk.outside l.host).take_faults;
   say_faults : (g.H.Disk.outside l.initial.host).say_faults ≤ (g.H.Disk.outside l.host).say_faults;
   disk_faults : (g.H.Disk.outside l.initial.host).disk_faults ≤ (g.H.Disk.outside l.host).disk_faults;
+  source : (g.H.Disk.outside l.host).source ≡ (g.H.Disk.outside l.initial.host).source;
 }
 
 abbrev pub decreases-taking : goal.decreases-taking

@@ -1,5 +1,5 @@
 -- The columns of a table are read one after another, and the tables of a view column row by row.
-use Rattle.std.proofs.Common.{◌≡◌, ℕ, ◌+◌, ◌<◌, ◌≤◌, ◌^◌, List, length, map, refl, ap, sym, subst, arith}
+use Rattle.std.proofs.Common.{◌≡◌, ℕ, ◌+◌, ◌<◌, ◌≤◌, ◌^◌, List, length, map, refl, ap, sym, subst, ◌∙◌, arith}
 use Rattle.std.proofs.lemmas.Result.{err_from_is_err_and}
 use Rattle.std.proofs.lemmas.List.{length-map}
 use Rattle.host_io.specs.Outside.{Moment}
@@ -35,8 +35,8 @@ items_within end rows k schema props own items has same is p =
 
 -- ---- the tables of a view column
 
-pub read_bodies-loop-body-init : goal.read_bodies-loop-body-init
-read_bodies-loop-body-init g t c =
+pub read_each-loop-body-init : goal.read_each-loop-body-init
+read_each-loop-body-init g t c =
     rw c.new-tables.ensures
     (record {
       counts = CountsFaults-begins (g.D.Disk.outside c.args.disk.now) ⊥ (λ failed. failed);
@@ -44,8 +44,8 @@ read_bodies-loop-body-init g t c =
       so = bodies_begin g.D.Disk.tells (g.D.Disk.outside c.args.disk.now).now.disk.seen c.args.at c.args.schema.now (map body_of c.as_slice-body-items.result.now);
     })
 
-pub read_bodies-overflow_add-next : goal.read_bodies-overflow_add-next
-read_bodies-overflow_add-next g t c =
+pub read_each-overflow_add-next : goal.read_each-overflow_add-next
+read_each-overflow_add-next g t c =
     let items = c.as_slice-body-items.result.now in
     let k = c.loop-body.body-index in
     let own = map body_of items in
@@ -56,8 +56,8 @@ read_bodies-overflow_add-next g t c =
     (subst (λ (bs : List Body). c.args.at + length (spelled_bodies (bodies_from bs)) < 2 ^ 64) (sym c.as_slice-body-items.ensures) c.requires.room) in
     record { fits = omega (arith, room) }
 
-pub read_bodies-read_table-requires : goal.read_bodies-read_table-requires
-read_bodies-read_table-requires g t c κs within =
+pub read_each-read_table-requires : goal.read_each-read_table-requires
+read_each-read_table-requires g t c κs within =
     let items = c.as_slice-body-items.result.now in
     let k = c.loop-body.body-index in
     let own = map body_of items in
@@ -86,8 +86,8 @@ read_bodies-read_table-requires g t c κs within =
       ),
     )
 
-pub read_bodies-returns-in_err-table-clause-unreadable : goal.read_bodies-returns-in_err-table-clause-unreadable
-read_bodies-returns-in_err-table-clause-unreadable g t c = λ tells.
+pub read_each-returns-in_err-table-clause-unreadable : goal.read_each-returns-in_err-table-clause-unreadable
+read_each-returns-in_err-table-clause-unreadable g t c = λ tells.
     let items = c.as_slice-body-items.result.now in
     let k = c.loop-body.body-index in
     let own = map body_of items in
@@ -101,8 +101,8 @@ read_bodies-returns-in_err-table-clause-unreadable g t c = λ tells.
     (subst (λ (m : Moment). NamesUnreadable m.disk.seen (plain_entries (entries_from b.columns) (heading_of c.args.schema.now) (c.loop-body.next + 4) b.rows) c.in_err-table.field-0.0)
     (c.loop-body.invariant.same tells).still.now (c.in_err-table.ensures.unreadable tells)))
 
-pub read_bodies-loop-body-preserved : goal.read_bodies-loop-body-preserved
-read_bodies-loop-body-preserved g t c =
+pub read_each-loop-body-preserved : goal.read_each-loop-body-preserved
+read_each-loop-body-preserved g t c =
     let items = c.as_slice-body-items.result.now in
     let k = c.loop-body.body-index in
     let own = map body_of items in
@@ -119,17 +119,37 @@ read_bodies-loop-body-preserved g t c =
           (λ tells. subst (λ (m : Moment). IsTableRead m.disk.seen c.args.schema.now b.columns b.rows (c.loop-body.next + 4) c.in_ok-table.table) (c.loop-body.invariant.same tells).still.now (c.in_ok-table.ensures.table tells));
     })
 
-pub read_bodies-returns-clause-made : goal.read_bodies-returns-clause-made
-read_bodies-returns-clause-made g t c =
+pub read_each-returns-clause-made : goal.read_each-returns-clause-made
+read_each-returns-clause-made g t c =
     rw (← c.as_slice-body-items.ensures)
     ((bodies_end g.D.Disk.tells (g.D.Disk.outside c.args.disk.now).now.disk.seen c.args.at c.args.schema.now (map body_of c.as_slice-body-items.result.now) c.loop-body.body-index c.loop-body.next c.loop-body.tables
     c.loop-body.invariant.so (let long = length-map c.as_slice-body-items.result.now body_of in let past = c.loop-body-test.false in omega (arith, long, past))).made)
 
-pub read_bodies-returns-clause-tables : goal.read_bodies-returns-clause-tables
-read_bodies-returns-clause-tables g t c = λ tells.
+pub read_each-returns-clause-tables : goal.read_each-returns-clause-tables
+read_each-returns-clause-tables g t c = λ tells.
     rw (← c.as_slice-body-items.ensures)
     ((bodies_end g.D.Disk.tells (g.D.Disk.outside c.args.disk.now).now.disk.seen c.args.at c.args.schema.now (map body_of c.as_slice-body-items.result.now) c.loop-body.body-index c.loop-body.next c.loop-body.tables
     c.loop-body.invariant.so (let long = length-map c.as_slice-body-items.result.now body_of in let past = c.loop-body-test.false in omega (arith, long, past))).read tells)
+
+-- where the schema is shared first
+
+pub read_bodies-read_each-requires : goal.read_bodies-read_each-requires
+read_bodies-read_each-requires g t c κs within =
+    let same : c.in_ok-shared.shared ≡ c.args.schema.now = c.in_ok-shared.ensures ∙ c.in_ok-copy.ensures in (
+      omega (arith, c.decreases),
+      (
+        within,
+        (
+          record {
+            end = c.requires.fits.end;
+            small = c.requires.fits.small;
+            within = c.requires.fits.within;
+            has = subst (λ (s : List Attribute). AreBodies c.requires.fits.end (heading_of s) (bodies_from c.args.bodies.now)) (sym same) c.requires.fits.has;
+          },
+          c.requires.room,
+        ),
+      ),
+    )
 
 -- ---- one column
 
@@ -310,8 +330,8 @@ read_columns-returns-clause-columns g t c = λ tells.
 
 pub read_table-returns-clause-whole : goal.read_table-returns-clause-whole
 read_table-returns-clause-whole g t c =
-    let whole = c.in_ok-cols.ensures.whole in
-    rw (c.in_ok-table.ensures, c.in_ok-copy.ensures)
+    let whole = rw c.get.ensures at c.in_ok-cols.ensures.whole in
+    rw c.in_ok-table.ensures
     (record {
       table = record { same_schema = refl; rows = AreRowsOf-columns c.args.body.now.rows c.args.schema.now c.in_ok-cols.cols whole; homes = HasHomes-columns c.args.body.now.rows c.args.schema.now c.in_ok-cols.cols whole };
       count = length-rows_of_columns c.args.body.now.rows c.args.schema.now c.in_ok-cols.cols;
@@ -319,12 +339,15 @@ read_table-returns-clause-whole g t c =
 
 pub read_table-returns-clause-made : goal.read_table-returns-clause-made
 read_table-returns-clause-made g t c =
-    rw (c.in_ok-table.ensures, c.in_ok-copy.ensures)
-    (table_found HasLength c.args.body.now.rows c.args.schema.now c.args.body.now.cols c.in_ok-cols.cols c.in_ok-cols.ensures.whole c.in_ok-cols.ensures.made)
+    let whole = rw c.get.ensures at c.in_ok-cols.ensures.whole in
+    let made = rw c.get.ensures at c.in_ok-cols.ensures.made in
+    rw c.in_ok-table.ensures
+    (table_found HasLength c.args.body.now.rows c.args.schema.now c.args.body.now.cols c.in_ok-cols.cols whole made)
 
 pub read_table-returns-clause-table : goal.read_table-returns-clause-table
 read_table-returns-clause-table g t c = λ tells.
     let image = (g.D.Disk.outside c.args.disk.now).now.disk.seen in
-    let read = c.in_ok-cols.ensures.columns tells in
-    rw (c.in_ok-table.ensures, c.in_ok-copy.ensures)
-    (record { table = table_found (StandsAt image) c.args.body.now.rows c.args.schema.now c.args.body.now.cols c.in_ok-cols.cols c.in_ok-cols.ensures.whole read.columns; readable = read.readable })
+    let whole = rw c.get.ensures at c.in_ok-cols.ensures.whole in
+    let read = rw c.get.ensures at c.in_ok-cols.ensures.columns tells in
+    rw c.in_ok-table.ensures
+    (record { table = table_found (StandsAt image) c.args.body.now.rows c.args.schema.now c.args.body.now.cols c.in_ok-cols.cols whole read.columns; readable = read.readable })

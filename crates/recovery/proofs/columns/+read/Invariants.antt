@@ -14,6 +14,9 @@ decreases-read_columns g l = columns_weight l.columns.now
 abbrev pub decreases-read_bodies : goal.decreases-read_bodies
 decreases-read_bodies g l = tables_weight l.bodies.now + 1
 
+abbrev pub decreases-read_each : goal.decreases-read_each
+decreases-read_each g l = tables_weight l.bodies.now
+
 abbrev pub decreases-read_table : goal.decreases-read_table
 decreases-read_table g l = columns_weight l.body.now.cols + 1
 
@@ -24,8 +27,8 @@ invariant-read_columns-loop-k g l = record {
   so : AreColumnsSoFar g.D.Disk.tells (g.D.Disk.outside l.fn.disk).now.disk.seen l.rows l.at l.props (map entry_of l.items) l.k l.cols l.next;
 }
 
-abbrev pub invariant-read_bodies-loop-body : goal.invariant-read_bodies-loop-body
-invariant-read_bodies-loop-body g l = record {
+abbrev pub invariant-read_each-loop-body : goal.invariant-read_each-loop-body
+invariant-read_each-loop-body g l = record {
   counts : CountsFaults ⊥ (g.D.Disk.outside l.fn.disk) (g.D.Disk.outside l.disk);
   same : g.D.Disk.tells → Looks (g.D.Disk.outside l.fn.disk) (g.D.Disk.outside l.disk);
   so : AreBodiesSoFar g.D.Disk.tells (g.D.Disk.outside l.fn.disk).now.disk.seen l.at l.schema (map body_of l.body-items) l.body-index l.tables l.next;

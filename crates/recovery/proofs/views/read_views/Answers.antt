@@ -37,14 +37,14 @@ overflow_add-columns-in-loop-view g c =
     let long : c.in_ok-structure.structure ≡ length (spelling v.name v.schema) = c.in_ok-structure.ensures in
     record { fits = omega (arith, room, long) }
 
-pub read_table-requires-clause-few : goal.read_table-requires-clause-few
-read_table-requires-clause-few g c =
+pub read_root_table-requires-clause-few : goal.read_root_table-requires-clause-few
+read_root_table-requires-clause-few g c =
     let k = c.loop-view.view-index in
     let left = drop_map_read view_of c.args.views.now k c.view-item.result c.loop-view-test.true c.view-item.is in
     (next_view c.requires.fits.end k (map view_of c.args.views.now) (view_of c.view-item.result) left c.requires.fits.has.each).few
 
-pub read_table-requires-clause-fits : goal.read_table-requires-clause-fits
-read_table-requires-clause-fits g c =
+pub read_root_table-requires-clause-fits : goal.read_root_table-requires-clause-fits
+read_root_table-requires-clause-fits g c =
     let k = c.loop-view.view-index in
     let left = drop_map_read view_of c.args.views.now k c.view-item.result c.loop-view-test.true c.view-item.is in
     record {
@@ -54,8 +54,8 @@ read_table-requires-clause-fits g c =
       has = (next_view c.requires.fits.end k (map view_of c.args.views.now) (view_of c.view-item.result) left c.requires.fits.has.each).entries;
     }
 
-pub read_table-requires-clause-room : goal.read_table-requires-clause-room
-read_table-requires-clause-room g c =
+pub read_root_table-requires-clause-room : goal.read_root_table-requires-clause-room
+read_root_table-requires-clause-room g c =
     let k = c.loop-view.view-index in
     let v = view_of c.view-item.result in
     let left = drop_map_read view_of c.args.views.now k c.view-item.result c.loop-view-test.true c.view-item.is in

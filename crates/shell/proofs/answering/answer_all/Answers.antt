@@ -3,6 +3,7 @@ use Rattle.std.proofs.lemmas.Result.{err_from_is_err_and}
 use Rattle.lines.specs.Lines.{max_line}
 use Rattle.sample.specs.Lines.{Left}
 use Rattle.shell.proofs.InSilence.{Reaches, reaches_more, reaches_none, refuses_one}
+use Rattle.shell.proofs.Saying.{silence_joins}
 use Rattle.shell.proofs.answering.answer_all.Goals as goal
 
 pub lines-init : goal.lines-init
@@ -13,6 +14,7 @@ lines-init g c = record {
   so_far = λ tells. reaches_none (g.S.Session.machine c.args.context.now) c.args.session.now (g.H.Disk.outside c.args.host.now) c.args.sample.now.lines;
   size = refl;
   say_faults = refl;
+  source = refl;
 }
 
 pub lines-preserved : goal.lines-preserved
@@ -34,6 +36,7 @@ lines-preserved g c =
           (c.requires.goes_on.goes_on line (c.next_line.ensures.begins c.lines-test.true)) c.in_ok-answer_one.ensures.refused;
       size = sym (ap (λ (left : Left). left.size) step) ∙ c.lines.invariant.size;
       say_faults = c.answer_one.ensures.say_faults ∙ c.lines.invariant.say_faults;
+      source = c.answer_one.ensures.source ∙ c.lines.invariant.source;
     }
 
 pub returns-in_err-answer_one-clause-comes : goal.returns-in_err-answer_one-clause-comes
@@ -53,6 +56,5 @@ returns-in_err-answer_one-clause-comes g c =
           c.next_line.new.self.lines line c.answer_one.new.out.bytes few answers
           (subst (λ (left : Left). Reaches machine c.args.session.now begin c.lines.session old c.args.sample.now.lines left.lines) step so)
           c.in_err-answer_one.ensures.refused;
-      said = answers.said ∙ so.said;
-      input = answers.input ∙ so.input;
+      silence = silence_joins begin old (g.H.Disk.outside c.answer_one.new.host) so.silence answers.silence;
     })

@@ -15,6 +15,7 @@ invariant-lines g l = record {
       → Reaches (g.S.Session.machine l.context) l.initial.session (g.H.Disk.outside l.initial.host) l.session (g.H.Disk.outside l.host) l.initial.sample.lines l.sample.lines;
   size : l.sample.size ≡ l.initial.sample.size;
   say_faults : (g.H.Disk.outside l.host).say_faults ≡ (g.H.Disk.outside l.initial.host).say_faults;
+  source : (g.H.Disk.outside l.host).source ≡ (g.H.Disk.outside l.initial.host).source;
 }
 
 abbrev pub decreases-lines : goal.decreases-lines

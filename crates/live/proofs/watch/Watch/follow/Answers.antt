@@ -6,7 +6,7 @@ returns-clause-raised g c =
     rw (← c.self.view_is) (record {
       number = refl;
       source = refl;
-      op = c.after-self-inside.ensures.op;
+      op = refl;
       room =
           let a = c.after-self-inside.ensures.capacity in
           let b = c.after-self-inside.ensures.len in

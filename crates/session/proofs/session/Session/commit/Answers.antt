@@ -33,12 +33,12 @@ returns-clause-carried g c = λ viewers.
     (elim c.match-carry.branch [
       | in-Ok-carry w ↦
           let e = w.in-Ok-carry.ensures in
-          commit_made g.H.Disk.tells viewers inside note reply unshut c.in-Ok.plan planned new from to e.places e.counts.disk.later w.in-Ok-carry.number e.number
+          commit_made g.H.Disk.tells viewers inside note reply unshut c.in-Ok.plan planned new from to e.counts.disk.later w.in-Ok-carry.number e.number
           (ap reply_bytes (w.result-is ∙ w.committed.ensures.value)) (ap (with_store inside) e.ok) e.commits
       | in-Err-carry w ↦
           let e = w.in-Err-carry.ensures in
-          commit_failed g.H.Disk.tells viewers inside note reply unshut c.in-Ok.plan planned new from to e.places e.counts.disk.later
-          (ap reply_bytes (w.result-is ∙ w.refused-in-Err-carry.ensures.value)) (ap (with_store inside) e.err) (e.counts.disk.cause refl)
+          commit_failed g.H.Disk.tells viewers inside note reply unshut c.in-Ok.plan planned new from to e.counts.disk.later w.in-Err-carry.field-0
+          (ap reply_bytes (w.result-is ∙ w.refused-in-Err-carry.ensures.value)) (ap (with_store inside) e.err) (e.counts.disk.cause refl) e.commits
     ])
 
 pub returns-clause-goes : goal.returns-clause-goes

@@ -22,13 +22,15 @@ returns-in_default g c =
       fits = c.carry_out.ensures.fits;
       unsaid = λ lines. let kept = c.carry_out.ensures.kept lines in record { takes = kept.0; world = kept.1; disk = still w new outside };
       silent = c.carry_out.ensures.silent;
-      counts = record { later = omega arith; cause = λ never. absurd never; takes = refl; says = refl };
+      counts = record { later = omega arith; cause = λ never. absurd never; takes = refl; says = refl; source = refl };
       goes = λ tells. record {
         moments = begins outside;
         said = refl;
         input = refl;
         ready = ready_same (state_of w outside) (state_of new outside) (answered_same viewers command w c.carry_out.result new c.carry_out.ensures) refl (c.requires.ready tells);
       };
+      off_disk = λ reach. refl;
+      shut = λ refuses. refl;
     }
 
 pub returns-in-Commit-clause-carried : goal.returns-in-Commit-clause-carried

@@ -1,4 +1,6 @@
-use Rattle.std.proofs.Common.{All, None, sym, subst, arith}
+use Rattle.std.proofs.Common.{All, None, ap, sym, subst, arith}
+use Rattle.std.specs.Prelude.{is_some}
+use Rattle.std.proofs.lemmas.Bool.{false≢true}
 use Rattle.host_io.specs.Disk.{DiskState}
 use Rattle.commit_writes.specs.Phases.{IsAtRest}
 use Rattle.tables.specs.Shapes.{HasHomes}
@@ -19,7 +21,7 @@ invariant_of-result g c =
       shaped = subst (λ (k : Commit). All (λ (v : NamedTable). HasHomes v.table) k.views) is new_whole.shaped;
       rests = rest_same (homed_views c.first_commit.result.views);
       low = omega arith;
-      beside = λ some. some;
+      beside = λ number is. absurd (false≢true (ap is_some is));
       capped = c.requires.capped;
     }
 

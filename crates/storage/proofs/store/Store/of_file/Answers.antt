@@ -1,3 +1,4 @@
+use Rattle.std.proofs.Common.{sym, ◌∙◌}
 use Rattle.view_store.specs.Rests.{homed_views}
 use Rattle.storage.proofs.Resting.{rest_same}
 use Rattle.storage.proofs.store.Store.of_file.Goals as goal
@@ -9,6 +10,6 @@ invariant_of-result c = record {
   shaped = c.requires.whole.shaped;
   rests = rest_same (homed_views c.args.opened.kept.views);
   low = c.requires.low;
-  beside = c.number_of.ensures.there;
+  beside = λ number is. sym c.number_of.ensures ∙ is;
   capped = c.requires.capped;
 }

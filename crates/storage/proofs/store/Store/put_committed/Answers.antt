@@ -1,4 +1,5 @@
-use Rattle.std.proofs.Common.{refl, arith}
+use Rattle.std.proofs.Common.{◌∙◌, Some, ap, arith}
+use Rattle.commit_marks.specs.declared.mark.Mark.{Mark}
 use Rattle.view_store.specs.Rests.{homed_views}
 use Rattle.storage.proofs.Resting.{rest_same}
 use Rattle.storage.proofs.store.Store.put_committed.Goals as goal
@@ -10,6 +11,6 @@ invariant_of-self c = record {
   shaped = c.requires.shaped;
   rests = rest_same (homed_views c.args.next.views);
   low = omega arith;
-  beside = λ some. refl;
+  beside = λ number is. ap (λ (m : Mark). Some m.number) c.mark_of.ensures ∙ is;
   capped = c.self.invariant.capped;
 }

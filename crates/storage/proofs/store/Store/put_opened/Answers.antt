@@ -9,6 +9,6 @@ invariant_of-self c = record {
   shaped = c.requires.whole.shaped;
   rests = rest_same (homed_views c.args.opened.kept.views);
   low = c.requires.low;
-  beside = c.before_of-self-inside.ensures.there;
+  beside = c.before_of-self-inside.ensures.beside;
   capped = c.self.invariant.capped;
 }

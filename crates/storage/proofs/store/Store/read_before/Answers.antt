@@ -1,5 +1,5 @@
 use Rattle.std.proofs.Common.{◌∙◌, sym, subst}
-use Rattle.std.specs.Prelude.{IsSome, Option}
+use Rattle.std.specs.Prelude.{Option}
 use Rattle.std.proofs.lemmas.Result.{err_from_is_err_and}
 use Rattle.host_io.specs.Outside.{Moment}
 use Rattle.commit_marks.specs.Marks.{other_slot}
@@ -33,4 +33,4 @@ returns-in-None-clause-refused g c = λ tells.
     let m = c.in_ok-marks.marks in
     let seen = (g.D.Disk.outside c.read_marks.new.disk).now.disk.seen in
     let none = none_older seen (other_slot m.slot) m.other (subst (λ (o : Option Kept). IsOlder seen (other_slot m.slot) m.other (older_in o)) c.in-None.is (c.in_ok-kept.ensures.older tells)) in
-    none_before c.args.self.now.before c.args.self.now.other (λ some. c.before-2.ensures.marked (subst IsSome (sym c.before-2.ensures.value) some)) (sym (c.in_ok-marks.ensures.other tells) ∙ none)
+    none_before c.args.self.now.before c.args.self.now.other (λ number is. c.before-2.ensures.marked number (c.before-2.ensures.value ∙ is)) (sym (c.in_ok-marks.ensures.other tells) ∙ none)

@@ -1,4 +1,4 @@
-use Rattle.std.proofs.Common.{ℕ, List, [], ◌∷◌, length}
+use Rattle.std.proofs.Common.{ℕ, List, [], ◌∷◌, length, refl}
 use Rattle.std.proofs.lemmas.List.Elements.{All-nil}
 use Rattle.std.proofs.lemmas.Result.{err_from_is_err_and}
 use Rattle.free_space.specs.Extents.{Meets}
@@ -12,7 +12,7 @@ abbrev block_at : ℕ → List ℕ → Block
 block_at place bytes = record { span = record { place = place; len = length bytes }; bytes = bytes }
 
 rounds : (place : ℕ) (bytes : List ℕ) → IsRounded (block_at place bytes) (rounded bytes)
-rounds place bytes = record { own = take-rounded bytes; long = length-rounded bytes }
+rounds place bytes = record { is = refl; own = take-rounded bytes; long = length-rounded bytes }
 
 pub write_block-requires-clause-ends : goal.write_block-requires-clause-ends
 write_block-requires-clause-ends g c =

@@ -34,14 +34,14 @@ module _ (image : List ℕ) (slot : ℕ) (m : Mark) (other : Option Mark) (choos
   open_in_one (suc zero) first second low here = second (open_from_mark image 1 m chooses.headed low here)
   open_in_one (suc (suc s)) first second low here = absurd (omega (arith, low))
 
-  not_closed : (¬ IsOpen image 0) → (¬ IsOpen image 1) → ⊥
+  pub not_closed : (¬ IsOpen image 0) → (¬ IsOpen image 1) → ⊥
   not_closed first second = open_in_one slot first second chooses.low chooses.here
 
   beside_not_spoiled : (o : Option Mark) (s : ℕ) → HasOther image s m o → IsOpen image s → ((n : Mark) → HasMark image s n → ⊥) → ⊥
   beside_not_spoiled None s closed opened none = closed opened
   beside_not_spoiled (Some n) s has opened none = none n has.0
 
-  not_spoiled : (s : ℕ) → s ≤ 1 → IsOpen image s → ((n : Mark) → HasMark image s n → ⊥) → ⊥
+  pub not_spoiled : (s : ℕ) → s ≤ 1 → IsOpen image s → ((n : Mark) → HasMark image s n → ⊥) → ⊥
   not_spoiled s low opened none =
       elim (one_of_two s slot low chooses.low) [
         | inl same ↦ none m (subst (λ (k : ℕ). HasMark image k m) (sym same) chooses.here)
@@ -64,7 +64,7 @@ module _ (image : List ℕ) (slot : ℕ) (m : Mark) (other : Option Mark) (choos
       let number : m.number ≡ two.number = ap (λ (x : Mark). x.number) is in omega (arith, below, same, number)
   numbers_differ (suc (suc s)) one two first second same low here beside = absurd (omega (arith, low))
 
-  not_one_number : HasOneNumber image → ⊥
+  pub not_one_number : HasOneNumber image → ⊥
   not_one_number (one, two, first, second, same) = numbers_differ slot one two first second same chooses.low chooses.here chooses.beside
 
   under_another : (c : Commit) → Stands image m c → (t : ℕ) (n : Mark) (two : Option Mark) (place : ℕ) → Chooses image t n two → IsRefusedAt image t n place → ⊥
@@ -77,7 +77,7 @@ module _ (image : List ℕ) (slot : ℕ) (m : Mark) (other : Option Mark) (choos
   not_bad c stands place (inr (inl one)) = not_one_number one.0
   not_bad c stands place (inr (inr (t, n, two, second, unfit, is))) = under_another c stands t n two (slot_place t) second (inl (unfit, refl))
 
-  not_damaged : (c : Commit) → Stands image m c → (place : ℕ) → IsDamagedAt image place → ⊥
+  pub not_damaged : (c : Commit) → Stands image m c → (place : ℕ) → IsDamagedAt image place → ⊥
   not_damaged c stands place (inl bad) = not_bad c stands place bad.1
   not_damaged c stands place (inr (inl closed)) = not_closed closed.0.1 closed.0.2
   not_damaged c stands place (inr (inr (t, n, two, second, refused))) = under_another c stands t n two place second refused
