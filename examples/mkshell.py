@@ -5,12 +5,51 @@
         store.add("people", "Ann", 1970)
         print(store.rows("people"), store.commit("first people"))
 
-One line is one reply, so a client writes a line, and reads until the reply is whole. A refusal is raised as `Refused`, and nothing has changed then.
+One line is one reply, so a client writes a line, and reads until the reply is whole. A refusal is raised as `Refused`, and nothing has changed then. A file that
+is not served is raised as `NotServed` or one of its kinds, and an end of the program in the midst of a session as `Ended`.
 """
 
+import contextlib
 import subprocess
 
 LISTS = ("show", "struct", "log")
+
+
+class NotServed(Exception):
+    """The program ended before it served the file, which is as it was."""
+
+
+class WrongWords(NotServed):
+    """The words of the command line are none: status 2."""
+
+
+class NotAStore(NotServed):
+    """The file is no store, or an empty one that is only read: status 3."""
+
+
+class Damaged(NotServed):
+    """The file was a store: `at` is the place of the first thing that is wanting. Status 3."""
+
+    def __init__(self, said, at):
+        super().__init__(said)
+        self.at = at
+
+
+class NotOpened(NotServed):
+    """The file could not be opened or made, or another process has it: status 8."""
+
+
+class OutOfMemory(NotServed):
+    """There was too little memory to open the file: status 6."""
+
+
+class Ended(Exception):
+    """The program ended in the midst of a session: `status` says why (docs/SHELL.md), and is below 0 where a signal stopped it. Of a `commit` that has no reply it is not
+    known whether it stands."""
+
+    def __init__(self, status):
+        super().__init__(f"mkshell ended with status {status}")
+        self.status = status
 
 
 class Refused(Exception):
@@ -77,8 +116,8 @@ class Store:
     """A file that mkshell keeps open, from the greeting on."""
 
     def __init__(self, program, file, *options):
-        self.process = subprocess.Popen([program, *options, file], stdin=subprocess.PIPE, stdout=subprocess.PIPE)
-        self.number = int(self.line().split(" ")[2])
+        self.process = subprocess.Popen([program, *options, "--", file], stdin=subprocess.PIPE, stdout=subprocess.PIPE)
+        self.number = self.greeting()
 
     def __enter__(self):
         return self
@@ -86,17 +125,32 @@ class Store:
     def __exit__(self, *_):
         self.close()
 
+    def greeting(self):
+        """The number of the commit for which the file stands."""
+        said = self.process.stdout.readline().decode()
+        if said.startswith("ok mkshell ") and said.endswith("\n"):
+            return int(said.split(" ")[2])
+        status, said = self.end(), said.removesuffix("\n")
+        if said.startswith("refused damaged "):
+            raise Damaged(said, int(said.split(" ")[2]))
+        if status == 8:
+            raise NotOpened("the file could not be opened, or another process has it")
+        raise {2: WrongWords, 3: NotAStore, 6: OutOfMemory}.get(status, NotServed)(said or f"mkshell ended with status {status}")
+
     def line(self):
         """The next line of the output."""
         line = self.process.stdout.readline()
         if not line.endswith(b"\n"):
-            raise EOFError(f"mkshell ended with status {self.process.wait()}")
+            raise Ended(self.end())
         return line[:-1].decode()
 
     def ask(self, line):
         """Carries a line out, and gives what stands behind `ok`; of a list its lines."""
-        self.process.stdin.write(line.encode() + b"\n")
-        self.process.stdin.flush()
+        try:
+            self.process.stdin.write(line.encode() + b"\n")
+            self.process.stdin.flush()
+        except BrokenPipeError:
+            raise Ended(self.end()) from None
         reply = self.line()
         if reply.startswith("err "):
             raise Refused(reply)
@@ -121,9 +175,14 @@ class Store:
         return self.number
 
     def close(self):
-        """Ends the session. What was not committed is gone."""
+        """Ends the session, and gives the program's status. What was not committed is gone."""
         if self.process.poll() is None:
             self.ask("quit")
-        self.process.stdin.close()
+        return self.end()
+
+    def end(self):
+        """Waits for the program's end."""
+        with contextlib.suppress(BrokenPipeError):
+            self.process.stdin.close()
         self.process.stdout.close()
         return self.process.wait()
