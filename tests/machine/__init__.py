@@ -38,10 +38,11 @@ class Call:
         return int(self.words.split(" ")[2])
 
     def __str__(self):
-        """One line: of what is said its first line, without its end."""
+        """One line: of what is said its first line, without its end, and each byte that is no printed character as `\\x` and two digits."""
         if self.kind != "say":
             return self.words
-        said, failed = self.moved.decode(errors="replace").split("\n")[0], " fails" if self.failed else ""
+        line, failed = self.moved.decode(errors="replace").split("\n")[0], " fails" if self.failed else ""
+        said = "".join(c if c.isprintable() else f"\\x{ord(c):02x}" for c in line)
         return f"say {said}{failed}"
 
 

@@ -76,10 +76,11 @@ module _ (first : ℕ) (rest : List ℕ) (plain : first ≢ 45) where
     options = record {
       used = record {
         alone = λ given. absurd (false≢true given);
+        new = λ given. absurd (false≢true given);
         apart = λ given. absurd (false≢true given);
         used = served.mode;
       };
-      done = served.task;
+      done = ap Some (sym served.task);
     };
   })
 

@@ -19,7 +19,7 @@ one_sample number count one other means means-2 =
     means.done ∙ ap₂ Sample same as_many ∙ sym means-2.done
 
 one_task : (rows : List Row) (number count : Option (List ℕ)) (one other : Task) → MeansTask rows number count one → MeansTask rows number count other → one ≡ other
-one_task rows None None one other means means-2 = means ∙ sym means-2
+one_task rows None None one other means means-2 = same_Some one other (sym means ∙ means-2)
 one_task rows (Some number) (Some count) one other means means-2 = one_sample number count one other means.0 means-2.0
 one_task rows (Some number) None one other means means-2 = absurd means
 one_task rows None (Some count) one other means means-2 = absurd means

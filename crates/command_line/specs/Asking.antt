@@ -8,7 +8,7 @@ use Rattle.clap.specs.declared.parser.matches.ValueSource.{ValueSource}
 use Rattle.clap.specs.declared.parser.matches.ValueSource.TheVariants.{CommandLine, DefaultValue}
 use Rattle.command_line.specs.declared.job.Job.{Job}
 use Rattle.command_line.specs.declared.job.Task.{Task}
-use Rattle.command_line.specs.declared.job.Task.TheVariants.{Serve, Check, Sample}
+use Rattle.command_line.specs.declared.job.Task.TheVariants.{Serve, Check, Sample, Save, Load}
 use Rattle.storage.specs.declared.mode.Mode.{Mode}
 use Rattle.storage.specs.declared.mode.Mode.TheVariants.{Write, Extend, Read}
 
@@ -47,16 +47,22 @@ pub record IsCap (rows : List Row) (cap : ℕ) : Type 0 where
   pub least : least_cap ≤ cap
   pub most : cap ≤ most_cap
 
--- how the store is used, by whether `--extend`, `--read` and `--check` are given
-abbrev pub mode_of : Bool → Bool → Bool → Mode
-mode_of extends reads checks = if extends then Extend else (if reads || checks then Read else Write)
+-- a store is only looked at where `--check` or `--save` is given
+abbrev pub looks : List Row → Bool
+looks rows = is_given (codes "check") rows || is_given (codes "save") rows
 
--- `--check` goes with none of `--cap`, `--extend` and `--read`, and `--read` not with `--extend`
+-- how the store is used, by whether `--extend` and `--read` are given and it is only looked at
+abbrev pub mode_of : Bool → Bool → Bool → Mode
+mode_of extends reads looks = if extends then Extend else (if reads || looks then Read else Write)
+
+-- `--check` and `--save` go with none of `--cap`, `--extend` and `--read`, `--load` with none of `--extend` and `--read`, and `--read` not with
+-- `--extend`.
 pub record IsMode (rows : List Row) (mode : Mode) : Type 0 where
-  pub alone : is_given (codes "check") rows ≡ true
+  pub alone : looks rows ≡ true
       → (is_given (codes "cap") rows ≡ false) × (is_given (codes "extend") rows ≡ false) × (is_given (codes "read") rows ≡ false)
+  pub new : is_given (codes "load") rows ≡ true → (is_given (codes "extend") rows ≡ false) × (is_given (codes "read") rows ≡ false)
   pub apart : is_given (codes "extend") rows ≡ true → is_given (codes "read") rows ≡ false
-  pub used : mode ≡ mode_of (is_given (codes "extend") rows) (is_given (codes "read") rows) (is_given (codes "check") rows)
+  pub used : mode ≡ mode_of (is_given (codes "extend") rows) (is_given (codes "read") rows) (looks rows)
 
 abbrev pub most_edits : ℕ
 most_edits = 1000000
@@ -71,14 +77,27 @@ pub record MeansSample (number count : List ℕ) (task : Task) : Type 0 where
   pub most : edits ≤ most_edits
   pub done : task ≡ Sample made_by edits
 
-abbrev pub task_of : Bool → Task
-task_of checks = if checks then Check else Serve
+-- what is done, by whether `--check`, `--save` and `--load` are given: no two of them go together
+abbrev pub task_of : Bool → Bool → Bool → Option Task
+task_of false false false = Some Serve
+task_of true false false = Some Check
+task_of false true false = Some Save
+task_of false false true = Some Load
+task_of _ _ _ = None
 
--- What is done, by the values of `--sample` and `--count`: they are given together or not at all, and neither with `--read` nor with `--check`.
+abbrev pub flagged_task : List Row → Option Task
+flagged_task rows = task_of (is_given (codes "check") rows) (is_given (codes "save") rows) (is_given (codes "load") rows)
+
+-- one of the three is given
+abbrev pub is_flagged : List Row → Bool
+is_flagged rows = looks rows || is_given (codes "load") rows
+
+-- What is done, by the values of `--sample` and `--count`: they are given together or not at all, and not with `--read`, `--check`, `--save` or
+-- `--load`.
 abbrev pub MeansTask : List Row → Option (List ℕ) → Option (List ℕ) → Task → Type 0
-MeansTask rows None None task = task ≡ task_of (is_given (codes "check") rows)
+MeansTask rows None None task = flagged_task rows ≡ Some task
 MeansTask rows (Some number) (Some count) task =
-    MeansSample number count task × (is_given (codes "read") rows ≡ false) × (is_given (codes "check") rows ≡ false)
+    MeansSample number count task × (is_given (codes "read") rows ≡ false) × (is_flagged rows ≡ false)
 MeansTask rows (Some number) None task = ⊥
 MeansTask rows None (Some count) task = ⊥
 

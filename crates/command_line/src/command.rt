@@ -18,6 +18,10 @@ pub(crate) const SAMPLE: &str = "sample";
 
 pub(crate) const COUNT: &str = "count";
 
+pub(crate) const SAVE: &str = "save";
+
+pub(crate) const LOAD: &str = "load";
+
 pub(crate) const FILE: &str = "file";
 
 /// The one command that words are read as.
@@ -31,6 +35,8 @@ pub(crate) fn command<'a>(alloc: Global) -> Result<Command<'a>, AllocError>
         .arg(flag(alloc, CHECK))?
         .arg(option(alloc, SAMPLE))?
         .arg(option(alloc, COUNT))?
+        .arg(flag(alloc, SAVE))?
+        .arg(flag(alloc, LOAD))?
         .arg(word(alloc, FILE))
 }
 

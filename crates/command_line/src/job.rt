@@ -28,4 +28,8 @@ pub enum Task {
         /// How many edits it has: at most 1000000.
         count: u32,
     },
+    /// The stream of the store is said.
+    Save,
+    /// The input is taken as a stream, and a store is made of it in an empty file.
+    Load,
 }

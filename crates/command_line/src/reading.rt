@@ -1,9 +1,9 @@
 ghost use Rattle.std.specs.Prelude.{◌≡◌, ℕ, List, Err, None, IfOk, IsErr, IfSome, IfNone, codes};
 ghost use Rattle.clap.specs.Walk.{first_of};
-ghost use Rattle.command_line.specs.Asking.{Asks, IsCap, IsFile, IsMode, IsTask, IsUse, MeansSample, MeansTask, found_rows, is_given};
+ghost use Rattle.command_line.specs.Asking.{Asks, IsCap, IsFile, IsMode, IsTask, IsUse, MeansSample, MeansTask, flagged_task, found_rows, is_flagged, is_given, looks};
 ghost use Rattle.command_line.specs.Words.{AsksFor, AsksForSome, texts_of};
 
-use crate::command::{CAP, CHECK, COUNT, EXTEND, FILE, READ, SAMPLE, command};
+use crate::command::{CAP, CHECK, COUNT, EXTEND, FILE, LOAD, READ, SAMPLE, SAVE, command};
 use crate::error::WordsError;
 use crate::job::{Job, Task};
 use crate::number::number_of;
@@ -99,13 +99,21 @@ fn mode_of(matches: &ArgMatches<'_>) -> Option<Mode>
 {
     let extends = is_given(matches, EXTEND);
     let reads = is_given(matches, READ);
-    match (is_given(matches, CHECK), extends, reads) {
-        (true, false, false) if !is_given(matches, CAP) => Some(Mode::Read),
-        (false, true, false) => Some(Mode::Extend),
-        (false, false, true) => Some(Mode::Read),
-        (false, false, false) => Some(Mode::Write),
+    let loads = is_given(matches, LOAD);
+    match (looks(matches), loads, extends, reads) {
+        (true, _, false, false) if !is_given(matches, CAP) => Some(Mode::Read),
+        (false, false, true, false) => Some(Mode::Extend),
+        (false, false, false, true) => Some(Mode::Read),
+        (false, _, false, false) => Some(Mode::Write),
         _ => None,
     }
+}
+
+/// Whether the store is only looked at.
+fn looks(matches: &ArgMatches<'_>) -> bool
+    ensures { result ≡ looks (found_rows matches.now) }
+{
+    is_given(matches, CHECK) || is_given(matches, SAVE)
 }
 
 /// What is done with the store.
@@ -117,7 +125,7 @@ fn task_of(matches: &ArgMatches<'_>) -> Option<Task>
         return task_of_no_sample(matches);
     };
     let count = matches.get_str(COUNT)?;
-    if is_given(matches, READ) || is_given(matches, CHECK) {
+    if is_given(matches, READ) || is_flagged(matches) {
         return None;
     }
     sample_of(number, count)
@@ -131,11 +139,30 @@ fn task_of_no_sample(matches: &ArgMatches<'_>) -> Option<Task>
     if matches.get_str(COUNT).is_some() {
         return None;
     }
-    if is_given(matches, CHECK) {
-        Some(Task::Check)
-    } else {
-        Some(Task::Serve)
+    flagged_task(matches)
+}
+
+/// What is done by the flags that are given, of which no two go together.
+fn flagged_task(matches: &ArgMatches<'_>) -> Option<Task>
+    ensures { result ≡ flagged_task (found_rows matches.now) }
+{
+    let checks = is_given(matches, CHECK);
+    let saves = is_given(matches, SAVE);
+    let loads = is_given(matches, LOAD);
+    match (checks, saves, loads) {
+        (false, false, false) => Some(Task::Serve),
+        (true, false, false) => Some(Task::Check),
+        (false, true, false) => Some(Task::Save),
+        (false, false, true) => Some(Task::Load),
+        _ => None,
     }
+}
+
+/// Whether one of these flags is given.
+fn is_flagged(matches: &ArgMatches<'_>) -> bool
+    ensures { result ≡ is_flagged (found_rows matches.now) }
+{
+    looks(matches) || is_given(matches, LOAD)
 }
 
 /// The sample of a number, with so many edits.

@@ -18,7 +18,7 @@ pub record IsSettled (e : Domain) (values : List Datum) (spans : List Span) (hom
   pub at : blocks_of home ≡ spans
   pub shaped : IsHomeOf home e values
 
-home_at-is : (e : Domain) (values : List Datum) (spans : List Span) → IsPlainDomain e → length spans ≡ length (blocks_of_values e values) → IsSettled e values spans (home_at e spans)
+pub home_at-is : (e : Domain) (values : List Datum) (spans : List Span) → IsPlainDomain e → length spans ≡ length (blocks_of_values e values) → IsSettled e values spans (home_at e spans)
 home_at-is Domain.integer values [] kind e = absurd (omega (arith, e))
 home_at-is Domain.integer values (s ∷ []) kind e = record { has = refl; at = refl; shaped = tt }
 home_at-is Domain.integer values (s ∷ t ∷ spans) kind e = absurd (omega (arith, e))

@@ -97,6 +97,10 @@ site_end end b = ⊎_elim (λ (none : b ≡ no_block). let z = none_extent b non
 site_aligned : (end : ℕ) (b : Block) → IsSited end b → IsAligned b.span.place
 site_aligned end b = ⊎_elim (λ (none : b ≡ no_block). subst (λ (x : Block). IsAligned x.span.place) (sym none) refl) (λ (site : IsBlockWithin end b). site.site.aligned)
 
+-- what a whole commit uses stands at multiples of 16
+pub spans_aligned : (kept : Commit) → IsCommit kept → All (λ s. IsAligned s.place) (commit_spans kept)
+spans_aligned kept whole = All-map (λ s. IsAligned s.place) (λ b. b.span) (commit_blocks kept) (All-weaker (IsSited kept.end) (λ b. IsAligned b.span.place) (λ b h. site_aligned kept.end b h) (commit_blocks kept) whole.sited)
+
 put_aligned : (floor : ℕ) (used : List Span) (s : Span) → IsPut floor used s → IsAligned s.place
 put_aligned floor used s = ⊎_elim (λ (none : s ≡ no_span). subst (λ (x : Span). IsAligned x.place) (sym none) refl) (λ (apart : IsApartFrom floor used s). apart.aligned)
 
@@ -287,9 +291,6 @@ module _ (floor : ℕ) (kept : Commit) (views : List NamedTable) (note : List �
   free : (b : Block) → 0 < b.span.len → IsPut floor used b.span → IsFree used b.span
   free b some = ⊎_elim (λ (none : b.span ≡ no_span). let z = ap (λ (s : Span). s.len) none in absurd (omega (arith, some, z))) (λ (apart : IsApartFrom floor used b.span). apart.free)
 
-  used_aligned : All (λ s. IsAligned s.place) used
-  used_aligned = All-map (λ s. IsAligned s.place) (λ b. b.span) (commit_blocks kept) (All-weaker (IsSited kept.end) (λ b. IsAligned b.span.place) (λ b h. site_aligned kept.end b h) (commit_blocks kept) whole.sited)
-
   used_end : end_of floor used ≤ kept.end
   used_end =
       end_of-le floor used kept.end may.within
@@ -302,7 +303,7 @@ module _ (floor : ℕ) (kept : Commit) (views : List NamedTable) (note : List �
     apart = some_apart (blocks_at all bytes) (subst AreApart (sym put_spans) all_apart);
     begins = begin_some floor used (blocks_at all bytes) kept.end used_end
         (subst (All IsNoneOrSome) (sym put_spans) (All-weaker (IsPut floor used) IsNoneOrSome (λ s h. put_sure floor used s h) all put))
-        (subst (BeginBelow floor used) (sym put_spans) (placed_begins floor used (map length bytes) all may.aligned used_aligned placed));
+        (subst (BeginBelow floor used) (sym put_spans) (placed_begins floor used (map length bytes) all may.aligned (spans_aligned kept whole) placed));
     number = f.number;
     end = end_is ∙ sym (writes_end floor kept.end used (blocks_at all bytes) (subst (All (IsPut floor used)) (sym put_spans) put) ∙ ap (λ ss. end_of kept.end ss) put_spans);
     whole = footprint_whole next next_whole;

@@ -4,6 +4,7 @@ mod FirstCommit
 mod Followed
 mod Gained
 mod Givens
+mod LeastPlaces
 mod NextCommit
 mod Noted
 mod Placed
@@ -13,8 +14,10 @@ mod SameRows
 mod SameViews
 mod Settled
 mod SettledColumns
+mod SettledHomes
 mod SettledViews
 mod Sizes
+mod SomeFollows
 mod Staying
 mod TableEntries
 mod Turns

@@ -19,3 +19,10 @@ pub fn follows_unique()
     ensures { (floor : ℕ) (kept : Commit) (views : List NamedTable) (note : List ℕ) (spans others : List Span) (one other : Commit)
         → FollowsAt floor kept views note spans one → FollowsAt floor kept views note others other → one ≡ other }
 {}
+
+/// A law of the commit that follows a whole one, with views that rest on it: there is one, and so its end is determined, whether it is
+/// within a cap or not. Its blocks have places however far behind; an end past the last that a file may have counts as that one.
+pub fn some_commit_follows()
+    ensures { (floor : ℕ) (kept : Commit) (views : List NamedTable) (note : List ℕ) → IsCommit kept → MayFollow floor kept views note
+        → (spans : List Span) × (next : Commit) × FollowsAt floor kept views note spans next }
+{}

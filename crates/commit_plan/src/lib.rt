@@ -24,7 +24,7 @@ mod views;
 mod writing;
 
 pub use error::PlanError;
-pub use laws::{follows_unique, the_next_commit_is_sound};
+pub use laws::{follows_unique, some_commit_follows, the_next_commit_is_sound};
 pub use measuring::{Usage, measure};
 pub use planned::Plan;
 pub use planning::plan;

@@ -3,4 +3,5 @@ pub mod Holding
 pub mod Inside
 pub mod Keyed
 pub mod Placing
+mod Refused
 pub mod Whole

@@ -2,6 +2,7 @@
 use Rattle.std.specs.Prelude.{◌≡◌, ◌⊎◌, ◌==◌, ◌||◌, ℕ, Bool, true, false, nat_le, nat_lt, List, length, take, Option, Some, None, Result, Err, IfErr}
 use Rattle.std.specs.List.{list_any}
 use Rattle.std.specs.Option.{option_map, option_or}
+use Rattle.std.specs.Result.{result_err}
 use Rattle.mapped.specs.Keys.{keys_of}
 use Rattle.mapped.specs.Refusals.{first_repeated, first_unordered}
 use Rattle.mapped.specs.declared.error.MapError.{MapError}
@@ -47,7 +48,18 @@ put_due by keys schema rows all view =
     (option_or (rows_due by keys rows)
     (refused_if (is_mapped all view) InUse)))
 
--- a call answers the refusal that is due, or none where none is; or memory was wanting
-abbrev pub AnswersPut : {T : Type 0} → Option MappingError → Result T MappingError → Type 0
-AnswersPut (Some e) result = (result ≡ Err e) ⊎ (result ≡ Err Memory)
-AnswersPut None result = IfErr result (λ e. e ≡ Memory)
+-- A call that looks at rows answers the refusal that is due, or none where none is. By an index memory may be wanting in place of either, since
+-- the keys are put in order; rows in the order of their keys are looked at without memory.
+abbrev pub AnswersRows : {T : Type 0} → By → Option MappingError → Result T MappingError → Type 0
+AnswersRows Hash (Some e) result = (result ≡ Err e) ⊎ (result ≡ Err Memory)
+AnswersRows Hash None result = IfErr result (λ e. e ≡ Memory)
+AnswersRows Order due result = result_err result ≡ due
+
+-- A call answers the refusal that is due, exactly where it is found without memory. Only an index takes memory before a refusal, so by one
+-- memory may be wanting in place of a repeated key, and of a view that has a mapping, which comes behind all keys. Where none is due it is
+-- done, or memory was wanting.
+abbrev pub AnswersPut : {T : Type 0} → By → Option MappingError → Result T MappingError → Type 0
+AnswersPut Hash (Some (Keys row)) result = (result ≡ Err (Keys row)) ⊎ (result ≡ Err Memory)
+AnswersPut Hash (Some InUse) result = (result ≡ Err InUse) ⊎ (result ≡ Err Memory)
+AnswersPut by (Some e) result = result ≡ Err e
+AnswersPut by None result = IfErr result (λ e. e ≡ Memory)

@@ -4,7 +4,8 @@ ghost use Rattle.mappings.specs.declared.error.MappingError.TheVariants as mappi
 use mk_value::Memory;
 use thiserror::Error;
 
-/// Why a view cannot be mapped. Where several are due, the first in this order comes, but memory may be wanting at any moment.
+/// Why a view cannot be mapped. Where several are due, the first in this order comes; but an index takes memory before `Keys` and `InUse` are
+/// found, and `Memory` may come in place of these.
 #[derive(Debug, Drop, Error)]
 pub enum MappingError {
     /// One of the first properties is a view, which has no order.

@@ -9,7 +9,7 @@ ghost use Rattle.mk_value.specs.Limits.{max_rows};
 ghost use Rattle.row_edits.specs.Edits.{edited_by, size_by};
 ghost use Rattle.mappings.specs.Keeping.{Ascend, CanFollow, IsReady, Keeps, Stays, by_of};
 ghost use Rattle.mappings.specs.Mapped.{put_key, set_key};
-ghost use Rattle.mappings.specs.Refusals.{AnswersPut, rows_due, told_of_map};
+ghost use Rattle.mappings.specs.Refusals.{AnswersRows, rows_due, told_of_map};
 ghost use Rattle.mappings.specs.declared.by.By.TheVariants as by_kind;
 ghost use Rattle.mappings.specs.declared.mapping.Mapping.TheVariants.{Hashed, InOrder};
 
@@ -39,7 +39,7 @@ impl Mapping {
         table: &T,
     ) -> Result<Mapping, MappingError>
         requires { count_due keys (T.schema table.now) ≡ None }
-        ensures due { AnswersPut (rows_due by keys (T.rows table.now)) result }
+        ensures due { AnswersRows by (rows_due by keys (T.rows table.now)) result }
         ensures by { IfOk result (λ m. by_of m ≡ by) }
         ensures kept { IfOk result (λ m. Keeps m keys (T.rows table.now)) }
     {
@@ -144,7 +144,7 @@ impl Mapping {
 /// An index of rows by their first values, so many.
 fn make_index<T: TableRead>(alloc: Global, keys: usize, table: &T) -> Result<Mapping, MappingError>
     requires { count_due keys (T.schema table.now) ≡ None }
-    ensures due { AnswersPut (rows_due by_kind.Hash keys (T.rows table.now)) result }
+    ensures due { AnswersRows by_kind.Hash (rows_due by_kind.Hash keys (T.rows table.now)) result }
     ensures by { IfOk result (λ m. by_of m ≡ by_kind.Hash) }
     ensures kept { IfOk result (λ m. Keeps m keys (T.rows table.now)) }
 {
@@ -157,7 +157,7 @@ fn make_index<T: TableRead>(alloc: Global, keys: usize, table: &T) -> Result<Map
 /// A mapping of rows that stand in the order of their first values, so many.
 fn make_order<T: TableRead>(keys: usize, table: &T) -> Result<Mapping, MappingError>
     requires { count_due keys (T.schema table.now) ≡ None }
-    ensures due { AnswersPut (rows_due by_kind.Order keys (T.rows table.now)) result }
+    ensures due { AnswersRows by_kind.Order (rows_due by_kind.Order keys (T.rows table.now)) result }
     ensures by { IfOk result (λ m. by_of m ≡ by_kind.Order) }
     ensures kept { IfOk result (λ m. Keeps m keys (T.rows table.now)) }
 {

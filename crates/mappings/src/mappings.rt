@@ -128,7 +128,8 @@ impl Mappings {
     /// # Errors
     ///
     /// The first that is due: `Kind` where one of these properties is a view; `Range` where there are none, or more than properties; `Limit`
-    /// where it would be the 65th mapping; `Keys` by the rows; `InUse` where the view is mapped. `Memory` may come for each but the first three.
+    /// where it would be the 65th mapping; `Keys` by the rows; `InUse` where the view is mapped. Only an index takes memory to look at the rows, so
+    /// by one `Memory` may come in place of the last two. `Memory` may also come where none is due.
     pub fn put(
         &mut self,
         view: &Name,
@@ -136,7 +137,7 @@ impl Mappings {
         keys: usize,
         table: &Shared,
     ) -> Result<(), MappingError>
-        ensures due { AnswersPut (put_due by keys table.now.schema table.now.rows (mapped self.old) view.now) result }
+        ensures due { AnswersPut by (put_due by keys table.now.schema table.now.rows (mapped self.old) view.now) result }
         // By the schema it is refused without memory.
         ensures unfit { (e : MappingErrorValue) → schema_due keys table.now.schema ≡ Some e → result ≡ Err e }
         ensures ok { OnOk result (mapped self.new ≡ mapped self.old ++ record { view = view.now; by = by; keys = keys } ∷ []) }

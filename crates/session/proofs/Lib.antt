@@ -1,7 +1,10 @@
+mod Alike
 mod Answering
 pub mod Asked
+mod Calls
 mod WatchDues
 pub mod Dues
+mod Fair
 pub mod Fitted
 pub mod Known
 mod KeyedFollow

@@ -1,6 +1,7 @@
 pub mod Answered
 pub mod Carried
 pub mod Commands
+pub mod Determined
 pub mod Disk
 pub mod Fitting
 pub mod Following

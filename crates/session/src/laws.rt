@@ -1,3 +1,4 @@
+ghost use Rattle.session.specs.Determined.{DeterminesState};
 ghost use Rattle.session.specs.Reading.{LeavesTheFile};
 ghost use Rattle.session.specs.Unfaulted.{AnswersUnfaulted};
 
@@ -12,3 +13,16 @@ pub fn lines_are_answered()
 pub fn reading_leaves_the_file()
     ensures { LeavesTheFile }
 {}
+
+/// A law of lines: from one state, one line and one reply leave one world, with its tables, the commit that is kept, the one that failed, and
+/// all watches, mappings, cursors and snapshots; and one disk, unless the session is shut then. A line that is no commit, and neither opens
+/// nor reads the file, leaves one state.
+pub fn the_reply_determines_the_state()
+    ensures { DeterminesState }
+{
+    cmd_text::one_meaning();
+    cmd_text::one_offence();
+    commit_plan::follows_unique();
+    recovery::one_commit();
+    recovery::a_file_has_one_answer();
+}

@@ -30,6 +30,6 @@ mod watching;
 mod words;
 
 pub use edits::MAX_COPIES;
-pub use laws::{lines_are_answered, reading_leaves_the_file};
+pub use laws::{lines_are_answered, reading_leaves_the_file, the_reply_determines_the_state};
 pub use session::{Session, Viewers};
 pub use starting::{StartError, start};

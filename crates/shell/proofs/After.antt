@@ -10,16 +10,17 @@ use Rattle.storage.specs.Spaces.{Reports}
 use Rattle.storage.specs.declared.mode.Mode.{Mode}
 use Rattle.storage.specs.declared.mode.Mode.TheVariants.{Read}
 use Rattle.viewers.specs.Meanings.{Meaning}
+use Rattle.streaming.specs.Saving.{IsSavedOf}
 use Rattle.shell.specs.Crashes.{IsSafeGreeting, IsSafeSample, IsSafeServing}
 use Rattle.shell.specs.Faults.{IsFault}
-use Rattle.shell.specs.Ran.{Answers, Checks, GreetsInPart, Opens, RanAs, RanChecking, RanFrom, RanSampling, RanServing, RefusesFile, Samples, SamplesFrom, ServesFrom}
+use Rattle.shell.specs.Ran.{Answers, Checks, GreetsInPart, Opens, RanAs, RanChecking, RanFrom, RanSampling, RanSaving, RanServing, RefusesFile, Samples, SamplesFrom, Saves, ServesFrom}
 use Rattle.shell.specs.Said.{IsSilent, fault_line, greeting_line}
 use Rattle.shell.specs.declared.fault.FileFault.TheVariants.{NotEmpty}
 use Rattle.shell.specs.declared.status.Status.{Status}
 use Rattle.shell.specs.declared.status.Status.TheVariants.{Done, Usage, Refused, TakeFault, SayFault, Memory, TooMuch, DiskFault}
 use Rattle.shell.proofs.Saying.{opens_of, says_only-after, silence_joins, silence_of, silent_joins}
 use Rattle.command_line.specs.declared.job.Task.{Task}
-use Rattle.command_line.specs.declared.job.Task.TheVariants.{Serve, Check, Sample}
+use Rattle.command_line.specs.declared.job.Task.TheVariants.{Serve, Check, Sample, Save, Load}
 
 module _ (old looked new : Outside) (silent : IsSilent old looked) where
   same_seen : looked.now.disk.seen ≡ old.now.disk.seen
@@ -129,6 +130,15 @@ module _ (old looked new : Outside) (silent : IsSilent old looked) where
     sampled = samples_from_after viewers number edits s.world status s.opened s.sampled;
   }
 
+  pub saves_after : (status : Status) → Saves status looked new → Saves status old new
+  saves_after status s = record {
+    stream = s.stream;
+    saved = subst (λ (bytes : List ℕ). IsSavedOf bytes s.stream) same_seen s.saved;
+    looked = s.looked;
+    looks = silent_joins old looked s.looked silent s.looks;
+    says = s.says;
+  }
+
 pub ran_sampling_after : (old looked new : Outside) → IsSilent old looked → (viewers : List Meaning) (number edits : ℕ) (mode : Mode) (cap : ℕ) (status : Status) → RanSampling viewers number edits mode cap status looked new
     → RanSampling viewers number edits mode cap status old new
 ran_sampling_after old looked new silent viewers number edits mode cap Usage ran = ran
@@ -160,13 +170,27 @@ ran_checking_after TakeFault old looked new silent ran = ran
 ran_checking_after TooMuch old looked new silent ran = ran
 ran_checking_after SayFault old looked new silent ran = checks_after old looked new silent SayFault ran
 
+pub ran_saving_after : (status : Status) (old looked new : Outside) → IsSilent old looked → RanSaving status looked new → RanSaving status old new
+ran_saving_after Usage old looked new silent ran = ran
+ran_saving_after Refused old looked new silent ran = refuses_after old looked new silent Read ran
+ran_saving_after Memory old looked new silent ran = silent_joins old looked new silent ran
+ran_saving_after DiskFault old looked new silent ran = silent_joins old looked new silent ran
+ran_saving_after Done old looked new silent ran = saves_after old looked new silent Done ran
+ran_saving_after TakeFault old looked new silent ran = ran
+ran_saving_after TooMuch old looked new silent ran = ran
+ran_saving_after SayFault old looked new silent ran = saves_after old looked new silent SayFault ran
+
 -- a job for which memory was wanting before the file was attached, or whose file was not attached
 pub lacks_memory : (viewers : List Meaning) (task : Task) (mode : Mode) (cap : ℕ) (old new : Outside) → IsSilent old new → RanAs viewers task mode cap Memory old new
 lacks_memory viewers Serve mode cap old new silent = silent
 lacks_memory viewers Check mode cap old new silent = silent
 lacks_memory viewers (Sample number edits) mode cap old new silent = silent
+lacks_memory viewers Save mode cap old new silent = silent
+lacks_memory viewers Load mode cap old new silent = inl silent
 
 pub not_attached : (viewers : List Meaning) (task : Task) (mode : Mode) (cap : ℕ) (old new : Outside) → IsSilent old new → RanAs viewers task mode cap DiskFault old new
 not_attached viewers Serve mode cap old new silent = opens_of old new silent
 not_attached viewers Check mode cap old new silent = silent
 not_attached viewers (Sample number edits) mode cap old new silent = opens_of old new silent
+not_attached viewers Save mode cap old new silent = silent
+not_attached viewers Load mode cap old new silent = inl silent

@@ -15,7 +15,8 @@ use Rattle.session.specs.Step.{machine}
 use Rattle.session.specs.World.{World}
 use Rattle.viewers.specs.Meanings.{Meaning}
 use Rattle.shell.specs.Crashes.{IsSafeGreeting, IsSafeSample, IsSafeServing}
-use Rattle.shell.specs.Said.{GoesInSilence, Speaks}
+use Rattle.shell.specs.Said.{Speaks}
+use Rattle.streaming.specs.Silence.{GoesInSilence}
 
 split_added : (since : ℕ) (added : List Moment) (now : Moment) (past : List Moment) (image : List ℕ) (n : ℕ) → LeftAt since (added ++ now ∷ past) image n
     → LeftAt since (now ∷ past) image n ⊎ LeftAt (length past) (added ++ now ∷ past) image n
@@ -38,16 +39,20 @@ Left-split since old new image n goes left =
       | inr later ↦ inr (subst (λ (l : List Moment). LeftAt (moment old) l image n) (sym goes.follows) later)
     ]
 
--- After a silence, what was left when more had been said was left from its end on.
-pub left_later : {P : Moment → Type 0} (old opened new : Outside) (image : List ℕ) (n : ℕ) → GoesInSilence old opened → Goes P opened new → Left (moment old) new image n → length old.now.said < n
+-- Where nothing was said, what was left when more had been said was left from then on.
+pub left_after : {P : Moment → Type 0} (old opened new : Outside) (image : List ℕ) (n : ℕ) → Goes (λ at. at.said ≡ old.now.said) old opened → Goes P opened new → Left (moment old) new image n → length old.now.said < n
     → Left (moment opened) new image n
-left_later old opened new image n silence goes left more = elim (Left-split (moment old) opened new image n goes left) [
+left_after old opened new image n silent goes left more = elim (Left-split (moment old) opened new image n goes left) [
   | inr later ↦ later
-  | inl past ↦ elim (Left-since image n silence.moments past) [
+  | inl past ↦ elim (Left-since image n silent past) [
     | inl here ↦ let same = here.1 in absurd (omega arith)
     | inr by ↦ let same = by.said in let said = ap length by.holds in absurd (omega arith)
   ]
 ]
+
+pub left_later : {P : Moment → Type 0} (old opened new : Outside) (image : List ℕ) (n : ℕ) → GoesInSilence old opened → Goes P opened new → Left (moment old) new image n → length old.now.said < n
+    → Left (moment opened) new image n
+left_later old opened new image n silence goes left more = left_after old opened new image n silence.moments goes left more
 
 -- while a line is said the disk stays, and so what a crash may leave
 pub still_allowed : (line : List ℕ) (state : State World) (old new : Outside) → state.disk ≡ old.now.disk → IsSteady state → Goes (IsSaying line old.now) old new

@@ -8,7 +8,7 @@ use Rattle.lines.specs.Lines.{max_line}
 use Rattle.lines.specs.Machine.{Answers, HasEnded, Machine, Run, Turn}
 use Rattle.lines.specs.Served.{state_of}
 use Rattle.lines.proofs.Turns.{Run-push, goes_on-push}
-use Rattle.shell.specs.Said.{GoesInSilence}
+use Rattle.streaming.specs.Silence.{GoesInSilence}
 use Rattle.shell.specs.Sampled.{AcceptsAll, AnswersOne, AreAccepted, RefusesOne, is_refusal}
 use Rattle.shell.proofs.Saying.{silence_joins, silence_of, silent_none}
 

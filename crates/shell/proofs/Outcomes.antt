@@ -3,7 +3,7 @@ use Rattle.std.proofs.Common.{◌≡◌, ◌≢◌, ℕ, true, false, List, [], 
 use Rattle.command_line.specs.Words.{AsksFor}
 use Rattle.command_line.specs.declared.job.Job.{Job}
 use Rattle.command_line.specs.declared.job.Task.{Task}
-use Rattle.command_line.specs.declared.job.Task.TheVariants.{Serve, Check, Sample}
+use Rattle.command_line.specs.declared.job.Task.TheVariants.{Serve, Check, Sample, Save, Load}
 use Rattle.command_line.proofs.Tasks.{sample_writes}
 use Rattle.host_io.specs.Calls.{CountsFaults}
 use Rattle.host_io.specs.Outside.{Goes, Outside}
@@ -19,7 +19,7 @@ use Rattle.storage.specs.declared.mode.Mode.TheVariants.{Read}
 use Rattle.viewers.specs.Meanings.{Meaning}
 use Rattle.shell.specs.Faults.{fault_of}
 use Rattle.shell.specs.Ran.{IsWritten, Opens, RanSampling, SamplesFrom, SaysLine, Starts}
-use Rattle.shell.specs.Said.{GoesInSilence}
+use Rattle.streaming.specs.Silence.{GoesInSilence}
 use Rattle.shell.specs.Sampled.{AcceptsAll, ComesOf, RefusesOne}
 use Rattle.shell.specs.declared.fault.FileFault.{FileFault}
 use Rattle.shell.specs.declared.status.Status.{Status}
@@ -43,6 +43,8 @@ of_ok (Err error) fine holds = absurd (cc)
 pub written : (words : List (List ℕ)) (job : Job) (task : Task) → job.task ≡ task → AsksFor words job → IsWritten task job.mode
 written words job Serve is asks = tt
 written words job Check is asks = tt
+written words job Save is asks = tt
+written words job Load is asks = tt
 written words job (Sample number edits) is asks = sample_writes words job number edits asks is
 
 module _ (viewers : List Meaning) (number edits : ℕ) (mode : Mode) (cap : ℕ) where

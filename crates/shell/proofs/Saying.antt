@@ -18,15 +18,17 @@ use Rattle.session.specs.declared.starting.StartError.TheVariants as error
 use Rattle.storage.specs.Spaces.{Reports}
 use Rattle.storage.specs.declared.mode.Mode.{Mode}
 use Rattle.storage.specs.declared.space.Report.{Report}
+use Rattle.streaming.specs.Saving.{IsSavedOf}
 use Rattle.viewers.specs.Meanings.{Meaning}
 use Rattle.shell.specs.Faults.{IsFault, fault_of}
-use Rattle.shell.specs.Said.{GoesInSilence, IsSilent, SaysOnly, Speaks, fault_line, greeting_line}
+use Rattle.shell.specs.Said.{IsSilent, SaysOnly, Speaks, fault_line, greeting_line}
+use Rattle.streaming.specs.Silence.{GoesInSilence}
 use Rattle.shell.specs.declared.fault.FileFault.{FileFault}
 use Rattle.shell.specs.declared.fault.FileFault.TheVariants.{Empty, NotAStore, Damaged}
 use Rattle.shell.specs.Statuses.{status_of}
 use Rattle.shell.specs.declared.status.Status.{Status}
 use Rattle.shell.specs.declared.status.Status.TheVariants as status
-use Rattle.shell.specs.Ran.{GreetsInPart, IsServed, Opens, RanChecking, RanFrom, RanServing, RefusesFile, SaysLine, SaysReport, ServesAs, ServesFrom, Starts}
+use Rattle.shell.specs.Ran.{GreetsInPart, IsServed, Opens, RanChecking, RanFrom, RanSaving, RanServing, RefusesFile, SaysLine, SaysReport, ServesAs, ServesFrom, Starts}
 use Rattle.shell.proofs.Crashing.{safe_greeting, safe_greeting_since, safe_in_part, safe_serving, safe_serving_since}
 
 -- what was said of a line is a front of it
@@ -278,16 +280,13 @@ unopened failed viewers mode cap error.Empty s old new is cause counts opens = a
 unopened failed viewers mode cap error.NotAStore s old new is cause counts opens = absurd (let f : ◌≡◌ {A = Result FileFault Status} (Ok NotAStore) (Err s) = is in cc)
 unopened failed viewers mode cap (error.Damaged place) s old new is cause counts opens = absurd (let f : ◌≡◌ {A = Result FileFault Status} (Ok (Damaged place)) (Err s) = is in cc)
 
-pub unchecked : (error : StartError) (s : Status) (old new : Outside) → fault_of error ≡ Err s → IsSilent old new → RanChecking s old new
-unchecked error.Failed s old new is silent =
-    let same : status.DiskFault ≡ s = let f : ◌≡◌ {A = Result FileFault Status} (Err status.DiskFault) (Err s) = is in cc in
-    subst (λ (x : Status). RanChecking x old new) same silent
-unchecked error.Memory s old new is silent =
-    let same : status.Memory ≡ s = let f : ◌≡◌ {A = Result FileFault Status} (Err status.Memory) (Err s) = is in cc in
-    subst (λ (x : Status). RanChecking x old new) same silent
-unchecked error.Empty s old new is silent = absurd (let f : ◌≡◌ {A = Result FileFault Status} (Ok Empty) (Err s) = is in cc)
-unchecked error.NotAStore s old new is silent = absurd (let f : ◌≡◌ {A = Result FileFault Status} (Ok NotAStore) (Err s) = is in cc)
-unchecked (error.Damaged place) s old new is silent = absurd (let f : ◌≡◌ {A = Result FileFault Status} (Ok (Damaged place)) (Err s) = is in cc)
+-- the status of a run that only looks at a store and did not open it: what holds where the disk failed and where memory was wanting
+pub unread : (P : Status → Type 0) (error : StartError) (s : Status) → fault_of error ≡ Err s → P status.DiskFault → P status.Memory → P s
+unread P error.Failed s is failed lacking = let same : status.DiskFault ≡ s = let f : ◌≡◌ {A = Result FileFault Status} (Err status.DiskFault) (Err s) = is in cc in subst P same failed
+unread P error.Memory s is failed lacking = let same : status.Memory ≡ s = let f : ◌≡◌ {A = Result FileFault Status} (Err status.Memory) (Err s) = is in cc in subst P same lacking
+unread P error.Empty s is failed lacking = absurd (let f : ◌≡◌ {A = Result FileFault Status} (Ok Empty) (Err s) = is in cc)
+unread P error.NotAStore s is failed lacking = absurd (let f : ◌≡◌ {A = Result FileFault Status} (Ok NotAStore) (Err s) = is in cc)
+unread P (error.Damaged place) s is failed lacking = absurd (let f : ◌≡◌ {A = Result FileFault Status} (Ok (Damaged place)) (Err s) = is in cc)
 
 -- a line that was said, or that the output did not take whole
 pub said_line : {T E : Type 0} (line : List ℕ) (old new : Outside) (value : T) → SaysAll {E = E} line old new (Ok value) → CountsSay {E = E} old new (Ok value) → SaysLine line status.Done old new
@@ -321,3 +320,14 @@ checked status.TakeFault old looked new report silent reports says = absurd says
 checked status.Memory old looked new report silent reports says = absurd says
 checked status.TooMuch old looked new report silent reports says = absurd says
 checked status.DiskFault old looked new report silent reports says = absurd says
+
+-- a stream that was said after the file had been looked at
+pub saved : (s : Status) (old looked new : Outside) (stream : List ℕ) → IsSilent old looked → IsSavedOf old.now.disk.seen stream → SaysLine stream s looked new → RanSaving s old new
+saved status.Done old looked new stream silent is says = record { stream = stream; saved = is; looked = looked; looks = silent; says = says }
+saved status.SayFault old looked new stream silent is says = record { stream = stream; saved = is; looked = looked; looks = silent; says = says }
+saved status.Usage old looked new stream silent is says = absurd says
+saved status.Refused old looked new stream silent is says = absurd says
+saved status.TakeFault old looked new stream silent is says = absurd says
+saved status.Memory old looked new stream silent is says = absurd says
+saved status.TooMuch old looked new stream silent is says = absurd says
+saved status.DiskFault old looked new stream silent is says = absurd says

@@ -2,7 +2,7 @@
 use Rattle.std.specs.Prelude.{ℕ, List, [], ◌∷◌, ◌++◌}
 use Rattle.std.proofs.Common.{inl, inr}
 use Rattle.command_line.specs.declared.job.Task.{Task}
-use Rattle.command_line.specs.declared.job.Task.TheVariants.{Serve, Check, Sample}
+use Rattle.command_line.specs.declared.job.Task.TheVariants.{Serve, Check, Sample, Save, Load}
 use Rattle.host_io.specs.Outside.{Outside}
 use Rattle.lines.specs.Machine.{State}
 use Rattle.lines.specs.Served.{state_of}
@@ -20,10 +20,12 @@ AreSampleAnswered viewers number edits old last line (inr one) = AreAnswered vie
 
 -- Each line that this run answered, from the world that it opened, got what a session that is not shut owes it: no reply says that the disk
 -- failed or that the session is shut, and a commit is acknowledged, unless it is refused as read only, as past the last number or the cap, or
--- for want of memory. A run that looks at a file answers none.
+-- for want of memory. A run that looks at a file, says its stream or makes one of a stream answers none.
 abbrev pub AnswersWell : (viewers : List Meaning) (task : Task) (mode : Mode) (cap : ℕ) (old new : Outside) → RanAs viewers task mode cap Done old new → Type 0
 AnswersWell viewers Serve mode cap old new ran = AreAnswered viewers (state_of ran.world ran.opened) ran.ran.serves.turns
 AnswersWell viewers Check mode cap old new ran = Unit {0}
+AnswersWell viewers Save mode cap old new ran = Unit {0}
+AnswersWell viewers Load mode cap old new ran = Unit {0}
 AnswersWell viewers (Sample number edits) mode cap old new ran =
     AreSampleAnswered viewers number edits (state_of ran.world ran.opened) (state_of ran.sampled.last ran.sampled.answered) ran.sampled.line ran.sampled.outcome
 

@@ -5,8 +5,10 @@ use Rattle.session.specs.declared.starting.StartError.{StartError}
 use Rattle.session.specs.declared.starting.StartError.TheVariants as start_error
 use Rattle.storage.specs.declared.mode.Mode.{Mode}
 use Rattle.storage.specs.declared.mode.Mode.TheVariants.{Read}
+use Rattle.streaming.specs.declared.error.LoadFault.{LoadFault}
+use Rattle.streaming.specs.declared.error.LoadFault.TheVariants as load_fault
 use Rattle.shell.specs.declared.fault.FileFault.{FileFault}
-use Rattle.shell.specs.declared.fault.FileFault.TheVariants.{Empty, NotEmpty, NotAStore, Damaged}
+use Rattle.shell.specs.declared.fault.FileFault.TheVariants.{Empty, NotEmpty, NotAStore, Damaged, BadStream, Full}
 use Rattle.shell.specs.declared.status.Status.{Status}
 use Rattle.shell.specs.declared.status.Status.TheVariants as status
 
@@ -18,10 +20,21 @@ fault_of (start_error.Damaged place) = Ok (Damaged place)
 fault_of start_error.Failed = Err status.DiskFault
 fault_of start_error.Memory = Err status.Memory
 
+-- by why no store was made of an input
+abbrev pub fault_of_load : LoadFault → Result FileFault Status
+fault_of_load (load_fault.BadStream place) = Ok (BadStream place)
+fault_of_load (load_fault.Full end cap) = Ok (Full end cap)
+fault_of_load load_fault.TooMuch = Err status.TooMuch
+fault_of_load load_fault.TakeFailed = Err status.TakeFault
+fault_of_load load_fault.DiskFailed = Err status.DiskFault
+fault_of_load load_fault.Memory = Err status.Memory
+
 -- The bytes of the file are why it is not opened: it is empty and only read, or it is not empty and stands for no commit. A file that is
--- not empty is refused where a sample is made in it, and that is said of a sample alone.
+-- not empty is refused where a store is to be made in it, and that, and a stream of which none is made, is said there alone.
 abbrev pub IsFault : Mode → List ℕ → FileFault → Type 0
 IsFault mode file Empty = (mode ≡ Read) × (file ≡ [])
 IsFault mode file NotEmpty = ⊥
+IsFault mode file (BadStream place) = ⊥
+IsFault mode file (Full end cap) = ⊥
 IsFault mode file NotAStore = (file ≢ []) × IsNoStore file
 IsFault mode file (Damaged place) = (file ≢ []) × IsDamagedAt file place

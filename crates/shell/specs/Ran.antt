@@ -1,9 +1,9 @@
 -- What each status of a run says of the bytes taken and said, and of what a crash would have left.
-use Rattle.std.specs.Prelude.{◌≡◌, ◌≢◌, ℕ, ◌+◌, ◌<◌, ◌≤◌, List, [], length, ◌⊎◌}
+use Rattle.std.specs.Prelude.{◌≡◌, ◌≢◌, ℕ, ◌+◌, ◌<◌, ◌≤◌, List, [], length, ◌⊎◌, Ok, Err}
 use Rattle.command_line.specs.Words.{AsksFor, AsksForSome}
 use Rattle.command_line.specs.declared.job.Job.{Job}
 use Rattle.command_line.specs.declared.job.Task.{Task}
-use Rattle.command_line.specs.declared.job.Task.TheVariants.{Serve, Check, Sample}
+use Rattle.command_line.specs.declared.job.Task.TheVariants.{Serve, Check, Sample, Save, Load}
 use Rattle.host_io.specs.Calls.{Rose, StandsStill}
 use Rattle.host_io.specs.Outside.{Left, Outside, moment}
 use Rattle.lines.specs.declared.serving.End.{End}
@@ -24,8 +24,13 @@ use Rattle.storage.specs.declared.mode.Mode.TheVariants.{Read}
 use Rattle.storage.specs.declared.space.Report.{Report}
 use Rattle.viewers.specs.Meanings.{Meaning}
 use Rattle.shell.specs.Crashes.{IsSafeGreeting, IsSafeSample, IsSafeServing}
-use Rattle.shell.specs.Faults.{IsFault}
-use Rattle.shell.specs.Said.{GoesInSilence, IsSilent, SaysOnly, Speaks, check_line, fault_line, greeting_line, sample_line, usage_line}
+use Rattle.streaming.specs.Loading.{Loads, LoadsViews, MayLoad}
+use Rattle.streaming.specs.Saving.{IsSavedOf}
+use Rattle.streaming.specs.declared.error.LoadFault.{LoadFault}
+use Rattle.streaming.specs.declared.error.LoadFault.TheVariants as load_fault
+use Rattle.shell.specs.Faults.{IsFault, fault_of_load}
+use Rattle.shell.specs.Said.{IsSilent, SaysOnly, Speaks, check_line, fault_line, greeting_line, load_line, sample_line, usage_line}
+use Rattle.streaming.specs.Silence.{GoesInSilence}
 use Rattle.shell.specs.Sampled.{AcceptsAll, RefusesOne}
 use Rattle.shell.specs.declared.fault.FileFault.{FileFault}
 use Rattle.shell.specs.declared.fault.FileFault.TheVariants.{NotEmpty}
@@ -174,10 +179,71 @@ RanSampling viewers number edits mode cap TakeFault old new = ⊥
 RanSampling viewers number edits mode cap TooMuch old new = ⊥
 RanSampling viewers number edits mode cap SayFault old new = Samples viewers number edits mode cap SayFault old new
 
+-- the stream of the store in the file was said, or a front of it where the output failed
+pub record Saves (status : Status) (old new : Outside) : Type 0 where
+  pub stream : List ℕ
+  pub saved : IsSavedOf old.now.disk.seen stream
+  pub looked : Outside
+  pub looks : IsSilent old looked
+  pub says : SaysLine stream status looked new
+
+-- a run that says the stream of the file's store, and leaves the file as it is
+abbrev pub RanSaving : Status → Outside → Outside → Type 0
+RanSaving Usage old new = ⊥
+RanSaving Refused old new = RefusesFile Read old new
+RanSaving Memory old new = IsSilent old new
+RanSaving DiskFault old new = IsSilent old new
+RanSaving Done old new = Saves Done old new
+RanSaving TakeFault old new = ⊥
+RanSaving TooMuch old new = ⊥
+RanSaving SayFault old new = Saves SayFault old new
+
+-- The file is empty, and the input was taken for it, which ended so.
+pub record StopsLoading (cap : ℕ) (cause : LoadFault) (old stopped : Outside) : Type 0 where
+  pub empty : old.now.disk.seen ≡ []
+  pub looked : Outside
+  pub looks : IsSilent old looked
+  pub stops : Loads max_budget cap looked stopped (Err cause)
+
+-- no store is made of the input, and the line that is said names why
+pub record RefusesInput (cap : ℕ) (old new : Outside) : Type 0 where
+  pub cause : LoadFault
+  pub fault : FileFault
+  pub names : fault_of_load cause ≡ Ok fault
+  pub stopped : Outside
+  pub stops : StopsLoading cap cause old stopped
+  pub says : SaysOnly (fault_line fault) stopped new
+
+-- A store was made of the input in the empty file, and then one line was said. From the last byte written on, and so when any byte of that line
+-- had been said, each image that a crash would have left stands for the first commit, which has the views of the stream.
+pub record LoadsFile (cap : ℕ) (status : Status) (old new : Outside) : Type 0 where
+  pub empty : old.now.disk.seen ≡ []
+  pub looked : Outside
+  pub looks : IsSilent old looked
+  pub count : ℕ
+  pub made : Outside
+  pub loads : LoadsViews max_budget cap looked made (Ok count)
+  pub says : SaysLine (load_line count 1) status made new
+  pub told : (image : List ℕ) (n : ℕ) → Left (moment old) new image n → length old.now.said < n → StandsFor image loads.comes.0.first.next
+  pub crash : (image : List ℕ) (n : ℕ) → Left (moment made) new image n → StandsFor image loads.comes.0.first.next
+
+-- a run that makes a store of the input, in an empty file and in no other
+abbrev pub RanLoading : ℕ → Status → Outside → Outside → Type 0
+RanLoading cap Usage old new = ⊥
+RanLoading cap Refused old new = ((old.now.disk.seen ≢ []) × SaysOnly (fault_line NotEmpty) old new) ⊎ RefusesInput cap old new
+RanLoading cap Memory old new = IsSilent old new ⊎ StopsLoading cap load_fault.Memory old new
+RanLoading cap DiskFault old new = IsSilent old new ⊎ StopsLoading cap load_fault.DiskFailed old new
+RanLoading cap Done old new = LoadsFile cap Done old new
+RanLoading cap TakeFault old new = StopsLoading cap load_fault.TakeFailed old new
+RanLoading cap TooMuch old new = StopsLoading cap load_fault.TooMuch old new
+RanLoading cap SayFault old new = LoadsFile cap SayFault old new
+
 abbrev pub RanAs : List Meaning → Task → Mode → ℕ → Status → Outside → Outside → Type 0
 RanAs viewers Serve mode cap status old new = RanServing viewers mode cap status old new
 RanAs viewers Check mode cap status old new = RanChecking status old new
 RanAs viewers (Sample number edits) mode cap status old new = RanSampling viewers number edits mode cap status old new
+RanAs viewers Save mode cap status old new = RanSaving status old new
+RanAs viewers Load mode cap status old new = RanLoading cap status old new
 
 -- the words ask for a job, and this is what came of it
 pub record RanFor (viewers : List Meaning) (words : List (List ℕ)) (status : Status) (old new : Outside) : Type 0 where
@@ -185,10 +251,10 @@ pub record RanFor (viewers : List Meaning) (words : List (List ℕ)) (status : S
   pub asks : AsksFor words job
   pub ran : RanAs viewers job.task job.mode job.cap status old new
 
--- Where memory is wanting nothing is said, whatever the words.
+-- Where memory is wanting nothing is said, whatever the words: nothing was done, or an input had been taken of which a store is made.
 abbrev pub Ran : List Meaning → List (List ℕ) → Status → Outside → Outside → Type 0
 Ran viewers words Usage old new = (¬ AsksForSome words) × SaysOnly usage_line old new
-Ran viewers words Memory old new = IsSilent old new
+Ran viewers words Memory old new = IsSilent old new ⊎ RanFor viewers words Memory old new
 Ran viewers words Refused old new = RanFor viewers words Refused old new
 Ran viewers words DiskFault old new = RanFor viewers words DiskFault old new
 Ran viewers words Done old new = RanFor viewers words Done old new
@@ -196,18 +262,27 @@ Ran viewers words TakeFault old new = RanFor viewers words TakeFault old new
 Ran viewers words TooMuch old new = RanFor viewers words TooMuch old new
 Ran viewers words SayFault old new = RanFor viewers words SayFault old new
 
--- A file with which nothing is wrong: one that stands for a commit, or to serve lines from an empty one that may be written. A sample is
--- made in an empty one.
+-- A file with which nothing is wrong: one that stands for a commit, or to serve lines from an empty one that may be written. A sample, and
+-- the store of a stream, are made in an empty one.
 abbrev pub MayOpen : Task → Mode → List ℕ → Type 0
 MayOpen Serve mode file = ((file ≡ []) × (mode ≢ Read)) ⊎ ((c : Commit) × StandsFor file c)
 MayOpen Check mode file = (c : Commit) × StandsFor file c
 MayOpen (Sample number edits) mode file = file ≡ []
+MayOpen Save mode file = (c : Commit) × StandsFor file c
+MayOpen Load mode file = file ≡ []
+
+-- an input with which nothing is wrong: any, but where a store is made of it
+abbrev pub MayTake : Task → ℕ → List ℕ → Type 0
+MayTake Load cap input = MayLoad max_budget cap input
+MayTake _ cap input = Unit {0}
 
 -- a sample is made in a store that may be written
 abbrev pub IsWritten : Task → Mode → Type 0
 IsWritten Serve mode = Unit {0}
 IsWritten Check mode = Unit {0}
 IsWritten (Sample number edits) mode = mode ≢ Read
+IsWritten Save mode = Unit {0}
+IsWritten Load mode = Unit {0}
 
 -- A run in which nothing can go wrong but memory: the words are right, the file may be opened, no call fails, and no more bytes come
 -- than may be taken.
@@ -215,6 +290,7 @@ pub record GoesWell (words : List (List ℕ)) (old new : Outside) : Type 0 where
   pub job : Job
   pub right : AsksFor words job
   pub opens : MayOpen job.task job.mode old.now.disk.seen
+  pub comes : MayTake job.task job.cap old.input
   pub disk : ¬ Rose old.disk_faults new.disk_faults
   pub takes : ¬ Rose old.take_faults new.take_faults
   pub says : ¬ Rose old.say_faults new.say_faults

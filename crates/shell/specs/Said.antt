@@ -6,10 +6,19 @@ use Rattle.lines.specs.Lines.{newline}
 use Rattle.lines.specs.Spoken.{IsSaying}
 use Rattle.storage.specs.declared.space.Report.{Report}
 use Rattle.shell.specs.declared.fault.FileFault.{FileFault}
-use Rattle.shell.specs.declared.fault.FileFault.TheVariants.{Empty, NotEmpty, NotAStore, Damaged}
+use Rattle.shell.specs.declared.fault.FileFault.TheVariants.{Empty, NotEmpty, NotAStore, Damaged, BadStream, Full}
 
 abbrev pub usage_line : List ℕ
-usage_line = codes "usage mkshell [--cap N] [--extend] [--read] [--check] [--sample X --count N] FILE" ++ newline ∷ []
+usage_line = codes "usage mkshell [--cap N] [--extend] [--read] [--check] [--sample X --count N] [--save] [--load] FILE" ++ newline ∷ []
+
+-- numbers, each behind a space
+abbrev pub spaced : List ℕ → List ℕ
+spaced [] = []
+spaced (number ∷ numbers) = codes " " ++ (decimal number ++ spaced numbers)
+
+-- a store that would end past its cap
+abbrev pub full_line : ℕ → ℕ → List ℕ
+full_line end cap = codes "refused full" ++ (spaced (end ∷ cap ∷ []) ++ newline ∷ [])
 
 -- why a file is not served
 abbrev pub fault_line : FileFault → List ℕ
@@ -17,15 +26,12 @@ fault_line Empty = codes "refused empty" ++ newline ∷ []
 fault_line NotEmpty = codes "refused notempty" ++ newline ∷ []
 fault_line NotAStore = codes "refused notastore" ++ newline ∷ []
 fault_line (Damaged place) = codes "refused damaged " ++ (decimal place ++ newline ∷ [])
+fault_line (BadStream place) = codes "refused badstream " ++ (decimal place ++ newline ∷ [])
+fault_line (Full end cap) = full_line end cap
 
 -- the greeting names the number of the commit that was opened
 abbrev pub greeting_line : ℕ → List ℕ
 greeting_line number = codes "ok mkshell " ++ (decimal number ++ newline ∷ [])
-
--- numbers, each behind a space
-abbrev pub spaced : List ℕ → List ℕ
-spaced [] = []
-spaced (number ∷ numbers) = codes " " ++ (decimal number ++ spaced numbers)
 
 -- what a file was found to have: the number of its commit, its end, the bytes in use, its views and its blocks
 abbrev pub check_line : Report → List ℕ
@@ -34,6 +40,10 @@ check_line r = codes "ok check" ++ (spaced (r.space.number ∷ r.space.end ∷ r
 -- a sample whose lines were all answered: its edits, the rows of its view, and the number of the last commit
 abbrev pub sample_line : ℕ → ℕ → ℕ → List ℕ
 sample_line edits size number = codes "ok sample" ++ (spaced (edits ∷ size ∷ number ∷ []) ++ newline ∷ [])
+
+-- a store that was made of a stream: its views, and the number of its commit
+abbrev pub load_line : ℕ → ℕ → List ℕ
+load_line views number = codes "ok load" ++ (spaced (views ∷ number ∷ []) ++ newline ∷ [])
 
 -- This front of a line was said and nothing else. At each moment that came a front of the line stood behind what had been said before, and
 -- the disk was as it is. Nothing was taken, and no call failed but one that says.
@@ -46,15 +56,6 @@ pub record Speaks (line front : List ℕ) (old new : Outside) : Type 0 where
   pub disk_faults : new.disk_faults ≡ old.disk_faults
   pub take_faults : new.take_faults ≡ old.take_faults
   pub say_faults : old.say_faults ≤ new.say_faults
-
--- Nothing was said or taken. At each moment that came the bytes said were those before, and no call failed but one of the disk.
-pub record GoesInSilence (old new : Outside) : Type 0 where
-  pub said : new.now.said ≡ old.now.said
-  pub input : new.input ≡ old.input
-  pub moments : Goes (λ at. at.said ≡ old.now.said) old new
-  pub disk_faults : old.disk_faults ≤ new.disk_faults
-  pub take_faults : new.take_faults ≡ old.take_faults
-  pub say_faults : new.say_faults ≡ old.say_faults
 
 -- no moment came: nothing was said, taken or written, and no call failed but one that reads the disk
 pub record IsSilent (old new : Outside) : Type 0 where

@@ -6,7 +6,7 @@ use Rattle.lines.specs.Machine.{Machine, Run, State, Turn}
 use Rattle.lines.specs.Served.{state_of}
 use Rattle.mk_value.specs.Buffer.{Buffer}
 use Rattle.sample.specs.Lines.{BeginsWithVerb}
-use Rattle.shell.specs.Said.{GoesInSilence}
+use Rattle.streaming.specs.Silence.{GoesInSilence}
 
 -- a reply that is a refusal
 abbrev pub is_refusal : List ℕ → Bool

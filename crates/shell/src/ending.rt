@@ -17,7 +17,18 @@ pub(crate) fn say_line<H: Host>(line: &Text, host: &mut H) -> Status
     ensures source { (H.outside host.new).source ≡ (H.outside host.old).source }
     ensures status { (result ≡ Status.Done) ⊎ (result ≡ Status.SayFault) }
 {
-    match say_all(host, line.as_str().as_bytes()) {
+    say_bytes(line.as_str().as_bytes(), host)
+}
+
+/// Says the bytes that a run ends with, and gives its status.
+pub(crate) fn say_bytes<H: Host>(bytes: &[u8], host: &mut H) -> Status
+    ensures says { H.tells → SaysLine bytes.now result (H.outside host.old) (H.outside host.new) }
+    ensures moments { H.tells → Goes (IsSaying bytes.now (H.outside host.old).now) (H.outside host.old) (H.outside host.new) }
+    ensures say_fault { result ≡ Status.SayFault → Rose (H.outside host.old).say_faults (H.outside host.new).say_faults }
+    ensures source { (H.outside host.new).source ≡ (H.outside host.old).source }
+    ensures status { (result ≡ Status.Done) ⊎ (result ≡ Status.SayFault) }
+{
+    match say_all(host, bytes) {
         Ok(()) => Status::Done,
         Err(_) => Status::SayFault,
     }

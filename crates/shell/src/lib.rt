@@ -1,7 +1,7 @@
 //! The top call: from the words of the program and the bytes of its input to the bytes that it says and its status.
 //!
 //! It reads the words, attaches the file, opens its store or makes one, greets, and serves lines with a session; or it looks at a
-//! store as a whole, or makes one by the lines of a sample. Its contract is the promise of the whole program: each status says which
+//! store as a whole, makes one by the lines of a sample, says the stream of one, or makes one of a stream. Its contract is the promise of the whole program: each status says which
 //! bytes were said, and what a crash at any moment would have left.
 #![tactic(auto)]
 
@@ -10,11 +10,13 @@ mod checking;
 mod ending;
 mod fault;
 mod laws;
+mod loading;
 mod own_lines;
 mod refusing;
 mod rooms;
 mod running;
 mod sampling;
+mod saving;
 mod serving;
 mod status;
 

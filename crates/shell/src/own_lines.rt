@@ -1,7 +1,7 @@
 //! The lines that the program says by itself. Each fits the room of a reply.
 ghost use Rattle.std.specs.Prelude.{◌≡◌, ◌≤◌, ◌+◌, ◌++◌, ◌∷◌, [], codes, decimal, length};
 ghost use Rattle.lines.specs.Lines.{newline};
-ghost use Rattle.shell.specs.Said.{check_line, fault_line, greeting_line, sample_line, spaced};
+ghost use Rattle.shell.specs.Said.{check_line, fault_line, full_line, greeting_line, load_line, sample_line, spaced};
 
 use crate::fault::FileFault;
 use mk_value::Text;
@@ -31,6 +31,8 @@ pub(crate) fn write_fault(fault: FileFault, out: &mut Text)
         FileFault::NotEmpty => append("refused notempty\n", out),
         FileFault::NotAStore => append("refused notastore\n", out),
         FileFault::Damaged(place) => write_damage(place, out),
+        FileFault::BadStream(place) => write_bad_stream(place, out),
+        FileFault::Full(end, cap) => write_full(end, cap, out),
     }
 }
 
@@ -40,6 +42,25 @@ fn write_damage(place: u64, out: &mut Text)
 {
     append("refused damaged ", out);
     append_number(place, out);
+    append("\n", out);
+}
+
+fn write_bad_stream(place: u64, out: &mut Text)
+    requires { MAX_OWN_LINE ≤ out.old.spare }
+    ensures bytes { out.new.bytes ≡ out.old.bytes ++ fault_line (FileFault.BadStream place) }
+{
+    append("refused badstream ", out);
+    append_number(place, out);
+    append("\n", out);
+}
+
+fn write_full(end: u64, cap: u64, out: &mut Text)
+    requires { MAX_OWN_LINE ≤ out.old.spare }
+    ensures bytes { out.new.bytes ≡ out.old.bytes ++ full_line end cap }
+{
+    append("refused full", out);
+    append_spaced(end, out);
+    append_spaced(cap, out);
     append("\n", out);
 }
 
@@ -66,6 +87,17 @@ pub(crate) fn write_sample(edits: u32, size: u64, number: u64, out: &mut Text)
     append("ok sample", out);
     append_spaced(u64::from(edits), out);
     append_spaced(size, out);
+    append_spaced(number, out);
+    append("\n", out);
+}
+
+/// Appends that a store was made of a stream.
+pub(crate) fn write_loaded(views: usize, number: u64, out: &mut Text)
+    requires { MAX_OWN_LINE ≤ out.old.spare }
+    ensures bytes { out.new.bytes ≡ out.old.bytes ++ load_line views number }
+{
+    append("ok load", out);
+    append_spaced(views as u64, out);
     append_spaced(number, out);
     append("\n", out);
 }

@@ -12,10 +12,12 @@ ghost use Rattle.shell.specs.Said.{greeting_line};
 
 use crate::checking::check_file;
 use crate::fault::fault_of;
+use crate::loading::load_file;
 use crate::own_lines::write_greeting;
 use crate::refusing::refuse;
 use crate::rooms::Rooms;
 use crate::sampling::{Asked, sample_file};
+use crate::saving::save_file;
 use crate::serving::serve;
 use crate::status::Status;
 use command_line::{Job, Task, WordsError, read_words};
@@ -29,12 +31,14 @@ use viewers::Viewer;
 
 /// What is said where the words are no command line.
 const USAGE: &str =
-    "usage mkshell [--cap N] [--extend] [--read] [--check] [--sample X --count N] FILE\n";
+    "usage mkshell [--cap N] [--extend] [--read] [--check] [--sample X --count N] [--save] [--load] FILE\n";
 
 /// Runs the program. `words` are its own name, options and the name of a file, which is made where it is absent and may be written. The
 /// store of the file is opened, or made where the file is empty; its number is said, and the lines of the input are answered one by
 /// one; their expressions may ask the viewers, of which the first of a name is asked. With `--check` the file is looked at as a whole, and a report is said. A file that is neither empty nor a store is refused, and
 /// left as it is. With `--sample` a store is made in an empty file, the lines of a sample are answered in place of the input's, and one line is said of them; a file that is not empty is refused, and left as it is.
+/// With `--save` the stream of the file's store is said, and nothing else. With `--load` the input is taken to its end as a stream, a store is made
+/// of it in an empty file, and one line is said; a file that is not empty is refused, and left as it is.
 ///
 /// All memory that serving takes for itself is taken before the file is attached.
 pub fn run<H: Host, V: Viewer>(alloc: Global, words: &[&str], viewers: &[V], host: &mut H) -> Status
@@ -58,6 +62,9 @@ pub fn run<H: Host, V: Viewer>(alloc: Global, words: &[&str], viewers: &[V], hos
         → (result ≡ Status.Done) ⊎ (result ≡ Status.Memory) }
 {
     command_line::words_ask_for_one_job();
+    stream_codec::one_stream();
+    stream_codec::a_stream_is_whole();
+    stream_codec::a_wrong_field_stays_wrong();
     match read_words(alloc, words) {
         Ok(job) => run_job(alloc, &job, viewers, host),
         Err(WordsError::Usage) => {
@@ -99,6 +106,8 @@ fn run_job<H: Host, V: Viewer>(alloc: Global, job: &Job, viewers: &[V], host: &m
             };
             sample_file(alloc, asked, viewers, &mut rooms.reply, host)
         }
+        Task::Save => save_file(alloc, &mut rooms.reply, host),
+        Task::Load => load_file(alloc, job.cap, &mut rooms.reply, host),
     }
 }
 

@@ -7,7 +7,7 @@ ghost use Rattle.lines.specs.Rooms.{IsClear};
 ghost use Rattle.lines.specs.Served.{state_of};
 ghost use Rattle.session.specs.Disk.{IsSteady};
 ghost use Rattle.shell.specs.Ran.{IsSampleLine, RanSampling, SamplesFrom};
-ghost use Rattle.shell.specs.Said.{GoesInSilence};
+ghost use Rattle.streaming.specs.Silence.{GoesInSilence};
 ghost use Rattle.shell.specs.Sampled.{IsLineRoom};
 ghost use Rattle.storage.specs.declared.mode.Mode.TheVariants as modes;
 

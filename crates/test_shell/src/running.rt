@@ -32,7 +32,7 @@ const RIGHT: &[&str] = &["mkshell", "f"];
 const QUIT: &[u8] = b"quit\n";
 
 const USAGE: &[u8] =
-    b"usage mkshell [--cap N] [--extend] [--read] [--check] [--sample X --count N] FILE\n";
+    b"usage mkshell [--cap N] [--extend] [--read] [--check] [--sample X --count N] [--save] [--load] FILE\n";
 
 /// No call fails.
 const NEVER: u64 = u64::MAX;
@@ -59,7 +59,22 @@ ok 4064\nerr 10 full 800 608\nok 0\nok commit 6\n";
 
 const SAMPLE: &[&str] = &["mkshell", "--sample", "1", "--count", "0", "f"];
 
-static CASES: [Case; 28] = [
+const LOAD: &[&str] = &["mkshell", "--load", "f"];
+
+/// The stream of `people[name:S,age:I]` with the row `("Ann",31)`.
+const STREAM: &[u8] =
+    b"MKST\x01\0\0\0\x01\0\0\0\x14\0\0\0people[name:S,age:I]\x01\0\0\0\x03\0\0\0Ann\x1f\0\0\0";
+
+/// The same without its last byte, and with one more.
+const SHORT: &[u8] =
+    b"MKST\x01\0\0\0\x01\0\0\0\x14\0\0\0people[name:S,age:I]\x01\0\0\0\x03\0\0\0Ann\x1f\0\0";
+
+const LONG: &[u8] =
+    b"MKST\x01\0\0\0\x01\0\0\0\x14\0\0\0people[name:S,age:I]\x01\0\0\0\x03\0\0\0Ann\x1f\0\0\0\0";
+
+const LOADED: &[u8] = b"ok load 1 1\n";
+
+static CASES: [Case; 47] = [
     (
         RIGHT,
         b"",
@@ -163,6 +178,93 @@ static CASES: [Case; 28] = [
         Status::SayFault,
         b"",
     ),
+    // A stream is loaded into an empty file, however it is cut, and refused at its first wrong field.
+    (LOAD, b"", STREAM, NEVER, 0, Status::Done, LOADED),
+    (LOAD, b"", STREAM, NEVER, 1, Status::Done, LOADED),
+    (LOAD, b"", STREAM, NEVER, 7, Status::Done, LOADED),
+    (
+        LOAD,
+        b"\x00",
+        STREAM,
+        NEVER,
+        0,
+        Status::Refused,
+        b"refused notempty\n",
+    ),
+    (
+        LOAD,
+        b"",
+        SHORT,
+        NEVER,
+        0,
+        Status::Refused,
+        b"refused badstream 47\n",
+    ),
+    (
+        LOAD,
+        b"",
+        LONG,
+        NEVER,
+        1,
+        Status::Refused,
+        b"refused badstream 51\n",
+    ),
+    (
+        LOAD,
+        b"",
+        b"",
+        NEVER,
+        0,
+        Status::Refused,
+        b"refused badstream 0\n",
+    ),
+    (
+        &["mkshell", "--load", "--cap", "352", "f"],
+        b"",
+        STREAM,
+        NEVER,
+        0,
+        Status::Done,
+        LOADED,
+    ),
+    (
+        &["mkshell", "--load", "--cap", "351", "f"],
+        b"",
+        STREAM,
+        NEVER,
+        0,
+        Status::Refused,
+        b"refused full 352 351\n",
+    ),
+    // The file is attached by call 0 and measured by call 1; calls 2 and 3 take the stream and its end; calls 4 and 5 make the store, and its commit has
+    // five writes, a sync, a write and a sync. Call 14 says the line.
+    (LOAD, b"", STREAM, 0, 0, Status::DiskFault, b""),
+    (LOAD, b"", STREAM, 1, 0, Status::DiskFault, b""),
+    (LOAD, b"", STREAM, 2, 0, Status::TakeFault, b""),
+    (LOAD, b"", STREAM, 3, 0, Status::TakeFault, b""),
+    (LOAD, b"", STREAM, 4, 0, Status::DiskFault, b""),
+    (LOAD, b"", STREAM, 6, 0, Status::DiskFault, b""),
+    (LOAD, b"", STREAM, 13, 0, Status::DiskFault, b""),
+    (LOAD, b"", STREAM, 14, 0, Status::SayFault, b""),
+    // Files that are not saved.
+    (
+        &["mkshell", "--save", "f"],
+        b"",
+        QUIT,
+        NEVER,
+        0,
+        Status::Refused,
+        b"refused empty\n",
+    ),
+    (
+        &["mkshell", "--save", "f"],
+        b"\x00",
+        QUIT,
+        NEVER,
+        0,
+        Status::Refused,
+        b"refused notastore\n",
+    ),
     // The same lines, however they are cut.
     (RIGHT, b"", CUT, NEVER, 1, Status::Done, SAID),
     (RIGHT, b"", CUT, NEVER, 2, Status::Done, SAID),
@@ -213,5 +315,26 @@ fn a_budget_is_kept(rt: HostRuntime) -> Result<(), Fail> {
     let mut host = host(rt.alloc(), b"", b"size\nquit\n", &[])?;
     assert_eq!(rt; serve_five(rt.alloc(), &mut host)?, Status::TooMuch);
     assert_eq!(rt; host.said(), b"err 2 syntax 4\n".as_slice());
+    Ok(())
+}
+
+/// What a run with `--save` says of this file.
+fn saved(rt: &impl Abort, alloc: Global, file: &[u8]) -> Result<Bytes, Fail> {
+    let mut host = host(alloc, file, b"", &[])?;
+    assert_eq!(rt;
+        run(alloc, &["mkshell", "--save", "f"], &mut host),
+        Status::Done
+    );
+    assert_eq!(rt; host.image(), file);
+    Ok(Bytes::from_slice(alloc, host.said())?)
+}
+
+/// What is loaded is said again.
+#[test]
+fn a_stream_comes_back(rt: HostRuntime) -> Result<(), Fail> {
+    let mut made = host(rt.alloc(), b"", STREAM, &[])?;
+    assert_eq!(rt; run(rt.alloc(), LOAD, &mut made), Status::Done);
+    let stream = saved(&rt, rt.alloc(), made.image())?;
+    assert_eq!(rt; stream.as_slice(), STREAM);
     Ok(())
 }

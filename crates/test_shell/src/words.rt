@@ -11,7 +11,7 @@ type Asked = (&'static [&'static str], &'static str, Mode, u64, Task);
 /// The cap that is meant where none is given.
 const MOST: u64 = 2_147_483_632;
 
-static ASKED: [Asked; 27] = [
+static ASKED: [Asked; 31] = [
     (&["f"], "f", Mode::Write, MOST, Task::Serve),
     (&["--extend", "f"], "f", Mode::Extend, MOST, Task::Serve),
     (&["--read", "f"], "f", Mode::Read, MOST, Task::Serve),
@@ -79,6 +79,23 @@ static ASKED: [Asked; 27] = [
             count: 2000,
         },
     ),
+    // The stream of a store, and a store of a stream, which may have a cap.
+    (&["--save", "f"], "f", Mode::Read, MOST, Task::Save),
+    (&["f", "--load"], "f", Mode::Write, MOST, Task::Load),
+    (
+        &["--load", "--cap", "300", "f"],
+        "f",
+        Mode::Write,
+        300,
+        Task::Load,
+    ),
+    (
+        &["--cap=208", "f", "--load"],
+        "f",
+        Mode::Write,
+        208,
+        Task::Load,
+    ),
     // What stands behind `--` is no option.
     (&["--", "f"], "f", Mode::Write, MOST, Task::Serve),
     (&["--", "--read"], "--read", Mode::Write, MOST, Task::Serve),
@@ -102,7 +119,7 @@ static ASKED: [Asked; 27] = [
 ];
 
 /// Words behind the program's own name that ask for nothing.
-static ASK_NOTHING: [&[&str]; 61] = [
+static ASK_NOTHING: [&[&str]; 75] = [
     // No file, an empty name, and two files.
     &[],
     &["--read"],
@@ -165,6 +182,21 @@ static ASK_NOTHING: [&[&str]; 61] = [
     &["--sample", "-1", "--count", "1", "f"],
     &["--sample", "1", "--count", "01", "f"],
     &["--sample", "1", "--sample", "1", "--count", "1", "f"],
+    // A stream with what it does not go with.
+    &["--save", "--load", "f"],
+    &["--save", "--check", "f"],
+    &["--check", "--load", "f"],
+    &["--save", "--check", "--load", "f"],
+    &["--save", "--read", "f"],
+    &["--save", "--extend", "f"],
+    &["--save", "--cap", "300", "f"],
+    &["--load", "--read", "f"],
+    &["--load", "--extend", "f"],
+    &["--save", "--sample", "1", "--count", "1", "f"],
+    &["--load", "--sample", "1", "--count", "1", "f"],
+    &["--save", "--save", "f"],
+    &["--load=1", "f"],
+    &["--load"],
     // Help, the version, and options that are not there.
     &["--help", "f"],
     &["-h"],

@@ -1,5 +1,5 @@
 //! Tests of a store over its file: commits and the places of their blocks, notes, the commit before, refusals, and what each failing call
-//! and each crash leaves, over the host in memory.
+//! and each crash leaves, over the host in memory; and streams of views.
 //!
 //! They stand above the crate that they test, since a crate with tests in it is proved once more with them. Most are data: calls of a
 //! store, and what each answers.
@@ -23,6 +23,8 @@ mod notes;
 mod refusals;
 #[cfg(test)]
 mod spaces;
+#[cfg(test)]
+mod streams;
 #[cfg(test)]
 mod texts;
 #[cfg(test)]

@@ -14,4 +14,6 @@ returns c =
     let four = c.in_ok-arg-4.ensures.shape c.flag-3.ensures.local ∙ ap₂ with_rule three c.flag-3.ensures.rule in
     let five = c.in_ok-arg-5.ensures.shape c.option-2.ensures.local ∙ ap₂ with_rule four c.option-2.ensures.rule in
     let six = c.in_ok-arg-6.ensures.shape c.option-3.ensures.local ∙ ap₂ with_rule five c.option-3.ensures.rule in
-    IfOk-weaker c.arg-7.result _ _ (λ whole added. added.shape c.word.ensures.local ∙ ap₂ with_rule six c.word.ensures.rule) c.arg-7.ensures
+    let seven = c.in_ok-arg-7.ensures.shape c.flag-4.ensures.local ∙ ap₂ with_rule six c.flag-4.ensures.rule in
+    let eight = c.in_ok-arg-8.ensures.shape c.flag-5.ensures.local ∙ ap₂ with_rule seven c.flag-5.ensures.rule in
+    IfOk-weaker c.arg-9.result _ _ (λ whole added. added.shape c.word.ensures.local ∙ ap₂ with_rule eight c.word.ensures.rule) c.arg-9.ensures

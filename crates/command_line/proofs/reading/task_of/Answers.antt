@@ -8,7 +8,7 @@ use Rattle.command_line.specs.declared.job.Task.{Task}
 use Rattle.command_line.proofs.Found.{none_found, text_found}
 use Rattle.command_line.proofs.Tasks.{no_sample, numbered_alone, sampled, some_sample}
 use Rattle.command_line.proofs.reading.task_of.Goals as goal
-use Rattle.command_line.proofs.reading.task_of.Goals.{then-is_given-via-then-is_given, then-is_given-via-else-is_given+then-is_given-2}
+use Rattle.command_line.proofs.reading.task_of.Goals.{then-is_given-via-then-is_given, then-is_given-via-else-is_given+then-is_flagged}
 
 pub returns-in_default-clause-some : goal.returns-in_default-clause-some
 returns-in_default-clause-some c =
@@ -39,7 +39,7 @@ returns-then-is_given-clause-none c = λ task means.
     (text_found found (codes "count") c.get_str-2.result c.get_str-2.ensures c.in_ok-count.count c.in_ok-count.was) task means in
     elim c.then-is_given.branch [
       | then-is_given-via-then-is_given w ↦ false≢true (sym asked.1 ∙ (sym c.is_given.ensures ∙ w.if-is_given.true))
-      | then-is_given-via-else-is_given+then-is_given-2 w ↦ false≢true (sym asked.2 ∙ (sym w.is_given-else-is_given.ensures ∙ w.if-is_given-2.true))
+      | then-is_given-via-else-is_given+then-is_flagged w ↦ false≢true (sym asked.2 ∙ (sym w.is_flagged.ensures ∙ w.if-is_flagged.true))
     ]
 
 pub returns-clause-some : goal.returns-clause-some
@@ -49,7 +49,7 @@ returns-clause-some c =
     some_sample rows (first_of (codes "sample") rows) (first_of (codes "count") rows) c.in-Some.number.now c.in_ok-count.count.now
     (text_found found (codes "sample") c.get_str.result c.get_str.ensures c.in-Some.number c.in-Some.is)
     (text_found found (codes "count") c.get_str-2.result c.get_str-2.ensures c.in_ok-count.count c.in_ok-count.was)
-    c.sample_of.result (sym c.is_given.ensures ∙ c.if-is_given.false) (sym c.is_given-else-is_given.ensures ∙ c.if-is_given-2.false) c.sample_of.ensures.some
+    c.sample_of.result (sym c.is_given.ensures ∙ c.if-is_given.false) (sym c.is_flagged.ensures ∙ c.if-is_flagged.false) c.sample_of.ensures.some
 
 pub returns-clause-none : goal.returns-clause-none
 returns-clause-none c =

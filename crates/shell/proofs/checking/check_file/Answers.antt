@@ -2,7 +2,7 @@ use Rattle.std.proofs.Common.{sym, subst, ◌∙◌}
 use Rattle.storage.specs.declared.mode.Mode.TheVariants.{Read}
 use Rattle.shell.specs.Ran.{RanChecking}
 use Rattle.shell.specs.declared.status.Status.{Status}
-use Rattle.shell.proofs.Saying.{checked, refuses_file, silent_looks, unchecked}
+use Rattle.shell.proofs.Saying.{checked, refuses_file, silent_looks, unread}
 use Rattle.shell.proofs.checking.check_file.Goals as goal
 
 pub returns-in-Ok-fault_of-clause-ran : goal.returns-in-Ok-fault_of-clause-ran
@@ -25,4 +25,5 @@ returns-in-Err-fault_of-clause-ran g c = λ tells.
     let e = c.in-Err.ensures in
     let old = g.H.Disk.outside c.args.host.now in
     let new = g.H.Disk.outside c.check_store.new.host in
-    unchecked c.in-Err.error c.in-Err-fault_of.status old new (sym c.fault_of.ensures ∙ c.in-Err-fault_of.is) (silent_looks _ old new (e.same tells) e.counts)
+    let silent = silent_looks _ old new (e.same tells) e.counts in
+    unread (λ (s : Status). RanChecking s old new) c.in-Err.error c.in-Err-fault_of.status (sym c.fault_of.ensures ∙ c.in-Err-fault_of.is) silent silent

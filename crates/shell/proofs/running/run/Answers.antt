@@ -13,7 +13,12 @@ returns-in-Ok-clause-complete g c = λ tells.
     let old = g.H.Disk.outside c.args.host.now in
     let new = g.H.Disk.outside c.run_job.new.host in
     let e = c.run_job.ensures in
-    completes (map g.V.Viewer.meaning c.args.viewers.now) words c.run_job.result old new (λ one other. c.words_ask_for_one_job.ensures words one other)
+    completes (record {
+      wrong = c.a_stream_is_whole.ensures.wrong;
+      cut = c.a_stream_is_whole.ensures.cut;
+      one = c.one_stream.ensures;
+      stays = c.a_wrong_field_stays_wrong.ensures;
+    }) (map g.V.Viewer.meaning c.args.viewers.now) words c.run_job.result old new (λ one other. c.words_ask_for_one_job.ensures words one other)
     (ran_job (map g.V.Viewer.meaning c.args.viewers.now) words c.in-Ok.job c.run_job.result old new c.in-Ok.ensures.ok e.right (e.ran tells)) e.take_fault e.say_fault e.disk_fault
 
 pub returns-in-Err-Usage-clause-ran : goal.returns-in-Err-Usage-clause-ran

@@ -1,0 +1,13 @@
+pub mod Feeding
+pub mod Fields
+pub mod Inners
+pub mod Loading
+pub mod Progress
+pub mod Progressing
+pub mod RowsInPlace
+pub mod Settling
+pub mod Stages
+pub mod Steps
+pub mod Stream
+pub mod Values
+pub mod ViewProgress

@@ -1,0 +1,78 @@
+-- What is known of an input that is taken piece by piece.
+use Rattle.std.proofs.Common.{◌≡◌, ℕ, ◌≤◌, List, [], ◌∷◌, ◌++◌, length, Result, Err, inl, refl, sym, ap, subst, ◌∙◌, append_assoc, take, slice_index, arith, append-nil, inr}
+use Rattle.host_io.specs.Calls.{CountsTake, StandsStill}
+use Rattle.host_io.specs.Outside.{Outside}
+use Rattle.stream_codec.specs.Fields.{IsCutOffAt, IsRefusedFor, IsWrongAt, MayGoOn, all_due, stays}
+use Rattle.stream_codec.specs.declared.error.LoadError.{LoadError}
+use Rattle.stream_codec.specs.declared.error.LoadError.TheVariants as load_error
+use Rattle.streaming.specs.Causes.{fault_of_stream}
+use Rattle.streaming.specs.Taking.{ComesOfEnd, ComesOfInput, HasTaken, TakesOnly, TakesTooMuch}
+use Rattle.streaming.specs.declared.error.LoadFault.{LoadFault}
+use Rattle.streaming.specs.declared.error.LoadFault.TheVariants.{BadStream, TooMuch, TakeFailed, Full, DiskFailed, Memory}
+
+-- nothing was taken yet
+pub takes_none : (outside : Outside) → TakesOnly [] outside outside
+takes_none outside = record { came = refl; still = record { now = refl; past = refl }; disk_faults = refl; take_faults = omega arith; say_faults = refl }
+
+-- A further call of the input, which brought these bytes, or none.
+module _ {T E : Type 0} {result : Result T E} (taken more : List ℕ) (begin mid new : Outside) (so : TakesOnly taken begin mid) (came : mid.input ≡ more ++ new.input) (still : StandsStill mid new)
+    (counts : CountsTake mid new result) where
+  pub takes_more : TakesOnly (taken ++ more) begin new
+  takes_more =
+      let first = so.take_faults in let then = counts.takes.later in
+      record {
+        came = so.came ∙ ap (λ (l : List ℕ). taken ++ l) came ∙ sym (append_assoc taken more new.input);
+        still = record { now = still.now ∙ so.still.now; past = still.past ∙ so.still.past };
+        disk_faults = counts.disk ∙ so.disk_faults;
+        take_faults = omega arith;
+        say_faults = counts.says ∙ so.say_faults;
+      }
+
+-- one byte more than the budget came
+pub too_much : {T E : Type 0} {result : Result T E} (budget byte : ℕ) (taken more : List ℕ) (begin mid new : Outside) → HasTaken budget 0 taken begin mid → more ≡ byte ∷ [] → mid.input ≡ more ++ new.input
+    → StandsStill mid new → CountsTake mid new result → TakesTooMuch budget begin new
+too_much budget byte taken more begin mid new so is came still counts = record {
+  front = taken;
+  byte = byte;
+  takes = subst (λ (l : List ℕ). TakesOnly (taken ++ l) begin new) is (takes_more taken more begin mid new so.takes came still counts);
+  full = let all = so.budget_is in omega (arith, all);
+  right = so.right;
+}
+
+-- what was taken is refused
+pub refused_piece : (budget : ℕ) (taken : List ℕ) (begin new : Outside) (error : LoadError) → TakesOnly taken begin new → length taken ≤ budget → IsRefusedFor taken error → ComesOfInput budget begin new (Err (fault_of_stream error))
+refused_piece budget taken begin new (load_error.At place) takes within wrong = record { taken = taken; takes = takes; within = within; bad = inl wrong }
+refused_piece budget taken begin new load_error.Memory takes within wrong = record { taken = taken; takes = takes }
+
+-- no field of no bytes is wrong
+pub nothing_wrong : ((bytes : List ℕ) (one two : ℕ) → IsWrongAt bytes one → IsCutOffAt bytes two → ⊥) → MayGoOn []
+nothing_wrong apart place wrong = apart [] place 0 wrong (record { due = all_due; before = stays all_due []; within = omega arith; there = omega arith })
+
+-- a byte that came alone
+pub one_byte : (n : ℕ) (piece : List ℕ) → length piece ≡ 1 → n ≤ 1 → (n ≡ 0 → ⊥) → take n piece ≡ slice_index piece 0 ∷ []
+one_byte n [] long few some = absurd (omega (arith, long))
+one_byte n (byte ∷ []) long few some =
+    let one : n ≡ 1 = not_none n few some in
+    ap (λ (m : ℕ). take m (byte ∷ [])) one
+  where
+    not_none : (m : ℕ) → m ≤ 1 → (m ≡ 0 → ⊥) → m ≡ 1
+    not_none m few some = grind (arith, few, some)
+one_byte n (byte ∷ other ∷ rest) long few some = absurd (omega (arith, long))
+
+pub has_left : (budget left other : ℕ) (taken : List ℕ) (begin now : Outside) → left ≡ other → HasTaken budget left taken begin now → HasTaken budget other taken begin now
+has_left budget left other taken begin now is so = subst (λ (n : ℕ). HasTaken budget n taken begin now) is so
+
+-- the input ended, and what was taken is no whole stream
+pub ended : {T E : Type 0} {result : Result T E} (budget : ℕ) (taken : List ℕ) (begin mid new : Outside) (fault : LoadFault) → TakesOnly taken begin mid → length taken ≤ budget → mid.input ≡ new.input → new.input ≡ []
+    → StandsStill mid new → CountsTake mid new result → ComesOfEnd taken (Err fault) → ComesOfInput budget begin new (Err fault)
+ended budget taken begin mid new fault so within came over still counts comes =
+    let takes : TakesOnly taken begin new = subst (λ (l : List ℕ). TakesOnly l begin new) (append-nil taken) (takes_more taken [] begin mid new so came still counts) in
+    by_fault fault takes comes
+  where
+    by_fault : (e : LoadFault) → TakesOnly taken begin new → ComesOfEnd taken (Err e) → ComesOfInput budget begin new (Err e)
+    by_fault (BadStream place) takes cut = record { taken = taken; takes = takes; within = within; bad = inr (over, cut) }
+    by_fault Memory takes comes = record { taken = taken; takes = takes }
+    by_fault TooMuch takes comes = absurd comes
+    by_fault TakeFailed takes comes = absurd comes
+    by_fault (Full end cap) takes comes = absurd comes
+    by_fault DiskFailed takes comes = absurd comes
