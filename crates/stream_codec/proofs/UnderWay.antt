@@ -4,13 +4,13 @@ use Rattle.std.proofs.lemmas.List.{append-nil, append_assoc, drop_all}
 use Rattle.std.proofs.lemmas.Grind.{flat_map-append}
 use Rattle.std.specs.List.{flat_map}
 use Rattle.byteorder.specs.Endian.{little_bytes}
-use Rattle.mk_value.specs.Data.{Datum, relation, relation_of, tuple_of}
+use Rattle.mk_value.specs.Data.{Datum, relation, relation_of}
 use Rattle.mk_value.specs.Heading.{Attribute, Domain, heading_of}
 use Rattle.mk_value.specs.Tables.{domain_at}
-use Rattle.mk_value.proofs.Relations.{rows_of-relation_of}
 use Rattle.stream_codec.specs.Fields.{row_due, rows_due, value_due}
 use Rattle.stream_codec.specs.Progress.{TableProgress, due_behind, due_from, due_of, next_domain, progress_at_start, spelled_of, spelled_row, with_next, with_row_ended}
-use Rattle.stream_codec.specs.Stream.{spelled_tuple, spelled_tuples, spelled_value}
+use Rattle.stream_codec.specs.Stream.{spelled_value}
+use Rattle.stream_codec.proofs.ValueFields.{spelled_rows_are}
 
 abbrev no_attribute : Attribute
 no_attribute = record { name = []; domain = Domain.integer }
@@ -54,21 +54,6 @@ spelled_row_ended t left more =
     ∙ ap (λ (l : List ℕ). little_bytes 4 (length t.rows + 1 + t.left) ++ l)
     (append-nil (flat_map spelled_row (t.rows ++ t.row ∷ [])) ∙ flat_map-append spelled_row t.rows (t.row ∷ []) ∙ ap (λ (l : List ℕ). flat_map spelled_row t.rows ++ l) (append-nil (spelled_row t.row)))
 
--- rows as they are spelled in a value
-pub spelled_tuple-tuple_of : (row : List Datum) → spelled_tuple (tuple_of row) ≡ spelled_row row
-spelled_tuple-tuple_of [] = refl
-spelled_tuple-tuple_of (d ∷ row) = ap (λ (l : List ℕ). spelled_value d ++ l) (spelled_tuple-tuple_of row)
-
-pub spelled_tuples-relation_of : (rows : List (List Datum)) → spelled_tuples (relation_of rows) ≡ flat_map spelled_row rows
-spelled_tuples-relation_of [] = refl
-spelled_tuples-relation_of (row ∷ rows) =
-    ap (λ (l : List ℕ). l ++ spelled_tuples (relation_of rows)) (spelled_tuple-tuple_of row) ∙ ap (λ (l : List ℕ). spelled_row row ++ l) (spelled_tuples-relation_of rows)
-
-pub spelled_relation : (rows : List (List Datum)) → spelled_value (relation (relation_of rows)) ≡ little_bytes 4 (length rows) ++ flat_map spelled_row rows
-spelled_relation rows =
-    ap (λ (r : List (List Datum)). little_bytes 4 (length r) ++ spelled_tuples (relation_of rows)) (rows_of-relation_of rows)
-    ∙ ap (λ (l : List ℕ). little_bytes 4 (length rows) ++ l) (spelled_tuples-relation_of rows)
-
 -- the last row
 pub due_all_rows : (t : TableProgress) → length t.schema ≤ length t.row → t.left ≡ 0 → due_of t ≡ []
 due_all_rows t whole none = due_whole_row t whole ∙ ap (λ (n : ℕ). rows_due n (heading_of t.schema)) none
@@ -77,7 +62,7 @@ pub spelled_all_rows : (t : TableProgress) → t.left ≡ 0 → spelled_value (r
 spelled_all_rows t none =
     let rows = t.rows ++ t.row ∷ [] in
     let long = length-append t.rows (t.row ∷ []) in
-    spelled_relation rows
+    spelled_rows_are rows
     ∙ ap (λ (n : ℕ). little_bytes 4 n ++ flat_map spelled_row rows) (let e : length rows ≡ length t.rows + 1 + t.left = omega (arith, long, none) in e)
     ∙ ap (λ (l : List ℕ). little_bytes 4 (length t.rows + 1 + t.left) ++ l)
     (flat_map-append spelled_row t.rows (t.row ∷ []) ∙ ap (λ (l : List ℕ). flat_map spelled_row t.rows ++ l) (append-nil (spelled_row t.row)))

@@ -1,6 +1,5 @@
 //! Views that are filled row by row.
-ghost use Rattle.std.specs.Prelude.{◌≡◌, ◌<◌, ◌≤◌, [], ◌∷◌, ◌++◌, length, Some, None, IfErr, IfOk, OnOk};
-ghost use Rattle.mk_value.specs.Kinds.{domain_of};
+ghost use Rattle.std.specs.Prelude.{◌≡◌, ◌<◌, [], ◌∷◌, ◌++◌, length, Some, None, IfErr, IfOk, OnOk};
 ghost use Rattle.stream_codec.specs.Fields.{field_len, value_due};
 ghost use Rattle.stream_codec.specs.Progress.{next_domain};
 ghost use Rattle.stream_codec.specs.Steps.{Refuses};

@@ -1,5 +1,5 @@
 //! Fields taken one after another.
-ghost use Rattle.std.specs.Prelude.{◌≡◌, ◌+◌, ◌^◌, ◌<◌, ◌≤◌, [], length, drop, IfErr, IfOk, OnOk};
+ghost use Rattle.std.specs.Prelude.{◌+◌, ◌^◌, ◌<◌, length, IfErr, IfOk, OnOk};
 ghost use Rattle.stream_codec.specs.Loading.{Reaches, ReachesAlong, due_after};
 ghost use Rattle.stream_codec.specs.Progressing.{RefusesAlong};
 ghost use Rattle.stream_codec.specs.Stages.{IsLoading, IsNextLen};

@@ -1,5 +1,5 @@
-//! How far a stream has come.
-ghost use Rattle.std.specs.Prelude.{◌≡◌, ◌⊎◌, ◌↔◌, ◌+◌, ◌<◌, ◌≤◌, [], List, ℕ, length, ◌^◌, All, IfErr, IfOk, IsTrue, OnOk, MatchOption, MatchResult};
+//! What is due of a stream, and how it is taken.
+ghost use Rattle.std.specs.Prelude.{◌≡◌, ◌⊎◌, ◌↔◌, ◌+◌, ◌<◌, [], List, ℕ, length, ◌^◌, IfErr, IfOk, IsTrue, OnOk, MatchOption, MatchResult};
 ghost use Rattle.mk_value.specs.Heading.{Attribute};
 ghost use Rattle.struct_text.specs.Spelling.{Spells};
 ghost use Rattle.stream_codec.specs.declared.error.LoadError.TheVariants as load_error;
@@ -21,7 +21,7 @@ use std::mem;
 use struct_text::{StructError, parse};
 use view_store::{Root, empty_table};
 
-/// How far a stream has come: what is due next. The views that came whole stand in a root beside it.
+/// What is due next of a stream. The views that came whole stand in a root beside it.
 #[derive(Drop)]
 pub(crate) enum Stage {
     /// The opening.

@@ -1,12 +1,11 @@
 //! The fields of a row.
-ghost use Rattle.std.specs.Prelude.{◌≡◌, ◌+◌, ◌<◌, ◌^◌, ◌∷◌, ◌++◌, List, length, MatchResult};
-ghost use Rattle.byteorder.specs.Endian.{little_bytes};
-ghost use Rattle.mk_value.specs.Data.{Datum, IsOf};
+ghost use Rattle.std.specs.Prelude.{◌≡◌, ◌<◌, ◌∷◌, List, length, MatchResult};
+ghost use Rattle.mk_value.specs.Data.{Datum};
 ghost use Rattle.mk_value.specs.Heading.{Domain};
 ghost use Rattle.mk_value.specs.Kinds.{domain_of};
 ghost use Rattle.mk_value.specs.Values.{datum_of};
-ghost use Rattle.stream_codec.specs.Fields.{Due, content, field_len, number_of_field, value_due};
-ghost use Rattle.stream_codec.specs.Steps.{Leads, Refuses};
+ghost use Rattle.stream_codec.specs.Fields.{Due, content, field_len, value_due};
+ghost use Rattle.stream_codec.specs.Steps.{Refuses};
 ghost use Rattle.stream_codec.specs.Stream.{spelled_value};
 ghost use Rattle.stream_codec.specs.Values.{AwaitsContent, IsContentOf, IsRelation, Says};
 
