@@ -76,9 +76,10 @@ pub record StreamLaws : Type 0 where
 module _ (laws : StreamLaws) (cap : ℕ) (input : List ℕ) (may : MayLoad max_budget cap input) where
   no_bad_stream : (place : ℕ) (old new : Outside) → old.input ≡ input → TakesBadStream max_budget place old new → ⊥
   no_bad_stream place old new is bad = elim bad.bad [
-    | inl wrong ↦ laws.wrong input may.views place may.stream (subst (λ (bytes : List ℕ). IsWrongAt bytes place) (sym bad.takes.came ∙ is) (laws.stays bad.taken new.input place wrong))
+    | inl wrong ↦ laws.wrong input may.views place may.stream (subst (λ (bytes : List ℕ). IsWrongAt bytes place) (sym bad.takes.came ∙ is) (laws.stays (bad.front ++ bad.last) new.input place wrong))
     | inr (over, cut) ↦
-        let all : bad.taken ≡ input = sym (append-nil bad.taken) ∙ ap (λ (l : List ℕ). bad.taken ++ l) (sym over) ∙ sym bad.takes.came ∙ is in
+        let taken = bad.front ++ bad.last in
+        let all : taken ≡ input = sym (append-nil taken) ∙ ap (λ (l : List ℕ). taken ++ l) (sym over) ∙ sym bad.takes.came ∙ is in
         laws.cut input may.views place may.stream (subst (λ (bytes : List ℕ). IsCutOffAt bytes place) all cut)
   ]
 

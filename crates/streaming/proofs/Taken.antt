@@ -1,12 +1,13 @@
 -- What is known of an input that is taken piece by piece.
-use Rattle.std.proofs.Common.{◌≡◌, ℕ, ◌≤◌, List, [], ◌∷◌, ◌++◌, length, Result, Err, inl, refl, sym, ap, subst, ◌∙◌, append_assoc, take, slice_index, arith, append-nil, inr}
+use Rattle.std.proofs.Common.{◌≡◌, ℕ, ◌≤◌, List, [], ◌∷◌, ◌++◌, length, Result, Ok, Err, inl, refl, sym, ap, subst, ◌∙◌, append_assoc, take, slice_index, arith, append-nil, inr}
 use Rattle.host_io.specs.Calls.{CountsTake, StandsStill}
 use Rattle.host_io.specs.Outside.{Outside}
-use Rattle.stream_codec.specs.Fields.{IsCutOffAt, IsRefusedFor, IsWrongAt, MayGoOn, all_due, stays}
+use Rattle.stream_codec.specs.Fields.{all_due, IsCutOffAt, IsRefusedFor, IsWrongAt, MayGoOn, stays}
 use Rattle.stream_codec.specs.declared.error.LoadError.{LoadError}
 use Rattle.stream_codec.specs.declared.error.LoadError.TheVariants as load_error
+use Rattle.view_store.specs.Views.{NamedTable}
 use Rattle.streaming.specs.Causes.{fault_of_stream}
-use Rattle.streaming.specs.Taking.{ComesOfEnd, ComesOfInput, HasTaken, TakesOnly, TakesTooMuch}
+use Rattle.streaming.specs.Taking.{ComesOfEnd, ComesOfInput, HasTaken, max_piece, TakesOnly, TakesTooMuch}
 use Rattle.streaming.specs.declared.error.LoadFault.{LoadFault}
 use Rattle.streaming.specs.declared.error.LoadFault.TheVariants.{BadStream, TooMuch, TakeFailed, Full, DiskFailed, Memory}
 
@@ -40,9 +41,10 @@ too_much budget byte taken more begin mid new so is came still counts = record {
 }
 
 -- what was taken is refused
-pub refused_piece : (budget : ℕ) (taken : List ℕ) (begin new : Outside) (error : LoadError) → TakesOnly taken begin new → length taken ≤ budget → IsRefusedFor taken error → ComesOfInput budget begin new (Err (fault_of_stream error))
-refused_piece budget taken begin new (load_error.At place) takes within wrong = record { taken = taken; takes = takes; within = within; bad = inl wrong }
-refused_piece budget taken begin new load_error.Memory takes within wrong = record { taken = taken; takes = takes }
+pub refused_piece : (budget : ℕ) (front last : List ℕ) (begin new : Outside) (error : LoadError) → TakesOnly (front ++ last) begin new → length (front ++ last) ≤ budget → MayGoOn front → length last ≤ max_piece
+    → IsRefusedFor (front ++ last) error → ComesOfInput budget begin new (Err (fault_of_stream error))
+refused_piece budget front last begin new (load_error.At place) takes within right piece wrong = record { front = front; last = last; takes = takes; within = within; right = right; piece = piece; bad = inl wrong }
+refused_piece budget front last begin new load_error.Memory takes within right piece wrong = record { taken = front ++ last; takes = takes }
 
 -- no field of no bytes is wrong
 pub nothing_wrong : ((bytes : List ℕ) (one two : ℕ) → IsWrongAt bytes one → IsCutOffAt bytes two → ⊥) → MayGoOn []
@@ -63,16 +65,36 @@ pub has_left : (budget left other : ℕ) (taken : List ℕ) (begin now : Outside
 has_left budget left other taken begin now is so = subst (λ (n : ℕ). HasTaken budget n taken begin now) is so
 
 -- the input ended, and what was taken is no whole stream
-pub ended : {T E : Type 0} {result : Result T E} (budget : ℕ) (taken : List ℕ) (begin mid new : Outside) (fault : LoadFault) → TakesOnly taken begin mid → length taken ≤ budget → mid.input ≡ new.input → new.input ≡ []
+pub ended : {T E : Type 0} {result : Result T E} (budget : ℕ) (taken : List ℕ) (begin mid new : Outside) (fault : LoadFault) → TakesOnly taken begin mid → length taken ≤ budget → MayGoOn taken → mid.input ≡ new.input → new.input ≡ []
     → StandsStill mid new → CountsTake mid new result → ComesOfEnd taken (Err fault) → ComesOfInput budget begin new (Err fault)
-ended budget taken begin mid new fault so within came over still counts comes =
-    let takes : TakesOnly taken begin new = subst (λ (l : List ℕ). TakesOnly l begin new) (append-nil taken) (takes_more taken [] begin mid new so came still counts) in
-    by_fault fault takes comes
+ended budget taken begin mid new fault so within right came over still counts comes = by_fault fault (takes_more taken [] begin mid new so came still counts) comes
   where
-    by_fault : (e : LoadFault) → TakesOnly taken begin new → ComesOfEnd taken (Err e) → ComesOfInput budget begin new (Err e)
-    by_fault (BadStream place) takes cut = record { taken = taken; takes = takes; within = within; bad = inr (over, cut) }
-    by_fault Memory takes comes = record { taken = taken; takes = takes }
+    by_fault : (e : LoadFault) → TakesOnly (taken ++ []) begin new → ComesOfEnd taken (Err e) → ComesOfInput budget begin new (Err e)
+    by_fault (BadStream place) takes cut =
+        let all = append-nil taken in
+        record {
+          front = taken;
+          last = [];
+          takes = takes;
+          within = subst (λ (l : List ℕ). length l ≤ budget) (sym all) within;
+          right = right;
+          piece = omega arith;
+          bad = inr (over, subst (λ (l : List ℕ). IsCutOffAt l place) (sym all) cut);
+        }
+    by_fault Memory takes comes = record { taken = taken ++ []; takes = takes }
     by_fault TooMuch takes comes = absurd comes
     by_fault TakeFailed takes comes = absurd comes
     by_fault (Full end cap) takes comes = absurd comes
     by_fault DiskFailed takes comes = absurd comes
+
+-- what the end of the input says of all that was taken
+pub ended_as : {T E : Type 0} {result : Result T E} (budget : ℕ) (taken : List ℕ) (begin mid new : Outside) (end : Result (List NamedTable) LoadFault) → TakesOnly taken begin mid → length taken ≤ budget → MayGoOn taken → mid.input ≡ new.input
+    → new.input ≡ [] → StandsStill mid new → CountsTake mid new result → ComesOfEnd taken end → ComesOfInput budget begin new end
+ended_as budget taken begin mid new (Ok views) so within right came over still counts stream = record {
+  taken = taken;
+  takes = subst (λ (l : List ℕ). TakesOnly l begin new) (append-nil taken) (takes_more taken [] begin mid new so came still counts);
+  over = over;
+  within = within;
+  stream = stream;
+}
+ended_as budget taken begin mid new (Err fault) so within right came over still counts comes = ended budget taken begin mid new fault so within right came over still counts comes

@@ -27,13 +27,21 @@ pub record TakesStream (budget : ℕ) (views : List NamedTable) (old new : Outsi
   pub within : length taken ≤ budget
   pub stream : IsStream taken views
 
+-- the most bytes that one take asks for
+abbrev pub max_piece : ℕ
+max_piece = 65_536
+
 -- A field of the bytes that were taken is not as required, and this is the place of the first such; or they are the whole input, and end
--- within the field at this place, or before it.
+-- within the field at this place, or before it. Each field that stood whole before the last piece came is as required, so nothing was taken
+-- behind the piece with the wrong one.
 pub record TakesBadStream (budget place : ℕ) (old new : Outside) : Type 0 where
-  pub taken : List ℕ
-  pub takes : TakesOnly taken old new
-  pub within : length taken ≤ budget
-  pub bad : IsWrongAt taken place ⊎ ((new.input ≡ []) × IsCutOffAt taken place)
+  pub front : List ℕ
+  pub last : List ℕ
+  pub takes : TakesOnly (front ++ last) old new
+  pub within : length (front ++ last) ≤ budget
+  pub right : MayGoOn front
+  pub piece : length last ≤ max_piece
+  pub bad : IsWrongAt (front ++ last) place ⊎ ((new.input ≡ []) × IsCutOffAt (front ++ last) place)
 
 -- one byte more than the budget came, and each field that stood whole before it is as required
 pub record TakesTooMuch (budget : ℕ) (old new : Outside) : Type 0 where

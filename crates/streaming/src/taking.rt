@@ -2,7 +2,7 @@
 ghost use Rattle.std.specs.Prelude.{◌≡◌, ◌≢◌, All, ◌<◌, ◌≤◌, ◌^◌, ◌+◌, ℕ, length, Err, IfOk};
 ghost use Rattle.host_io.specs.Calls.{CountsTake, Rose};
 ghost use Rattle.host_io.specs.Outside.{Outside};
-ghost use Rattle.streaming.specs.Taking.{ComesOfEnd, ComesOfInput, ComesOfPiece, HasTaken, IsHomeless, IsProgress};
+ghost use Rattle.streaming.specs.Taking.{ComesOfEnd, ComesOfInput, ComesOfPiece, HasTaken, IsHomeless, IsProgress, max_piece};
 ghost use Rattle.tables.specs.Tables.{HasNoHomes};
 ghost use Rattle.streaming.specs.declared.error.LoadFault.TheVariants as load_fault;
 
@@ -66,6 +66,7 @@ enum Taken {
 /// Takes bytes into a piece that has room, and reads them.
 fn take_piece<H: Host>(loader: Loader, host: &mut H, piece: &mut [u8]) -> Result<Taken, LoadFault>
     requires some { 0 < length piece.old }
+    requires few { length piece.old ≤ max_piece }
     requires short { length loader + length piece.old < 2 ^ 63 }
     ensures comes { H.tells → (budget left : ℕ) (begin : Outside) → length piece.old ≤ left → HasTaken budget left loader begin (H.outside host.old)
         → ComesOfPiece budget left begin (H.outside host.new) result }

@@ -17,7 +17,7 @@ returns-in_err-feed-clause-comes g c = λ tells budget left begin short so.
     let budget_is = so.budget_is in
     let few = length-take c.in-Ok.count c.take.new.into in
     let within = c.in-Ok.ensures.within in
-    let refused = refused_piece budget (c.args.loader ++ front) begin new c.in_err-feed.field-0.0 all (omega (arith, sizes, few, budget_is, short, within)) c.in_err-feed.ensures.refused in
+    let refused = refused_piece budget c.args.loader front begin new c.in_err-feed.field-0.0 all (omega (arith, sizes, few, budget_is, short, within)) so.right (omega (arith, few, within, c.requires.few)) c.in_err-feed.ensures.refused in
     subst (λ (r : Result Taken LoadFault). ComesOfPiece budget left begin new r) (sym cause.1) (subst (λ (e : LoadFault). ComesOfInput budget begin new (Err e)) (sym cause.2) refused)
 
 pub returns-in_err-finish-clause-comes : goal.returns-in_err-finish-clause-comes
@@ -30,5 +30,5 @@ returns-in_err-finish-clause-comes g c = λ tells budget left begin short so.
     let came : mid.input ≡ new.input = takes.came ∙ ap (λ (n : ℕ). take n c.take.new.into ++ new.input) none in
     let budget_is = so.budget_is in
     let fault = c.in_err-finish.field-0.0 in
-    let comes = ended budget c.args.loader begin mid new fault so.takes (omega (arith, budget_is)) came (sym came ∙ takes.end none c.requires.some) takes.still c.take.ensures.counts c.in_err-finish.ensures in
+    let comes = ended budget c.args.loader begin mid new fault so.takes (omega (arith, budget_is)) so.right came (sym came ∙ takes.end none c.requires.some) takes.still c.take.ensures.counts c.in_err-finish.ensures in
     subst (λ (r : Result Taken LoadFault). ComesOfPiece budget left begin new r) (sym told.1) (subst (λ (e : LoadFault). ComesOfInput budget begin new (Err e)) (sym told.2) comes)
