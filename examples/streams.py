@@ -17,6 +17,7 @@ SIGNATURE = b"MKST\1\0\0\0"
 MOST_VIEWS, MOST_STRUCTURE, MOST_ROWS, MOST_BYTES, MOST_PROPERTIES, MOST_DEPTH = 1_024, 1_048_576, 16_777_216, 262_144, 64, 8
 NAME = re.compile(rb"[A-Za-z_][A-Za-z0-9_]{0,30}(?![A-Za-z0-9_])")
 PLAIN = re.compile(rb":([ILSB])")
+MADE_BY = {"I": int, "L": int, "S": str, "B": bytes.fromhex}
 
 
 class BadStream(Exception):
@@ -187,10 +188,17 @@ def write(views):
 
 
 def from_csv(structure, lines):
-    """A view of the rows of a CSV, each value by the kind of its property."""
+    """A view of the rows of a CSV, which has no rows inside rows: each value by the kind of its property."""
     kinds = kinds_of(structure.encode())
-    makes = {"I": int, "L": int, "S": str, "B": bytes.fromhex}
-    return View(structure, kinds, [tuple(makes[kind](value) for value, kind in zip(row, kinds)) for row in csv.reader(lines)])
+    return View(structure, kinds, list(csv_rows(csv.reader(lines), kinds)))
+
+
+def csv_rows(reader, kinds):
+    """The rows of a CSV, of which each has a value for each property. Blank lines are passed over."""
+    for row in filter(None, reader):
+        if len(row) != len(kinds):
+            sys.exit(f"line {reader.line_num} has {len(row)} values, not {len(kinds)}")
+        yield tuple(MADE_BY[kind](value) for value, kind in zip(row, kinds))
 
 
 def main():
