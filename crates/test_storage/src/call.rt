@@ -206,7 +206,7 @@ fn numbered_commits(alloc: Global, fixture: &mut Fixture, count: u64) -> Result<
 }
 
 /// The note of a text.
-fn note(alloc: Global, text: &str) -> Result<Text, Fail>
+pub fn note(alloc: Global, text: &str) -> Result<Text, Fail>
     ensures { IfOk result (λ note. IsNote note.bytes) }
 {
     if !is_text(text) || text.len() > 255 {

@@ -1,0 +1,15 @@
+pub mod Records
+pub mod Logical
+pub mod Refusals
+pub mod Marked
+pub mod Walking
+pub mod Reading
+pub mod Tie
+pub mod Phases
+pub mod Committing
+pub mod Appending
+pub mod Shown
+pub mod Told
+pub mod Opening
+pub mod Syncing
+pub mod Standing
