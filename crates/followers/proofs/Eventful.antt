@@ -1,16 +1,17 @@
--- The rows of a line between its events.
-use Rattle.std.proofs.Common.{◌≡◌, ℕ, ◌+◌, ◌-◌, ◌<◌, ◌≤◌, List, [], ◌∷◌, ◌++◌, length, take, refl, ap, sym, subst, ◌∙◌, arith}
+-- The rows of a line between its edits.
+use Rattle.std.proofs.Common.{◌≡◌, ℕ, ◌+◌, ◌<◌, ◌≤◌, List, length, take, ap, sym, subst, ◌∙◌, arith}
 use Rattle.mk_value.specs.Data.{Datum}
-use Rattle.mk_value.specs.Limits.{max_rows}
 use Rattle.live.specs.Putting.{IsPlace}
 use Rattle.live.specs.Watching.{IsTurn, root_turn}
-use Rattle.row_edits.specs.declared.edit.RowEdit.{RowEdit}
+use Rattle.live.proofs.Beginning.{begun_place, begun_turn}
+use Rattle.mk_value.specs.Limits.{max_rows}
 use Rattle.row_edits.specs.declared.edit.RowEdit.TheVariants.{Insert, Remove, Change}
+use Rattle.row_edits.specs.declared.edit.RowEdit.{RowEdit}
 use Rattle.row_edits.specs.Edits.{IsInRange, edited, edited_by, size_by}
-use Rattle.row_edits.specs.Events.{begun, count_of, event_of}
+use Rattle.row_edits.specs.Events.{count_of, event_of}
 use Rattle.row_edits.specs.Lines.{IsLine, edit_at, row_at, rows_at_event, rows_between}
 use Rattle.row_edits.proofs.Editing.{edited_last, few_by, length_edited_by}
-use Rattle.row_edits.proofs.Eventing.{begun_all, begun_none, begun_place, begun_turn}
+use Rattle.row_edits.proofs.Eventing.{begun_all, begun_none}
 use Rattle.row_edits.proofs.Showing.{edit_range, next_edits, whole_range}
 
 pub same_shown : (w v : List RowEdit) (p q : RowEdit) (h i : ℕ) (b c a d : List (List Datum)) → w ≡ v → p ≡ q → h ≡ i → b ≡ c → a ≡ d → rows_between w p h b a ≡ rows_between v q i c d
@@ -50,3 +51,10 @@ module _ (edits : List RowEdit) (home : ℕ) (before after : List (List Datum)) 
   rows_last =
       ap (λ e. edited row e so_far) (begun_all (edit_at edits edit)) ∙ sym (edited_last row (take edit edits) (edit_at edits edit) before)
       ∙ ap (λ es. edited_by row es before) (sym (next_edits edits home before after line edit inside))
+
+  -- the edit may be made of the rows before it, and makes those after it of them
+  pub edit_here : IsInRange (edit_at edits edit) (length (rows_at_event edits home edit 0 before after))
+  edit_here = subst (λ rows. IsInRange (edit_at edits edit) (length rows)) (sym rows_first) here
+
+  pub edit_made : rows_at_event edits home edit (count_of (edit_at edits edit)) before after ≡ edited row (edit_at edits edit) (rows_at_event edits home edit 0 before after)
+  edit_made = ap (λ e. edited row e so_far) (begun_all (edit_at edits edit)) ∙ ap (edited row (edit_at edits edit)) (sym rows_first)

@@ -1,6 +1,6 @@
 -- Keys of an index over a line.
-use Rattle.std.proofs.Common.{◌≡◌, ◌≢◌, ◌==◌, ℕ, zero, suc, map, replicate, ◌+◌, ◌-◌, ◌<◌, ◌≤◌, Bool, true, false, cond, eqb, List, [], ◌∷◌, ◌++◌, length, get_or, set, take, drop, Option, Some, None, Contains, IsSome, unwrap_or, refl, ap, sym, subst, ◌∙◌, arith, inl, inr}
-use Rattle.std.specs.List.{insert, remove, slice_get}
+use Rattle.std.proofs.Common.{◌≡◌, ◌≢◌, ℕ, zero, suc, map, replicate, ◌+◌, ◌<◌, cond, eqb, List, [], ◌∷◌, ◌++◌, length, get_or, set, take, drop, Option, Some, None, Contains, refl, ap, sym, ◌∙◌, arith, inl, inr}
+use Rattle.std.specs.List.{insert, remove}
 use Rattle.std.proofs.lemmas.Bool.{cases_eq, cases_lt, eq-eqb, ne_eqb}
 use Rattle.std.proofs.lemmas.List.{drop-set-lt, drop_at, drop_more, ext_get_or, get_or-set_other, get_or-set_same, get_or_default, length-set, length-take-le, map-append, map-set, set_split, take-append-drop, take-map, take-set, take_at}
 use Rattle.std.proofs.lemmas.List.Edits.{get_or-remove_above, get_or-remove_below, length-remove}
@@ -9,7 +9,7 @@ use Rattle.std.proofs.lemmas.Option.{slice_get-get_or}
 use Rattle.mk_value.specs.Data.{Datum}
 use Rattle.relations.specs.Equality.{same_row}
 use Rattle.relations.proofs.Equal.{rows_equal}
-use Rattle.live.specs.Placing.{closed, closed_by}
+use Rattle.live.specs.Placing.{closed}
 use Rattle.live.proofs.Picks.{closed_above, closed_below}
 use Rattle.mapped.specs.Index.{AreKeys, row_of}
 use Rattle.mapped.proofs.Calling.{gone, others_of_none, take_place}

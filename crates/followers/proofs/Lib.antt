@@ -2,4 +2,3 @@ pub mod Eventful
 pub mod Hashing
 pub mod Homing
 pub mod Ordering
-pub mod Raising

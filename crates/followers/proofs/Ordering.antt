@@ -1,11 +1,10 @@
 -- Rows in the order of their keys, over a line.
-use Rattle.std.proofs.Common.{◌≡◌, ◌≢◌, ◌==◌, ℕ, suc, ◌+◌, ◌-◌, ◌<◌, ◌≤◌, ◌&&◌, Bool, true, false, cond, eqb, ltb, nat_lt, List, [], ◌∷◌, ◌++◌, length, get_or, set, take, drop, Option, Some, None, refl, ap, sym, subst, ◌∙◌, arith, inl, inr}
+use Rattle.std.proofs.Common.{◌≡◌, ◌≢◌, ℕ, suc, ◌+◌, ◌-◌, ◌<◌, ◌≤◌, ◌&&◌, Bool, true, false, cond, ltb, nat_lt, List, [], ◌++◌, length, get_or, set, take, drop, Option, Some, None, refl, ap, sym, subst, ◌∙◌, arith, inl, inr}
 use Rattle.std.specs.List.{insert, remove}
 use Rattle.std.specs.declared.cmp.Ordering.{Ordering}
 use Rattle.std.specs.declared.cmp.Ordering.TheVariants.{Less, Equal, Greater}
 use Rattle.std.specs.Ordering.{is_eq, ordering_reverse}
 use Rattle.std.proofs.lemmas.Bool.{cases_eq, cases_lt, eq-eqb, le-ltb, lt-ltb, ltb-true, ne_eqb}
-use Rattle.std.proofs.lemmas.List.{get_or_default}
 use Rattle.std.proofs.lemmas.List.Edits.{get_or-remove_above, get_or-remove_below, length-remove}
 use Rattle.mk_value.specs.Data.{Datum}
 use Rattle.live.specs.Placing.{closed, closed_by}
@@ -15,8 +14,7 @@ use Rattle.mapped.proofs.Prefixes.{key_cmp_total}
 use Rattle.mapped.proofs.Putting.{insert_ascends, inserted, replaced}
 use Rattle.row_edits.specs.Edits.{edited_by}
 use Rattle.followers.specs.Keyed.{edits_of, moved_to, put_ordered, set_ordered}
-use Rattle.followers.specs.declared.keyed.KeyedEdit.{KeyedEdit}
-use Rattle.followers.specs.declared.keyed.KeyedEdit.TheVariants.{Change, Move, Put, Replace}
+use Rattle.followers.specs.declared.keyed.KeyedEdit.TheVariants.{Change, Move}
 use Rattle.followers.proofs.Hashing.{apart_there, set_again, set_apart, set_gone}
 
 -- rows in order, of which those before a place are less than a row, and the others greater

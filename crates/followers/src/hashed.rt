@@ -51,15 +51,10 @@ fn follow_both(index: &mut HashIndex, at: usize, other: usize, key: Row)
     index.follow(&Event::Change(without(Some(other), at)), Some(key));
 }
 
-/// An index follows the removal of rows, from a place on. It takes no memory.
+/// An index follows the removal of rows, from a place on, in one pass. It takes no memory and no room.
 pub fn follow_removal(index: &mut HashIndex, at: usize, count: usize)
-    requires reserved { count ≤ index.old.spare }
-    requires there { at + count ≤ length index.old.keys }
+    requires { at + count ≤ length index.old.keys }
     ensures keys { index.new.keys ≡ edited [] (row_edit.Remove at count) index.old.keys }
 {
-    let _size = index.len();
-    for gone in 0..count {
-        let _gone = gone;
-        index.follow(&Event::Remove(at), None);
-    }
+    index.remove(at, count);
 }

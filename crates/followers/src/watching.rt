@@ -1,4 +1,4 @@
-//! Watches follow a line, event by event.
+//! Watches follow a line, edit by edit.
 ghost use Rattle.std.specs.Prelude.{◌≡◌, ◌+◌, ◌-◌, ◌<◌, ◌≤◌, length, None};
 ghost use Rattle.live.specs.Chains.{AreNow};
 ghost use Rattle.live.specs.Putting.{spare};
@@ -40,7 +40,33 @@ fn follow_event<L: Ledger, T: TableRead>(
     watches.after(&Over { rows: &after }, &event, out, steps);
 }
 
-/// Watches follow the events of one edit of a line.
+/// Watches follow one edit of a line, in one step whatever its count.
+fn follow_whole<L: Ledger, T: TableRead>(
+    watches: &mut Watches,
+    line: &Line<'_, T>,
+    edit: usize,
+    steps: &mut Steps<L>,
+)
+    requires edit_in { edit < length line.now.edits.now }
+    requires now { AreNow (T.schema line.now.before.now) (rows_at_event line.now.edits.now line.now.home edit 0 (T.rows line.now.before.now) (T.rows line.now.after.now)) watches.old.watches }
+    requires reserved { count_of (edit_at line.now.edits.now edit) ≤ spare watches.old }
+    ensures now { AreNow (T.schema line.now.before.now) (rows_at_event line.now.edits.now line.now.home edit (count_of (edit_at line.now.edits.now edit)) (T.rows line.now.before.now) (T.rows line.now.after.now)) watches.new.watches }
+    ensures followed { HaveFollowed (count_of (edit_at line.now.edits.now edit)) watches.old.watches watches.new.watches }
+    ensures noted { watches.new.noted ≡ None }
+    ensures spare { spare watches.old ≤ spare watches.new + count_of (edit_at line.now.edits.now edit) }
+{
+    let change = line.edits[edit];
+    let before = line.between(edit, 0);
+    let after = line.between(edit, change.count());
+    watches.follow(
+        &Over { rows: &before },
+        &Over { rows: &after },
+        change,
+        steps,
+    );
+}
+
+/// Watches follow one edit of a line: one event as such, which moves least, and several in one step.
 fn follow_edit<L: Ledger, T: TableRead>(
     watches: &mut Watches,
     out: &mut Out,
@@ -50,7 +76,6 @@ fn follow_edit<L: Ledger, T: TableRead>(
 )
     requires edit_in { edit < length line.now.edits.now }
     requires now { AreNow (T.schema line.now.before.now) (rows_at_event line.now.edits.now line.now.home edit 0 (T.rows line.now.before.now) (T.rows line.now.after.now)) watches.old.watches }
-    requires noted { watches.old.noted ≡ None }
     requires reserved { count_of (edit_at line.now.edits.now edit) ≤ spare watches.old }
     requires room { length watches.old.watches ≤ out.old.spare }
     ensures now { AreNow (T.schema line.now.before.now) (rows_at_event line.now.edits.now line.now.home edit (count_of (edit_at line.now.edits.now edit)) (T.rows line.now.before.now) (T.rows line.now.after.now)) watches.new.watches }
@@ -59,8 +84,10 @@ fn follow_edit<L: Ledger, T: TableRead>(
     ensures spare { spare watches.old ≤ spare watches.new + count_of (edit_at line.now.edits.now edit) }
     ensures out_spare { out.new.spare ≡ out.old.spare }
 {
-    for number in 0..line.edits[edit].count() {
-        follow_event(watches, out, line, edit, number, steps);
+    if line.edits[edit].count() == 1 {
+        follow_event(watches, out, line, edit, 0, steps);
+    } else {
+        follow_whole(watches, line, edit, steps);
     }
 }
 

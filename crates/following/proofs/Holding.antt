@@ -3,7 +3,7 @@ use Rattle.std.proofs.Common.{◌≡◌, ℕ, Bool, true, false, cond, List, get
 use Rattle.std.specs.Prelude.{Option, IsNone, IsSome}
 use Rattle.std.proofs.lemmas.Option.{same_Some}
 use Rattle.live.specs.Chains.{AreNow}
-use Rattle.live.specs.declared.event.Event.{Event}
+use Rattle.row_edits.specs.declared.event.Event.{Event}
 use Rattle.std.specs.List.{All, list_any}
 use Rattle.std.proofs.lemmas.List.Folds.{list_any_at, map_fixed}
 use Rattle.mk_value.specs.Data.{Datum}

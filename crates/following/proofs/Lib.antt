@@ -2,6 +2,7 @@ pub mod Depths
 pub mod Finding
 pub mod Grouped
 pub mod Holding
+pub mod Lines
 pub mod Listing
 pub mod Naming
 pub mod Numbering

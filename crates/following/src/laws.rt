@@ -6,6 +6,7 @@ ghost use Rattle.mk_value.specs.Names.{same_bytes};
 ghost use Rattle.mk_value.specs.Tables.{Table};
 ghost use Rattle.tables.specs.Tables.{StoredTable};
 ghost use Rattle.view_store.specs.Views.{NamedTable, table_of};
+ghost use Rattle.following.specs.Histories.{AreFollowed, HaveFollowedLines, Lined};
 ghost use Rattle.following.specs.Keeping.{AreInStep, AreKept, AreKeptOver, HaveSameRows, IsWatchOf, Kept, ShowsRows, followed};
 ghost use Rattle.following.specs.Watches.{Followed, followed_by, is_watched, source_of, watch_table};
 
@@ -42,4 +43,10 @@ pub fn watches_show_rows()
 pub fn kept_is_in_step()
     ensures in_step { (views : List NamedTable) (all : List Kept) → AreKept views all → AreInStep views all }
     ensures kept { (views : List NamedTable) (all : List Kept) → AreInStep views all → AreKept views all }
+{}
+
+/// Over every list of lines that are followed one after another, each on one view, the watches keep the positions of what they show of the rows that
+/// then stand, and the watches of each view have followed one event more for each of its rows that the lines put in, took out or changed.
+pub fn watches_follow_lines()
+    ensures { (views : List NamedTable) (watches : List Kept) (lines : List Lined) → AreKept views watches → AreFollowed views watches lines → HaveFollowedLines views watches lines }
 {}

@@ -1,7 +1,7 @@
 //! The watches of views, by name: what each shows, and that it moves with the rows of its view.
 //!
 //! A watch stands over a view or over another watch of it, and shows a selection, a range or a sorting of its rows. `Following` holds all
-//! watches of the views of a root, each with the positions of its rows. A line that edits a watched view is followed event by event, so
+//! watches of the views of a root, each with the positions of its rows. A line that edits a watched view is followed edit by edit, so
 //! that no watch is made anew.
 //!
 //! It stands on `live` for watches, on `followers` for lines and on `view_store` for views. It changes no view, and knows nothing of
@@ -17,6 +17,6 @@ mod views;
 pub use following::{Following, MAX_WATCHES, Watched};
 pub use laws::{
     kept_is_in_step, kept_over_view, unwatched_lines_raise_nothing, unwatched_views_may_change,
-    views_keep_watches, watches_show_rows,
+    views_keep_watches, watches_follow_lines, watches_show_rows,
 };
 pub use views::view_of;

@@ -1,11 +1,11 @@
--- Elements of joined and filtered lists, and the numbers below a length.
-use Rattle.std.proofs.Common.{◌≡◌, ◌⊎◌, ℕ, zero, suc, ◌<◌, Bool, true, false, if◌then◌else◌, List, [], ◌∷◌, ◌++◌, refl, ap, sym, ◌∙◌, arith, inl, inr}
-use Rattle.std.specs.List.{filter}
+-- Elements of joined lists, and the numbers below a length.
+pub use Rattle.row_edits.proofs.Filtered.{in_filter, filter_in}
+use Rattle.std.proofs.Common.{◌≡◌, ◌⊎◌, ℕ, zero, suc, ◌<◌, List, [], ◌∷◌, ◌++◌, arith, inl, inr}
 use Rattle.std.proofs.lemmas.Bool.{cases_lt}
 use Rattle.relations.specs.Positions.{numbers}
 use Rattle.relations.proofs.Ascending.{IsIn}
 
--- elements of joined and filtered lists
+-- elements of joined lists
 module _ {X : Type 0} where
   pub in_left : (xs ys : List X) (z : X) → IsIn z xs → IsIn z (xs ++ ys)
   in_left [] ys z h = absurd h
@@ -20,29 +20,6 @@ module _ {X : Type 0} where
   in_append [] ys z h = inr h
   in_append (x ∷ xs) ys z (inl e) = inl (inl e)
   in_append (x ∷ xs) ys z (inr h) = elim (in_append xs ys z h) [ inl a ↦ inl (inr a) | inr b ↦ inr b ]
-
-  in_kept : (b : Bool) (x z : X) (xs : List X) → IsIn z (if b then x ∷ xs else xs) → (b ≡ true × (x ≡ z)) ⊎ IsIn z xs
-  in_kept true x z xs (inl e) = inl (refl, e)
-  in_kept true x z xs (inr h) = inr h
-  in_kept false x z xs h = inr h
-
-  kept_in : (b : Bool) (x z : X) (xs : List X) → (b ≡ true × (x ≡ z)) ⊎ IsIn z xs → IsIn z (if b then x ∷ xs else xs)
-  kept_in true x z xs (inl e) = inl e.1
-  kept_in true x z xs (inr h) = inr h
-  kept_in false x z xs (inl e) = cc
-  kept_in false x z xs (inr h) = h
-
-  pub in_filter : (p : X → Bool) (xs : List X) (z : X) → IsIn z (filter p xs) → IsIn z xs × (p z ≡ true)
-  in_filter p [] z h = absurd h
-  in_filter p (x ∷ xs) z h = elim (in_kept (p x) x z (filter p xs) h) [
-    | inl e ↦ (inl e.1, ap p (sym e.1) ∙ e.0)
-    | inr g ↦ let r = in_filter p xs z g in (inr r.0, r.1)
-  ]
-
-  pub filter_in : (p : X → Bool) (xs : List X) (z : X) → IsIn z xs → p z ≡ true → IsIn z (filter p xs)
-  filter_in p [] z h e = absurd h
-  filter_in p (x ∷ xs) z (inl g) e = kept_in (p x) x z (filter p xs) (inl (ap p g ∙ e, g))
-  filter_in p (x ∷ xs) z (inr g) e = kept_in (p x) x z (filter p xs) (inr (filter_in p xs z g e))
 
 -- the numbers below n are those below n
 pub in_numbers : (n i : ℕ) → IsIn i (numbers n) → i < n

@@ -1,6 +1,6 @@
 -- Where a row stands among kept positions, and what is kept when a row goes or comes.
-use Rattle.std.proofs.Common.{◌≡◌, ◌≢◌, ◌⊎◌, ◌==◌, ℕ, zero, suc, ◌+◌, ◌<◌, ◌≤◌, Bool, true, false, not, cond, if◌then◌else◌, nat_lt, List, [], ◌∷◌, ◌++◌, length, get_or, take, drop, Some, None, refl, ap, sym, subst, ◌∙◌, arith, inl, inr}
-use Rattle.std.specs.List.{AllPairs, AllByRecursion as Each, filter, insert, position, position_or_len}
+use Rattle.std.proofs.Common.{◌≡◌, ◌≢◌, ◌⊎◌, ◌==◌, ℕ, zero, suc, ◌+◌, ◌<◌, ◌≤◌, Bool, true, not, cond, nat_lt, List, [], ◌∷◌, ◌++◌, length, get_or, take, drop, Some, None, refl, ap, sym, subst, ◌∙◌, arith, inl, inr}
+use Rattle.std.specs.List.{AllPairs, insert, position, position_or_len}
 use Rattle.std.specs.declared.cmp.Ordering.{Ordering}
 use Rattle.std.specs.declared.cmp.Ordering.TheVariants.{Less, Equal, Greater}
 use Rattle.std.specs.Ordering.{nat_cmp, ordering_then, ordering_reverse}
@@ -16,6 +16,7 @@ use Rattle.relations.specs.Positions.{numbers, passing, place_cmp}
 use Rattle.live.specs.Placing.{without}
 use Rattle.live.specs.Watching.{passes, order, positions, placed}
 use Rattle.relations.proofs.Ascending.{IsIn, Ascends, AreApart, each_in, each_from_in, in_at, place_of, not_less, less_nat, sorted_up, in_sorted, in_sorted_back}
+use Rattle.row_edits.proofs.Filtered.{ascends_filter}
 use Rattle.live.proofs.Members.{in_numbers, numbers_in, in_filter, filter_in}
 use Rattle.live.proofs.Ops.{op_total}
 use Rattle.live.proofs.Picks.{ArePicked, AreOthers, ascends_joined, place_total, picked_same, others_from_middle, others_from_absent, picked_from_middle}
@@ -23,15 +24,6 @@ use Rattle.mk_value.specs.Heading.{Attribute}
 use Rattle.mk_value.specs.Data.{Datum}
 
 -- the positions of a watch are those of the rows that it has, in its order
-ascends_kept : (b : Bool) (x : ℕ) (xs ys : List ℕ) → Each (λ y. nat_cmp x y ≡ Less) ys → Ascends nat_cmp ys → Ascends nat_cmp (if b then x ∷ ys else ys)
-ascends_kept true x xs ys first rest = (first, rest)
-ascends_kept false x xs ys first rest = rest
-
-ascends_filter : (p : ℕ → Bool) (xs : List ℕ) → Ascends nat_cmp xs → Ascends nat_cmp (filter p xs)
-ascends_filter p [] up = tt
-ascends_filter p (x ∷ xs) up =
-    ascends_kept (p x) x xs (filter p xs) (each_from_in (λ y. nat_cmp x y ≡ Less) (filter p xs) (λ y h. each_in (λ y. nat_cmp x y ≡ Less) xs y up.0 (in_filter p xs y h).0)) (ascends_filter p xs up.1)
-
 ascends_numbers : (n : ℕ) → Ascends nat_cmp (numbers n)
 ascends_numbers zero = tt
 ascends_numbers (suc n) =
@@ -57,7 +49,7 @@ pub picked_passing : {X : Type 0} (test : X → Bool) (d : X) (rows : List X) �
 picked_passing test d rows =
     let here : ℕ → Bool = λ i. test (get_or rows i d) in
     record {
-      ascends = ascends_filter here (numbers (length rows)) (ascends_numbers (length rows));
+      ascends = ascends_filter nat_cmp here (numbers (length rows)) (ascends_numbers (length rows));
       inside = λ i h. let r = in_filter here (numbers (length rows)) i h in (in_numbers (length rows) i r.0, r.1);
       whole = λ i q t. filter_in here (numbers (length rows)) i (numbers_in (length rows) i q) t;
     }
@@ -151,7 +143,7 @@ in_front xs n x le h =
     let near : r.0 < n = omega (arith, r.1) in
     (r.0, near, sym (get_or-take n xs r.0 0 near) ∙ r.2 0)
 
-in_back : (xs : List ℕ) (n x : ℕ) → n ≤ length xs → IsIn x (drop n xs) → (k : ℕ) × (n ≤ k) × (k < length xs) × (get_or xs k 0 ≡ x)
+pub in_back : (xs : List ℕ) (n x : ℕ) → n ≤ length xs → IsIn x (drop n xs) → (k : ℕ) × (n ≤ k) × (k < length xs) × (get_or xs k 0 ≡ x)
 in_back xs n x le h =
     let r = place_of (drop n xs) x h in
     let long = length-drop n xs in
@@ -160,7 +152,7 @@ in_back xs n x le h =
     let near : n + r.0 < length xs = omega arith in
     (n + r.0, far, near, sym (get_or-drop n xs r.0 0) ∙ r.2 0)
 
-other_way : {X : Type 0} (cmp : X → X → Ordering) (total : IsTotalOrder cmp) (d : X) (rows : List X) (y p : ℕ) → place_cmp cmp d rows y p ≢ Less → y ≢ p → place_cmp cmp d rows p y ≡ Less
+pub other_way : {X : Type 0} (cmp : X → X → Ordering) (total : IsTotalOrder cmp) (d : X) (rows : List X) (y p : ℕ) → place_cmp cmp d rows y p ≢ Less → y ≢ p → place_cmp cmp d rows p y ≡ Less
 other_way cmp total d rows y p least ne = at (place_cmp cmp d rows y p) refl
   where
     at : (o : Ordering) → place_cmp cmp d rows y p ≡ o → place_cmp cmp d rows p y ≡ Less
@@ -171,7 +163,7 @@ other_way cmp total d rows y p least ne = at (place_cmp cmp d rows y p) refl
 module _ (schema : List Attribute) (op : WatchOp) (rows : List (List Datum)) (kept : List ℕ) (p at : ℕ) (le : at ≤ length kept)
     (below : (k : ℕ) → k < at → place_cmp (order schema op) [] rows (get_or kept k 0) p ≡ Less)
     (above : (k : ℕ) → at ≤ k → k < length kept → place_cmp (order schema op) [] rows (get_or kept k 0) p ≢ Less) where
-  front_less : (x : ℕ) → IsIn x (take at kept) → place_cmp (order schema op) [] rows x p ≡ Less
+  pub front_less : (x : ℕ) → IsIn x (take at kept) → place_cmp (order schema op) [] rows x p ≡ Less
   front_less x h = let r = in_front kept at x le h in subst (λ y. place_cmp (order schema op) [] rows y p ≡ Less) r.2 (below r.0 r.1)
 
   pub front_away : IsIn p (take at kept) → ⊥

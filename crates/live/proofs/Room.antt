@@ -9,7 +9,7 @@ use Rattle.live.specs.Keeping.{AreKept}
 use Rattle.live.specs.Putting.{least_room, no_bound, set_aside}
 use Rattle.live.specs.States.{WatchState}
 use Rattle.live.specs.Watching.{goes_from, placed, root_turn}
-use Rattle.live.specs.declared.event.Event.{Event}
+use Rattle.row_edits.specs.declared.event.Event.{Event}
 use Rattle.live.proofs.Standing.{same_each, same_set}
 
 min_first : (a b n : ℕ) → n ≤ min a b → n ≤ a
@@ -166,3 +166,19 @@ pub reserved_room : (noted : Option Event) (more wanted : ℕ) (new : List Watch
 reserved_room noted more wanted new is few h =
     let a = room_all wanted new few (λ k d p. h k d p) in
     aside_more noted (least_room new) more (omega arith)
+
+-- what an edit takes of each watch, where so much is left
+pub room_for : (o : Option Event) (n : ℕ) (watches : List WatchState) → n ≤ set_aside o (least_room watches) → (k : ℕ) (d : WatchState) → k < length watches → n ≤ (get_or watches k d).room
+room_for o n watches h k d p =
+    let a = aside_le o (least_room watches) in
+    room_each n watches (omega arith) k d p
+
+pub taken_room : (o : Option Event) (n : ℕ) (old new : List WatchState) → length new ≡ length old → ((k : ℕ) (d : WatchState) → k < length old → (get_or old k d).room ≤ (get_or new k d).room + n) → set_aside o (least_room old) ≤ least_room new + n
+taken_room o n old new long h =
+    let few = least_few old in
+    let all : least_room old - n ≤ least_room new = room_all (least_room old - n) new (omega arith) (λ k d p.
+    let a = room_each (least_room old) old (omega arith) k d (omega arith) in
+    let b = h k d (omega arith) in
+    omega arith) in
+    let c = aside_le o (least_room old) in
+    omega arith

@@ -1,5 +1,6 @@
 -- One turn of the source: what is kept before it and after it.
-use Rattle.std.proofs.Common.{◌≡◌, ◌≢◌, ◌==◌, ℕ, suc, ◌+◌, ◌<◌, ◌≤◌, ◌^◌, false, List, [], ◌∷◌, ◌++◌, length, get_or, map, take, drop, Option, Some, None, refl, ap, sym, subst, ◌∙◌, arith, inl, inr}
+pub use Rattle.row_edits.proofs.Rotating.{written}
+use Rattle.std.proofs.Common.{◌≡◌, ◌≢◌, ◌==◌, ℕ, suc, ◌+◌, ◌<◌, ◌≤◌, ◌^◌, false, List, [], ◌∷◌, ◌++◌, length, get_or, map, drop, Option, Some, None, refl, ap, sym, subst, ◌∙◌, arith, inl, inr}
 use Rattle.std.specs.List.{All, remove}
 use Rattle.std.specs.Option.{ForSome}
 use Rattle.std.proofs.lemmas.List.{map-id, length-map, get_or-map, take_all, drop_all, append-nil}
@@ -146,8 +147,3 @@ module _ (schema : List Attribute) (op : WatchOp) (kept : List ℕ) (turn : Turn
   pub due_some : (ks : List ℕ) → ks ≡ without going kept → (row : ℕ) → comes_to turn ≡ Some row
       → map (opened_by (comes_to turn)) (map (closed_by (goes_from turn)) ks) ≡ map (opened row) (positions schema op (remove rows row))
   due_some ks e row some = due_renumbered ks e ∙ ap (λ o. map (opened_by o) (positions schema op (without o rows))) some
-
--- what a slice of a vector's elements leaves when it is written whole
-pub written : {X : Type 0} (n : ℕ) (xs ys : List X) → length ys ≡ n → length xs ≡ n → take n (xs ++ drop (length xs) ys) ≡ xs
-written n xs ys e f =
-    ap (λ zs. take n (xs ++ zs)) (drop_all (length xs) ys (omega arith)) ∙ ap (take n) (append-nil xs) ∙ take_all n xs (omega arith)

@@ -4,7 +4,7 @@ use Rattle.std.specs.Option.{ForSome}
 use Rattle.live.specs.Chains.{AreInside, AreNoted, HaveRoom}
 use Rattle.live.specs.States.{WatchState}
 use Rattle.live.specs.Watching.{goes_from, root_turn}
-use Rattle.live.specs.declared.event.Event.{Event}
+use Rattle.row_edits.specs.declared.event.Event.{Event}
 
 -- positions are within their sources; and where an event is noted, each watch has noted where the row that goes stands in it, and has
 -- room for the one that comes

@@ -1,7 +1,10 @@
 pub mod Chains
 pub mod Costs
+pub mod Edits
+pub mod Histories
 pub mod Keeping
 pub mod Laws
+pub mod Leaving
 pub mod Numbers
 pub mod OutStates
 pub mod Placing

@@ -13,8 +13,8 @@ use Rattle.live.specs.Watching.{op_due, positions}
 use Rattle.live.specs.States.{WatchState, Watching}
 use Rattle.live.specs.declared.error.WatchError.{WatchError}
 use Rattle.live.specs.declared.error.WatchError.TheVariants as watch_error
-use Rattle.live.specs.declared.event.Event.{Event}
-use Rattle.live.specs.declared.event.Event.TheVariants.{Insert, Remove, Change}
+use Rattle.row_edits.specs.declared.event.Event.{Event}
+use Rattle.row_edits.specs.declared.event.Event.TheVariants.{Insert, Remove, Change}
 use Rattle.live.specs.declared.op.WatchOp.{WatchOp}
 use Rattle.live.specs.declared.op.WatchOp.TheVariants.{Range, Sort}
 

@@ -1,6 +1,6 @@
 -- What contracts see of watches.
 use Rattle.std.specs.Prelude.{ℕ, List, Option}
-use Rattle.live.specs.declared.event.Event.{Event}
+use Rattle.row_edits.specs.declared.event.Event.{Event}
 use Rattle.live.specs.declared.turn.Turn.{Turn}
 use Rattle.live.specs.declared.op.WatchOp.{WatchOp}
 

@@ -1,8 +1,8 @@
 -- What the watches tell of an event: their own events, and in which order.
 use Rattle.std.specs.Prelude.{ℕ, List, [], ◌∷◌, ◌++◌, map}
 use Rattle.live.specs.States.{WatchState}
-use Rattle.live.specs.declared.event.Event.{Event}
-use Rattle.live.specs.declared.event.Event.TheVariants.{Insert, Remove, Change}
+use Rattle.row_edits.specs.declared.event.Event.{Event}
+use Rattle.row_edits.specs.declared.event.Event.TheVariants.{Insert, Remove, Change}
 use Rattle.live.specs.declared.out.Told.{Told}
 use Rattle.live.specs.declared.turn.Turn.{Turn}
 use Rattle.live.specs.declared.turn.Turn.TheVariants.{Still, Comes, Goes, Changes, Moves}

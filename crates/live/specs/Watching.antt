@@ -11,8 +11,8 @@ use Rattle.relations.specs.Refusals.{range_due, sort_due}
 use Rattle.relations.specs.Sorting.{row_cmp}
 use Rattle.relations.specs.declared.error.DerivedError.{DerivedError}
 use Rattle.live.specs.Placing.{without}
-use Rattle.live.specs.declared.event.Event.{Event}
-use Rattle.live.specs.declared.event.Event.TheVariants.{Insert, Remove, Change}
+use Rattle.row_edits.specs.declared.event.Event.{Event}
+use Rattle.row_edits.specs.declared.event.Event.TheVariants.{Insert, Remove, Change}
 use Rattle.live.specs.declared.turn.Turn.{Turn}
 use Rattle.live.specs.declared.turn.Turn.TheVariants.{Still, Comes, Goes, Changes, Moves}
 use Rattle.live.specs.declared.op.WatchOp.{WatchOp}

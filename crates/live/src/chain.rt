@@ -49,13 +49,13 @@ pub(crate) fn depth_of(watches: &[Watch], source: Option<usize>) -> usize
 
 /// The rows of the root, or those of a watch, seen through the positions that the watches keep.
 #[derive(Drop)]
-struct Seen<'a, L: Ledger, P: Probe<L>> {
-    rows: &'a P,
-    watches: &'a [Watch],
-    over: Option<usize>,
-    ledger: PhantomData<L>,
-    ghost linked: { AreLinked (P.rows rows.now) watches.now },
-    ghost there: { ForSome over (λ w. w < length watches.now) },
+pub(crate) struct Seen<'a, L: Ledger, P: Probe<L>> {
+    pub rows: &'a P,
+    pub watches: &'a [Watch],
+    pub over: Option<usize>,
+    pub ledger: PhantomData<L>,
+    pub ghost linked: { AreLinked (P.rows rows.now) watches.now },
+    pub ghost there: { ForSome over (λ w. w < length watches.now) },
 }
 
 impl<'a, L: Ledger, P: Probe<L>> Seen<'a, L, P> {

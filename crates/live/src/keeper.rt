@@ -1,10 +1,14 @@
 //! One watch over the rows of its source: where its rows stand, and what one turn of the source does to that.
-ghost use Rattle.std.specs.Prelude.{◌≡◌, ◌≢◌, ◌+◌, ◌-◌, ◌*◌, ◌^◌, ◌<◌, ◌≤◌, ◌==◌, [], ℕ, true, false, Bool, List, All, length, map, remove, position, slice_index, slice_index_or, vec_len};
+ghost use Rattle.std.specs.Prelude.{◌≡◌, ◌≢◌, ◌+◌, ◌-◌, ◌*◌, ◌^◌, ◌<◌, ◌≤◌, ◌==◌, [], ℕ, true, false, Bool, List, Some, All, length, map, remove, position, slice_index, slice_index_or, vec_len};
 ghost use Rattle.std.specs.List.{AllPairs};
 ghost use Rattle.std.specs.Option.{ForSome};
 ghost use Rattle.std.specs.Vec.{vec_capacity};
 ghost use Rattle.std.specs.Ordering.{is_lt};
 ghost use Rattle.std.specs.declared.cmp.Ordering.TheVariants.{Less};
+ghost use Rattle.mk_value.specs.Data.{Datum};
+ghost use Rattle.relations.specs.Rows.{rows_at};
+ghost use Rattle.live.specs.Edits.{AreOthersThan, IsSpread, IsSpreadDue};
+ghost use Rattle.row_edits.specs.Runs.{with_run};
 ghost use Rattle.live.specs.Placing.{closed, opened, closed_by, opened_by, without};
 ghost use Rattle.live.specs.Watching.{IsAsked, IsDue, comes_to, goes_from, is_sorting, own, passes, placed, position_cmp, positions, stays, told};
 
@@ -12,6 +16,7 @@ use crate::op::WatchOp;
 use crate::probe::Probe;
 use crate::turn::Turn;
 use mk_value::Steps;
+use row_edits::{insert_run, raise};
 use std::sync::ledger::Ledger;
 
 /// Whether the watch has a row.
@@ -185,6 +190,38 @@ fn enter<L: Ledger, P: Probe<L>>(
     Some(at)
 }
 
+/// Puts copies of a row, so many from a place of the source on, in where they are to stand, if the watch has them. Answers where the first
+/// stands then.
+fn put_run<L: Ledger, P: Probe<L>>(
+    rows: &P,
+    op: &WatchOp,
+    kept: &mut Vec<u32>,
+    at: usize,
+    count: usize,
+    steps: &mut Steps<L>,
+) -> Option<usize>
+    requires asked { IsAsked (P.schema rows.now) op.now }
+    requires some { 0 < count }
+    requires others { AreOthersThan (P.schema rows.now) op.now at count kept.old.items (P.rows rows.now) }
+    requires room { vec_len kept.old + count ≤ vec_capacity kept.old }
+    ensures now { kept.new.items ≡ positions (P.schema rows.now) op.now (P.rows rows.now) }
+    ensures put { kept.new.items ≡ with_run result at count kept.old.items }
+    ensures there { ForSome result (λ p. p ≤ length kept.old.items) }
+    ensures capacity { vec_capacity kept.new ≡ vec_capacity kept.old }
+    ensures len { vec_len kept.new ≤ vec_len kept.old + count }
+    ensures least { steps.old ≤ steps.new }
+    ensures cost { is_sorting op.now ≡ true → 2 ^ (steps.new - steps.old) ≤ 2 * length (P.rows rows.now) + 1 }
+    ensures test { is_sorting op.now ≡ false → steps.new ≤ steps.old + 1 }
+{
+    let _size = rows.size();
+    if !has(rows, op, at, steps) {
+        return None;
+    }
+    let place = place(rows, op, kept, at, steps);
+    insert_run(kept, place, at as u32, count as u32);
+    Some(place)
+}
+
 /// Whether a change of a row is told as a change, where the row stays in the watch.
 fn stays(op: &WatchOp, turn: Turn) -> bool
     ensures { result ≡ stays op.now turn }
@@ -264,5 +301,32 @@ impl Keeper {
             Some(row) => enter(rows, &self.op, &mut self.kept, row, steps),
         };
         told(stays(&self.op, turn), self.going, to)
+    }
+    /// Follows copies of a row that came side by side in the source, so many from a place on. They stand side by side in the watch too, where
+    /// it has them: answers where the first does. It makes one test, or one search.
+    pub fn spread<L: Ledger, P: Probe<L>>(
+        &mut self,
+        rows: &P,
+        at: usize,
+        count: usize,
+        steps: &mut Steps<L>,
+    ) -> Option<usize>
+        requires asked { IsAsked (P.schema rows.now) self.old.op }
+        requires some { 0 < count }
+        requires room { vec_len self.old.kept + count ≤ vec_capacity self.old.kept }
+        requires due { IsSpreadDue (P.schema rows.now) self.old.op self.old.kept.items (Some at) count (P.rows rows.now) }
+        ensures now { self.new.kept.items ≡ positions (P.schema rows.now) self.old.op (P.rows rows.now) }
+        ensures spread { (row : List Datum) (before : List (List Datum)) → self.old.kept.items ≡ positions (P.schema rows.now) self.old.op before → IsSpread (Some at) count row before (P.rows rows.now)
+            → IsSpread result count row (rows_at before self.old.kept.items) (rows_at (P.rows rows.now) self.new.kept.items) }
+        ensures op { self.new.op ≡ self.old.op }
+        ensures capacity { vec_capacity self.new.kept ≡ vec_capacity self.old.kept }
+        ensures len { vec_len self.new.kept ≤ vec_len self.old.kept + count }
+        ensures least { steps.old ≤ steps.new }
+        ensures cost { is_sorting self.old.op ≡ true → 2 ^ (steps.new - steps.old) ≤ 2 * length (P.rows rows.now) + 1 }
+        ensures test { is_sorting self.old.op ≡ false → steps.new ≤ steps.old + 1 }
+    {
+        let _size = rows.size();
+        raise(&mut self.kept, at as u32, count as u32);
+        put_run(rows, &self.op, &mut self.kept, at, count, steps)
     }
 }

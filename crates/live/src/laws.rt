@@ -5,11 +5,16 @@ ghost use Rattle.mk_value.specs.Heading.{Attribute};
 ghost use Rattle.relations.specs.Criteria.{Interval};
 ghost use Rattle.relations.specs.Rows.{rows_at};
 ghost use Rattle.relations.specs.declared.criteria.Key.{Key};
+ghost use Rattle.row_edits.specs.Edits.{IsInRange, edited};
+ghost use Rattle.row_edits.specs.Events.{begun, count_of, event_of};
+ghost use Rattle.row_edits.specs.declared.edit.RowEdit.{RowEdit};
 ghost use Rattle.live.specs.Chains.{AreNow, place_in_root, seen};
 ghost use Rattle.live.specs.Costs.{digits};
+ghost use Rattle.live.specs.Histories.{AreHeard, AreStepped, HaveHeard, HaveStepped, Heard, Stepped};
 ghost use Rattle.live.specs.Laws.{IsAnswer, IsMove, shown};
+ghost use Rattle.live.specs.Putting.{IsPlace};
 ghost use Rattle.live.specs.States.{WatchState};
-ghost use Rattle.live.specs.Watching.{IsTurn, own, passes, positions};
+ghost use Rattle.live.specs.Watching.{IsTurn, own, passes, positions, root_turn};
 ghost use Rattle.live.specs.declared.op.WatchOp.{WatchOp};
 ghost use Rattle.live.specs.declared.op.WatchOp.TheVariants as op;
 ghost use Rattle.live.specs.declared.turn.Turn.{Turn};
@@ -34,6 +39,14 @@ pub fn edits_are_events()
     ensures comes { (p : ℕ) (rows : List (List Datum)) (row : List Datum) → p ≤ length rows → IsTurn (turn.Comes p) rows (insert rows p row) }
     ensures goes { (p : ℕ) (rows : List (List Datum)) → p < length rows → IsTurn (turn.Goes p) rows (remove rows p) }
     ensures changes { (p : ℕ) (rows : List (List Datum)) (row : List Datum) → p < length rows → IsTurn (turn.Changes p) rows (slice_set rows p row) }
+{}
+
+/// Each event of an edit is an event of the rows once those before it have happened.
+pub fn events_are_turns()
+    ensures turn { (e : RowEdit) (k : ℕ) (row : List Datum) (rows : List (List Datum)) → IsInRange e (length rows) → k < count_of e
+        → IsTurn (root_turn (event_of e k)) (edited row (begun k e) rows) (edited row (begun (k + 1) e) rows) }
+    ensures place { (e : RowEdit) (k : ℕ) (row : List Datum) (rows : List (List Datum)) → IsInRange e (length rows) → k < count_of e
+        → IsPlace (event_of e k) (length (edited row (begun k e) rows)) }
 {}
 
 /// The own events of a watch lead from its rows before to its rows after, so that another watch can stand over it.
@@ -66,4 +79,20 @@ pub fn a_sorting_answers_a_change()
 /// What a search by halves takes is at most the number of binary digits.
 pub fn steps_are_digits()
     ensures { (steps n : ℕ) → 2 ^ steps ≤ 2 * n + 1 → steps ≤ digits n }
+{}
+
+/// Over every list of events that are noted and followed one after another, each watch keeps the positions that the rows then make due and has
+/// followed one event more for each; what was told are the own events of each watch, by the rows before and after each event alone; and no more
+/// tests and comparisons were made than the sizes of the sources allow.
+pub fn watches_follow_events()
+    ensures { (schema : List Attribute) (rows : List (List Datum)) (watches : List WatchState) (heard : List Heard) → AreNow schema rows watches → AreHeard schema rows watches heard
+        → HaveHeard schema rows watches heard }
+{}
+
+/// Over every list of edits that are followed in one step each, each watch keeps the positions that the rows then make due and has followed one event
+/// more for each row that came, went or changed; and no more tests and comparisons were made than the sizes of the sources allow, whatever the
+/// counts of the edits.
+pub fn watches_follow_edits()
+    ensures { (schema : List Attribute) (rows : List (List Datum)) (watches : List WatchState) (edits : List Stepped) → AreNow schema rows watches → AreStepped schema rows watches edits
+        → HaveStepped schema rows watches edits }
 {}

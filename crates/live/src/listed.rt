@@ -1,8 +1,8 @@
 //! A list of watches: one found by its number, the least number that is free, and what is done to all.
-ghost use Rattle.std.specs.Prelude.{◌≡◌, ◌+◌, ◌<◌, ◌≤◌, ◌++◌, ◌∷◌, ◌==◌, ◌↔◌, [], All, IsTrue, length, map, slice_index_or, ℕ, OnOk, OnErr};
+ghost use Rattle.std.specs.Prelude.{◌≡◌, ◌+◌, ◌<◌, ◌≤◌, ◌++◌, ◌∷◌, ◌==◌, ◌↔◌, [], All, IsTrue, length, map, slice_index_or, ℕ, Some, OnOk, OnErr};
 ghost use Rattle.std.specs.List.{position};
 ghost use Rattle.std.specs.Option.{ForSome};
-ghost use Rattle.live.specs.Chains.{AreSame};
+ghost use Rattle.live.specs.Chains.{AreInOrder, AreSame};
 ghost use Rattle.live.specs.Numbers.{IsLeastFree, is_taken, over_of, place_of};
 ghost use Rattle.live.specs.Putting.{closed_source};
 ghost use Rattle.live.specs.States.{WatchState};
@@ -84,6 +84,20 @@ pub(crate) fn reserve_all(watches: &mut [Watch], more: usize) -> Result<(), Memo
         watch.reserve(more)?;
     }
     Ok(())
+}
+
+/// The most rows that a watch shows which others stand over.
+pub(crate) fn most_through(watches: &[Watch]) -> usize
+    requires { AreInOrder watches.now }
+    ensures { (k s : ℕ) (d e : WatchState) → k < length watches.now → (slice_index_or watches.now k d).source ≡ Some s → length (slice_index_or watches.now s e).kept ≤ result }
+{
+    let mut most = 0;
+    for i in 0..watches.len() {
+        if let Some(source) = watches[i].source() {
+            most = most.max(watches[source].len());
+        }
+    }
+    most
 }
 
 /// Moves down the places of sources behind the watch that was taken out.

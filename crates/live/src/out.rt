@@ -1,9 +1,9 @@
 ghost use Rattle.std.specs.Prelude.{◌≡◌, ◌+◌, ◌*◌, ◌≤◌, ◌++◌, ◌∷◌, [], length, map, OnOk};
 ghost use Rattle.live.specs.Telling.{events_of, told_as};
 
-use crate::event::Event;
 use crate::turn::Turn;
 use mk_value::Memory;
+use row_edits::Event;
 use std::alloc::Global;
 use std::marker::Model;
 

@@ -1,7 +1,7 @@
 ghost use Rattle.std.specs.Prelude.{◌≡◌};
 ghost use Rattle.live.specs.Watching.{goes_from, comes_to, root_turn};
 
-use crate::Event;
+use row_edits::Event;
 
 /// What one event of the root does to a list of rows: to the rows of the root, or to those of a watch.
 #[derive(Clone, Copy, Debug)]

@@ -1,15 +1,22 @@
-ghost use Rattle.std.specs.Prelude.{◌≡◌, ◌+◌, ◌-◌, ◌*◌, ◌^◌, ◌<◌, ◌≤◌, [], true, false, length, slice_index, None, OnOk};
+ghost use Rattle.std.specs.Prelude.{◌≡◌, ◌+◌, ◌-◌, ◌*◌, ◌^◌, ◌<◌, ◌≤◌, [], ℕ, List, All, true, false, filter, length, map, slice_index, slice_index_or, None, OnOk};
 ghost use Rattle.std.specs.Option.{ForSome};
+ghost use Rattle.mk_value.specs.Data.{Datum};
+ghost use Rattle.relations.specs.Rows.{rows_at};
 ghost use Rattle.live.specs.Chains.{IsRaised, IsSame};
+ghost use Rattle.live.specs.Edits.{HasTaken, IsSpread, IsSpreadDue};
+ghost use Rattle.row_edits.specs.Runs.{kept_outside};
+ghost use Rattle.live.specs.Leaving.{has_rank};
 ghost use Rattle.live.specs.Putting.{closed_source};
-ghost use Rattle.live.specs.Watching.{IsAsked, IsDue, MeansAs, goes_from, is_sorting, own, placed, positions};
+ghost use Rattle.live.specs.Watching.{IsAsked, IsDue, MeansAs, comes_to, goes_from, is_sorting, own, placed, positions};
 ghost use Rattle.live.specs.declared.turn.Turn.TheVariants.{Still};
 
-use crate::keeper::Keeper;
+use crate::keeper::{Keeper, told};
 use crate::op::WatchOp;
 use crate::probe::Probe;
+use crate::ranks::keep_ranked;
 use crate::turn::Turn;
 use mk_value::{Memory, Steps};
+use row_edits::remove_run;
 use std::marker::Model;
 use std::sync::ledger::Ledger;
 
@@ -197,5 +204,61 @@ impl Watch {
     {
         self.turn = self.keeper.after(rows, turn, steps);
         self.followed = self.followed.saturating_add(1);
+    }
+
+    /// Follows copies of a row that came side by side in the source, so many from a place on, if one is named. Its turn is then that they come,
+    /// told by where the first of them stands.
+    pub fn spread<L: Ledger, P: Probe<L>>(
+        &mut self,
+        rows: &P,
+        at: Option<usize>,
+        count: usize,
+        steps: &mut Steps<L>,
+    )
+        requires asked { IsAsked (P.schema rows.now) self.old.op }
+        requires some { 0 < count }
+        requires room { count ≤ self.old.room }
+        requires due { IsSpreadDue (P.schema rows.now) self.old.op self.old.kept at count (P.rows rows.now) }
+        ensures now { self.new.kept ≡ positions (P.schema rows.now) self.old.op (P.rows rows.now) }
+        ensures spread { (row : List Datum) (before : List (List Datum)) → self.old.kept ≡ positions (P.schema rows.now) self.old.op before → IsSpread at count row before (P.rows rows.now)
+            → IsSpread (comes_to self.new.turn) count row (rows_at before self.old.kept) (rows_at (P.rows rows.now) self.new.kept) }
+        ensures taken { HasTaken count count self.old self.new }
+        ensures least { steps.old ≤ steps.new }
+        ensures cost { is_sorting self.old.op ≡ true → 2 ^ (steps.new - steps.old) ≤ 2 * length (P.rows rows.now) + 1 }
+        ensures test { is_sorting self.old.op ≡ false → steps.new ≤ steps.old + 1 }
+    {
+        let to = match at {
+            None => None,
+            Some(at) => self.keeper.spread(rows, at, count, steps),
+        };
+        self.turn = told(false, None, to);
+        self.followed = self.followed.saturating_add(count as u64);
+    }
+
+    /// Leaves out the rows that stood in the source from a place on, so many, and moves the others up to them.
+    pub fn leave(&mut self, at: usize, count: usize)
+        requires { at + count < 2 ^ 32 }
+        ensures kept { self.new.kept ≡ kept_outside at count self.old.kept }
+        ensures taken { HasTaken 0 0 self.old self.new }
+    {
+        remove_run(&mut self.keeper.kept, at as u32, count as u32);
+    }
+
+    /// Leaves out the rows of the source that have no rank, and moves the others to theirs.
+    pub fn leave_unranked(&mut self, ranks: &[u32])
+        requires { All (λ k. k < length ranks.now) self.old.kept }
+        ensures kept { self.new.kept ≡ filter has_rank (map (λ k. slice_index_or ranks.now k 0) self.old.kept) }
+        ensures taken { HasTaken 0 0 self.old self.new }
+    {
+        keep_ranked(&mut self.keeper.kept, ranks);
+    }
+
+    /// Counts events that it has followed.
+    pub fn count(&mut self, events: usize)
+        requires { 0 < events }
+        ensures kept { self.new.kept ≡ self.old.kept }
+        ensures taken { HasTaken events 0 self.old self.new }
+    {
+        self.followed = self.followed.saturating_add(events as u64);
     }
 }

@@ -5,8 +5,11 @@ ghost use Rattle.std.specs.Result.{result_err};
 ghost use Rattle.mk_value.specs.Data.{Datum};
 ghost use Rattle.mk_value.specs.Heading.{Attribute};
 ghost use Rattle.mk_value.specs.Limits.{max_rows};
+ghost use Rattle.row_edits.specs.Edits.{IsInRange, edited};
+ghost use Rattle.row_edits.specs.Events.{count_of};
 ghost use Rattle.live.specs.Chains.{AreDue, AreNow, AreSame, AreTold, depth, place_in_root};
 ghost use Rattle.live.specs.Costs.{after_cost, before_cost};
+ghost use Rattle.live.specs.Edits.{HaveFollowed, edit_cost, room_of};
 ghost use Rattle.live.specs.Numbers.{over_of, place_of, watch_of};
 ghost use Rattle.live.specs.Putting.{AnswersPut, IsPlace, IsPut, put_due, spare, without_watch};
 ghost use Rattle.live.specs.States.{WatchState};
@@ -14,10 +17,10 @@ ghost use Rattle.live.specs.Telling.{told_by};
 ghost use Rattle.live.specs.Watching.{root_turn};
 
 use crate::chain::{after_all, before_all, depth_of, root_place};
+use crate::edited::follow_all;
 use crate::error::WatchError;
-use crate::event::Event;
 use crate::listed::{
-    close_sources, find, free_number, is_there, place, push, reserve_all, tell_all,
+    close_sources, find, free_number, is_there, most_through, place, push, reserve_all, tell_all,
 };
 use crate::op::WatchOp;
 use crate::out::Out;
@@ -27,6 +30,7 @@ use crate::putting::{asked_once, check_op, spelled};
 use crate::turn::Turn;
 use crate::watch::Watch;
 use mk_value::{Memory, Schema, Steps, TableRead};
+use row_edits::{Event, RowEdit};
 use std::alloc::Global;
 use std::marker::Model;
 use std::sync::ledger::Ledger;
@@ -36,6 +40,8 @@ use std::sync::ledger::Ledger;
 pub struct Watches {
     list: Vec<Watch>,
     noted: Option<Event>,
+    /// Room for a number for each row of a watch that others stand over.
+    aside: Vec<u32>,
 }
 
 impl Model for Watches {
@@ -65,6 +71,7 @@ impl Watches {
         Watches {
             list: Vec::new(alloc),
             noted: None,
+            aside: Vec::new(alloc),
         }
     }
 
@@ -142,7 +149,7 @@ impl Watches {
         self.noted = None;
     }
 
-    /// Makes room for so many events more.
+    /// Makes room for so many events more, and beside for the ranks of rows that go from under a watch.
     ///
     /// # Errors
     ///
@@ -156,6 +163,8 @@ impl Watches {
         if more == usize::MAX {
             return Err(Memory);
         }
+        self.aside.clear();
+        self.aside.reserve(most_through(&self.list))?;
         // One is set aside where an event is noted.
         reserve_all(&mut self.list, more + 1)
     }
@@ -203,6 +212,30 @@ impl Watches {
         after_all(rows, &mut self.list, Turn::of_root(event), steps);
         self.noted = None;
         tell_all(&self.list, out);
+    }
+
+    /// Follows one edit of the root in one step, whatever its count: rows that come cost as much as one, and rows that go no test and no
+    /// comparison. Room is wanted for the rows that come, and for one that changes. It takes no memory.
+    pub fn follow<L: Ledger, P: Probe<L>, Q: Probe<L>>(
+        &mut self,
+        before: &P,
+        after: &Q,
+        edit: RowEdit,
+        steps: &mut Steps<L>,
+    )
+        requires schema { Q.schema after.now ≡ P.schema before.now }
+        requires now { AreNow (P.schema before.now) (P.rows before.now) self.old.watches }
+        requires range { IsInRange edit (length (P.rows before.now)) }
+        requires made { (row : List Datum) × (Q.rows after.now ≡ edited row edit (P.rows before.now)) }
+        requires reserved { room_of edit ≤ spare self.old }
+        ensures now { AreNow (P.schema before.now) (Q.rows after.now) self.new.watches }
+        ensures followed { HaveFollowed (count_of edit) self.old.watches self.new.watches }
+        ensures noted { self.new.noted ≡ None }
+        ensures spare { spare self.old ≤ spare self.new + room_of edit }
+        ensures cost { steps.new ≤ steps.old + edit_cost edit (P.rows before.now) (Q.rows after.now) self.old.watches self.new.watches }
+    {
+        follow_all(before, after, &mut self.list, &mut self.aside, edit, steps);
+        self.noted = None;
     }
 
     /// How many watches there are.

@@ -7,7 +7,7 @@ use Rattle.mk_value.specs.Limits.{max_rows}
 use Rattle.relations.specs.declared.criteria.Key.{Key}
 use Rattle.relations.specs.Rows.{values_of}
 use Rattle.live.specs.Watching.{IsAsked, IsTurn, goes_from, is_sorting, placed, positions, root_turn}
-use Rattle.live.specs.declared.event.Event.{Event}
+use Rattle.row_edits.specs.declared.event.Event.{Event}
 use Rattle.live_counts.specs.Runs.{starts, ties}
 use Rattle.live_counts.specs.States.{CountsState}
 

@@ -4,8 +4,8 @@ use Rattle.mk_value.specs.Data.{Datum}
 use Rattle.mk_value.specs.Limits.{max_rows}
 use Rattle.relations.specs.Positions.{passing}
 use Rattle.live.specs.Watching.{IsTurn, comes_to, own}
-use Rattle.live.specs.declared.event.Event.{Event}
-use Rattle.live.specs.declared.event.Event.TheVariants.{Insert, Remove, Change}
+use Rattle.row_edits.specs.declared.event.Event.{Event}
+use Rattle.row_edits.specs.declared.event.Event.TheVariants.{Insert, Remove, Change}
 use Rattle.live.specs.declared.op.WatchOp.TheVariants.{Range}
 use Rattle.live.specs.declared.turn.Turn.{Turn}
 use Rattle.live.specs.declared.turn.Turn.TheVariants.{Still, Comes, Goes, Changes, Moves}

@@ -1,6 +1,6 @@
 -- What contracts see of counts.
 use Rattle.std.specs.Prelude.{ℕ, List, Option}
-use Rattle.live.specs.declared.event.Event.{Event}
+use Rattle.row_edits.specs.declared.event.Event.{Event}
 use Rattle.live.specs.declared.op.WatchOp.{WatchOp}
 
 -- the sorting by the keys; the positions of all rows in its order; the places in it where runs of equal keys begin; how many events can

@@ -1,5 +1,6 @@
 pub mod Calling
 pub mod Finding
+mod Cutting
 mod Following
 pub mod Searching
 pub mod Keyed

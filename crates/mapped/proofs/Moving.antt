@@ -45,7 +45,7 @@ pub at_total : (keys : List (List Datum)) → IsTotalOrder (key_at_cmp keys)
 at_total keys = on_total (λ i. get_or keys i []) whole_row_cmp_total
 
 -- positions that keep their keys keep their order
-at_same : (old new : List (List Datum)) (i j k l : ℕ) → get_or new k [] ≡ get_or old i [] → get_or new l [] ≡ get_or old j [] → key_at_cmp old i j ≡ Less → key_at_cmp new k l ≡ Less
+pub at_same : (old new : List (List Datum)) (i j k l : ℕ) → get_or new k [] ≡ get_or old i [] → get_or new l [] ≡ get_or old j [] → key_at_cmp old i j ≡ Less → key_at_cmp new k l ≡ Less
 at_same old new i j k l e f less = ap (λ x. whole_row_cmp x (get_or new l [])) e ∙ ap (whole_row_cmp (get_or old i [])) f ∙ less
 
 -- distinct keys are told apart by their order

@@ -1,5 +1,5 @@
 //! An index that finds the row of a key.
-ghost use Rattle.std.specs.Prelude.{◌≡◌, ◌+◌, ◌<◌, ◌≤◌, ℕ, [], List, length, IsOk, IfOk, OnOk, IfSome, IfNone, Contains, Some, slice_get};
+ghost use Rattle.std.specs.Prelude.{◌≡◌, ◌+◌, ◌<◌, ◌≤◌, ℕ, [], List, ◌++◌, drop, length, take, IsOk, IfOk, OnOk, IfSome, IfNone, Contains, Some, slice_get};
 ghost use Rattle.mk_value.specs.Data.{Datum};
 ghost use Rattle.mapped.specs.Events.{HasKey, IsInRange, IsKeyOfEvent, LeadsTo, keys_after};
 ghost use Rattle.mapped.specs.Index.{AreKeys, row_of};
@@ -7,7 +7,7 @@ ghost use Rattle.mapped.specs.Keys.{keys_of};
 ghost use Rattle.mapped.specs.Refusals.{AnswersDue, index_due};
 
 use crate::building::{first_repeated, keys_of_rows, order_of};
-use crate::order::{change, find, insert, remove};
+use crate::order::{change, find, insert, remove, remove_many};
 use crate::ordered::check_count;
 use crate::{Event, MapError};
 use mk_value::{Memory, Row, TableRead};
@@ -105,6 +105,22 @@ impl HashIndex {
             (Event::Remove(at), _) => remove(&mut self.keys, &mut self.order, *at),
             (Event::Change(at), Some(key)) => change(&mut self.keys, &mut self.order, *at, key),
             _ => unreachable!(),
+        }
+    }
+
+    /// Keeps the index with its rows when so many go, from a position on. It takes no memory. For several rows it makes no comparison: it
+    /// costs a pass over the positions in order and one over the keys behind, whatever the count. For one it costs what that event does.
+    pub fn remove(&mut self, at: usize, count: usize)
+        requires { at + count ≤ length self.old.keys }
+        ensures keys { self.new.keys ≡ take at self.old.keys ++ drop (at + count) self.old.keys }
+        ensures spare { self.old.spare ≤ self.new.spare }
+        // If these were the keys of the rows before, they are those of the rows that are left.
+        ensures rows { (keys : ℕ) (old : List (List Datum)) → self.old.keys ≡ keys_of keys old → self.new.keys ≡ keys_of keys (take at old ++ drop (at + count) old) }
+    {
+        if count == 1 {
+            remove(&mut self.keys, &mut self.order, at);
+        } else {
+            remove_many(&mut self.keys, &mut self.order, at, count);
         }
     }
 }

@@ -1,5 +1,5 @@
 //! The positions of keys in the order of the keys: what an index keeps beside them.
-ghost use Rattle.std.specs.Prelude.{◌≡◌, ◌≢◌, ◌+◌, ◌<◌, ◌≤◌, ◌^◌, ℕ, [], All, length, map, insert, remove, slice_index, slice_index_or, slice_get, slice_set, vec_len, Contains, IfNone, IfSome, Some};
+ghost use Rattle.std.specs.Prelude.{◌≡◌, ◌≢◌, ◌+◌, ◌<◌, ◌≤◌, ◌^◌, ℕ, [], ◌++◌, All, drop, length, map, insert, remove, take, slice_index, slice_index_or, slice_get, slice_set, vec_len, Contains, IfNone, IfSome, Some};
 ghost use Rattle.std.specs.Vec.{vec_capacity};
 ghost use Rattle.std.specs.declared.cmp.Ordering.TheVariants.{Less};
 ghost use Rattle.relations.specs.WholeOrder.{whole_row_cmp};
@@ -10,6 +10,7 @@ ghost use Rattle.mapped.specs.Order.{AreOrdered, IsIndexOf, IsOrderOf, IsOrderWi
 use crate::halving::middle;
 use mk_value::Row;
 use relations::cmp_whole_row;
+use row_edits::{cut_out, remove_run};
 
 /// The first place of the order whose key is not less than this one, found by halving.
 pub(crate) fn place_of(keys: &[Row], order: &[u32], key: &Row) -> usize
@@ -84,6 +85,22 @@ pub(crate) fn remove(keys: &mut Vec<Row>, order: &mut Vec<u32>, at: usize)
     leave(keys, order, at);
     keys.remove(at);
     close_gap(order, at, keys.len());
+}
+
+/// The keys at so many positions go, from one on. The positions behind them move down. It takes one pass over the keys behind and one over
+/// the order, whatever the count.
+pub(crate) fn remove_many(keys: &mut Vec<Row>, order: &mut Vec<u32>, at: usize, count: usize)
+    requires index { IsIndexOf keys.old.items order.old.items }
+    requires there { at + count ≤ length keys.old.items }
+    ensures keys { keys.new.items ≡ take at keys.old.items ++ drop (at + count) keys.old.items }
+    ensures index { IsIndexOf keys.new.items order.new.items }
+    ensures key_len { vec_len keys.new ≤ vec_len keys.old }
+    ensures key_capacity { vec_capacity keys.old ≤ vec_capacity keys.new }
+    ensures order_len { vec_len order.new ≤ vec_len order.old }
+    ensures order_capacity { vec_capacity order.old ≤ vec_capacity order.new }
+{
+    remove_run(order, at as u32, count as u32);
+    cut_out(keys, at, count);
 }
 
 /// The key at a position becomes another. No position moves.

@@ -58,7 +58,7 @@ AreKeptOver view schema rows all = All (λ (k : Kept). same_bytes k.view view �
 
 -- an index can follow what comes without memory, and its keys are distinct then
 abbrev pub CanFollow : KeyedEdit → List Datum → Index → Type 0
-CanFollow (Remove at count) key index = (count ≤ index.spare) × (at + count ≤ length index.keys)
+CanFollow (Remove at count) key index = at + count ≤ length index.keys
 CanFollow edit key index = (2 ≤ index.spare) × IsHashed edit key index.keys
 
 abbrev pub IsReady : Coming → Mapping → Type 0

@@ -86,8 +86,8 @@ impl Kept {
         ensures ready { IfOk result (λ c. IsReady c self.new.mapping) }
         ensures brings { IfOk result (λ c. Brings (T.rows table.now) [] c self.new) }
     {
+        let _size = table.size();
         let key = Row::new(alloc);
-        self.mapping.remove(self.keys, table, place, count)?;
         let edit = KeyedEdit::Remove { at: place, count };
         Ok(Coming { edit, key })
     }

@@ -107,26 +107,6 @@ impl Mapping {
         }
     }
 
-    /// Makes room to follow the removal of rows, from a place on.
-    pub fn remove<T: TableRead>(
-        &mut self,
-        keys: usize,
-        table: &T,
-        at: usize,
-        count: usize,
-    ) -> Result<(), Memory>
-        requires kept { Keeps self.old keys (T.rows table.now) }
-        requires there { at + count ≤ length (T.rows table.now) }
-        ensures stays { Stays self.old self.new }
-        ensures ready { OnOk result (IsReady (record { edit = keyed.Remove at count; key = [] }) self.new) }
-        ensures ascend { OnOk result (Ascend self.new keys (edited_by [] (edits_of (keyed.Remove at count)) (T.rows table.now))) }
-    {
-        match self {
-            Mapping::Hashed(index) => reserve_removal(index, keys, table, at, count),
-            Mapping::InOrder(_) => Ok(()),
-        }
-    }
-
     /// Follows what comes. It takes no memory.
     pub fn follow(&mut self, coming: Coming)
         requires { IsReady coming self.old }
@@ -213,23 +193,6 @@ fn set_hashed<T: TableRead>(
 {
     index.reserve(2)?;
     Ok(KeyedEdit::set_hashed(index, key, at))
-}
-
-/// Makes room in an index to follow the removal of rows, from a place on.
-fn reserve_removal<T: TableRead>(
-    index: &mut HashIndex,
-    keys: usize,
-    table: &T,
-    at: usize,
-    count: usize,
-) -> Result<(), Memory>
-    requires kept { index.old.keys ≡ keys_of keys (T.rows table.now) }
-    requires there { at + count ≤ length (T.rows table.now) }
-    ensures stays { index.new.keys ≡ index.old.keys }
-    ensures ready { OnOk result (CanFollow (keyed.Remove at count) [] index.new) }
-{
-    index.reserve(count)?;
-    Ok(())
 }
 
 /// An index follows what comes.

@@ -1,14 +1,14 @@
 -- The rows between two events, as a table shows them.
-use Rattle.std.proofs.Common.{◌≡◌, ℕ, ◌<◌, ◌≤◌, Bool, true, false, ◌||◌, ltb, ◌+◌, List, [], ◌∷◌, ◌++◌, length, get_or, take, drop, Option, Some, None, MatchOption, refl, ap, sym, subst, ◌∙◌, arith, inl, inr}
+use Rattle.std.proofs.Common.{◌≡◌, ℕ, ◌<◌, ◌≤◌, Bool, true, false, ◌||◌, ◌+◌, List, [], ◌∷◌, ◌++◌, length, get_or, take, drop, Option, Some, None, MatchOption, refl, ap, sym, subst, ◌∙◌, arith, inl, inr}
 use Rattle.std.specs.List.{list_any}
 use Rattle.std.proofs.lemmas.Bool.{cases_lt, false≢true, le-ltb, lt-ltb}
 use Rattle.std.proofs.lemmas.List.{take-append-drop, take_more}
 use Rattle.std.proofs.lemmas.List.Folds.{list_any-append, list_any_at}
-use Rattle.mk_value.specs.Data.{Datum, AreRowsOf, IsRowOf}
+use Rattle.mk_value.specs.Data.{Datum, AreRowsOf}
 use Rattle.mk_value.specs.Heading.{Attribute}
 use Rattle.mk_value.specs.Limits.{max_rows}
 use Rattle.row_edits.specs.declared.edit.RowEdit.{RowEdit}
-use Rattle.row_edits.specs.Edits.{AreInRange, IsInRange, bring, brings, edited, edited_by, size_after, size_by}
+use Rattle.row_edits.specs.Edits.{AreInRange, IsInRange, bring, brings, edited_by, size_after, size_by}
 use Rattle.row_edits.specs.declared.edit.RowEdit.TheVariants.{Insert, Remove, Change}
 use Rattle.row_edits.specs.Events.{begun, count_of}
 use Rattle.row_edits.specs.Lines.{IsBetween, IsLine, edit_at, row_at, rows_between}

@@ -1,10 +1,10 @@
 -- Edits of rows as events of single rows.
-use Rattle.std.specs.Prelude.{ℕ, zero, suc, ◌+◌, ◌==◌, if◌then◌else◌, List, [], ◌∷◌, ◌++◌, map, insert, remove, slice_set}
+use Rattle.std.specs.Prelude.{ℕ, ◌+◌, ◌==◌, if◌then◌else◌, List, [], ◌∷◌, ◌++◌, map, insert, remove, slice_set}
 use Rattle.std.specs.List.{sum_by}
 use Rattle.mk_value.specs.Data.{Datum}
 use Rattle.relations.specs.Positions.{numbers}
-use Rattle.live.specs.declared.event.Event.{Event}
-use Rattle.live.specs.declared.event.Event.TheVariants as event
+use Rattle.row_edits.specs.declared.event.Event.{Event}
+use Rattle.row_edits.specs.declared.event.Event.TheVariants as event
 use Rattle.row_edits.specs.declared.edit.RowEdit.{RowEdit}
 use Rattle.row_edits.specs.declared.edit.RowEdit.TheVariants.{Insert, Remove, Change}
 

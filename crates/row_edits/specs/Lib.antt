@@ -2,3 +2,4 @@ pub mod Edits
 pub mod Events
 pub mod Lines
 pub mod Origins
+pub mod Runs

@@ -4,7 +4,7 @@ ghost use Rattle.mk_value.specs.Limits.{max_rows};
 ghost use Rattle.row_edits.specs.Edits.{AreInRange, IsInRange};
 ghost use Rattle.row_edits.specs.Events.{begun, count_all, count_of, event_of};
 
-use live::Event;
+use crate::event::Event;
 use mk_value::Sequence;
 
 /// An edit of a list of rows.

@@ -1,20 +1,16 @@
 //! Laws of edits and of their events.
 ghost use Rattle.std.specs.Prelude.{◌≡◌, ◌+◌, ◌<◌, ◌≤◌, ◌++◌, ◌∷◌, [], ℕ, List, true, length, map, take};
 ghost use Rattle.mk_value.specs.Data.{Datum};
-ghost use Rattle.live.specs.Putting.{IsPlace};
-ghost use Rattle.live.specs.Watching.{IsTurn, root_turn};
 ghost use Rattle.row_edits.specs.Edits.{AreInRange, IsInRange, bring, edited, edited_by};
-ghost use Rattle.row_edits.specs.Events.{begun, count_all, count_of, event_of, events_by, rows_after};
+ghost use Rattle.row_edits.specs.Events.{begun, count_all, count_of, event_of, events_by, happened, rows_after};
 ghost use Rattle.row_edits.specs.Lines.{IsLine, row_at};
 ghost use Rattle.row_edits.specs.declared.edit.RowEdit.{RowEdit};
 
 /// Each event of an edit leads from the rows once the events before it have happened to the rows once it has happened too; with none of
 /// them the rows are as before, and with all of them the edit is whole.
-pub fn events_are_turns()
-    ensures turn { (e : RowEdit) (k : ℕ) (row : List Datum) (rows : List (List Datum)) → IsInRange e (length rows) → k < count_of e
-        → IsTurn (root_turn (event_of e k)) (edited row (begun k e) rows) (edited row (begun (k + 1) e) rows) }
-    ensures place { (e : RowEdit) (k : ℕ) (row : List Datum) (rows : List (List Datum)) → IsInRange e (length rows) → k < count_of e
-        → IsPlace (event_of e k) (length (edited row (begun k e) rows)) }
+pub fn events_happen()
+    ensures next { (e : RowEdit) (k : ℕ) (row : List Datum) (rows : List (List Datum)) → IsInRange e (length rows) → k < count_of e
+        → edited row (begun (k + 1) e) rows ≡ happened row (event_of e k) (edited row (begun k e) rows) }
     ensures none { (e : RowEdit) (row : List Datum) (rows : List (List Datum)) → edited row (begun 0 e) rows ≡ rows }
     ensures all { (e : RowEdit) → begun (count_of e) e ≡ e }
     ensures some { (e : RowEdit) (k size : ℕ) → IsInRange e size → k ≤ count_of e → IsInRange (begun k e) size }

@@ -4,17 +4,21 @@
 //! key. What follows the rows hears of each row that comes, goes or changes, and sees the rows before and after each: [`Between`] shows them
 //! as a table that takes each row from the table before the line or from the one after it, without memory.
 //!
-//! It stands on `live` for what an event is, and knows nothing of watches, keys or commands.
+//! It knows nothing of watches, keys or commands.
 #![tactic(auto)]
 
 mod between;
 mod edit;
+mod event;
 mod laws;
 mod lent;
 mod line;
+mod numbers;
 mod origin;
 
 pub use between::Between;
 pub use edit::{RowEdit, RowEdits, count_events};
-pub use laws::{edits_are_events, events_are_turns, lines_are_edits};
+pub use event::Event;
+pub use laws::{edits_are_events, events_happen, lines_are_edits};
 pub use line::Line;
+pub use numbers::{cut_out, insert_run, raise, remove_run};

@@ -8,7 +8,7 @@ ghost use Rattle.row_edits.specs.Lines.{IsLine, edit_at, rows-prop};
 
 use crate::between::Between;
 use crate::edit::RowEdit;
-use live::Event;
+use crate::event::Event;
 use mk_value::TableRead;
 
 /// A line on a view: the tables before and after it, its edits, one after another, and where the row that comes with them stands after it,

@@ -1,6 +1,4 @@
 use Rattle.std.proofs.Common.{sym, ◌∙◌}
-use Rattle.followers.specs.Keyed.{other_than}
-use Rattle.mapped.specs.Index.{row_of}
 use Rattle.followers.proofs.Hashing.{alone}
 use Rattle.followers.proofs.hashed.follow_change.Goals as goal
 

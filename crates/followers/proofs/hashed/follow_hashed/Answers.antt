@@ -1,4 +1,4 @@
-use Rattle.std.proofs.Common.{◌≡◌, ℕ, ◌+◌, ◌++◌, ◌∷◌, List, Some, None, ap, suc, sym, subst, take, drop, ◌∙◌, arith}
+use Rattle.std.proofs.Common.{◌≡◌, ℕ, ◌+◌, ◌++◌, List, Some, ap, suc, sym, subst, take, drop, ◌∙◌, arith}
 use Rattle.std.specs.List.{insert}
 use Rattle.mk_value.specs.Data.{Datum}
 use Rattle.mapped.specs.Index.{row_of}

@@ -1,4 +1,4 @@
-use Rattle.followers.proofs.Raising.{raised_is}
+use Rattle.live.proofs.Rising.{raised_is}
 use Rattle.followers.proofs.laws.events_raise.Goals as goal
 
 pub returns : goal.returns

@@ -1,4 +1,4 @@
-use Rattle.std.proofs.Common.{◌≡◌, ◌+◌, ◌<◌, ◌≤◌, List, length, take, ap, sym, subst, ◌∙◌, arith}
+use Rattle.std.proofs.Common.{◌≡◌, ◌+◌, take, sym, subst, ◌∙◌, arith}
 use Rattle.std.proofs.lemmas.List.Sums.{sum_by_more, sum_by_more_le}
 use Rattle.live.specs.Chains.{AreNow}
 use Rattle.row_edits.specs.Events.{count_all, count_of}
@@ -6,7 +6,7 @@ use Rattle.row_edits.specs.Lines.{edit_at}
 use Rattle.row_edits.specs.declared.edit.RowEdit.TheVariants.{Insert}
 use Rattle.followers.specs.Following.{HaveFollowed}
 use Rattle.followers.proofs.Eventful.{rows_first, rows_last}
-use Rattle.followers.proofs.Raising.{followed_then}
+use Rattle.live.proofs.Rising.{followed_then}
 use Rattle.followers.proofs.watching.follow_edits.Goals as goal
 
 pub follow_edit-requires-clause-now : goal.follow_edit-requires-clause-now

@@ -1,14 +1,12 @@
-use Rattle.std.proofs.Common.{◌≡◌, ◌+◌, ◌<◌, ◌≤◌, List, length, ap, sym, subst, ◌∙◌, arith}
-use Rattle.mk_value.specs.Data.{Datum}
+use Rattle.std.proofs.Common.{List, length, ap, sym, subst, arith}
 use Rattle.mk_value.specs.Heading.{Attribute}
-use Rattle.live.specs.Chains.{AreDue, AreNow}
+use Rattle.live.specs.Chains.{AreNow}
 use Rattle.live.specs.Putting.{IsPlace}
 use Rattle.live.specs.Watching.{IsTurn, root_turn}
 use Rattle.live.proofs.Standing.{now_same}
 use Rattle.row_edits.specs.Events.{event_of}
 use Rattle.row_edits.specs.Lines.{edit_at, rows_at_event, rows_between}
 use Rattle.followers.proofs.Eventful.{event_place, event_turn, few_events, same_shown}
-use Rattle.followers.proofs.Raising.{followed_one}
 use Rattle.followers.proofs.watching.follow_event.Goals as goal
 
 pub before-requires-clause-place : goal.before-requires-clause-place

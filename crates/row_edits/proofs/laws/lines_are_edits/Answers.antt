@@ -1,8 +1,8 @@
 use Rattle.std.proofs.Common.{◌≡◌, ℕ, ◌<◌, Bool, true, false, List, length, refl, ap, sym, ◌∙◌}
 use Rattle.mk_value.specs.Data.{Datum}
 use Rattle.row_edits.specs.declared.edit.RowEdit.{RowEdit}
-use Rattle.row_edits.specs.Edits.{AreInRange, bring, edited_by}
-use Rattle.row_edits.specs.Lines.{IsLine, row_at}
+use Rattle.row_edits.specs.Edits.{bring, edited_by}
+use Rattle.row_edits.specs.Lines.{row_at}
 use Rattle.row_edits.proofs.Editing.{edited_by_any}
 use Rattle.row_edits.proofs.laws.lines_are_edits.Goals as goal
 

@@ -1,4 +1,4 @@
-use Rattle.std.proofs.Common.{◌≡◌, ◌+◌, ◌-◌, ◌<◌, ◌≤◌, Some, None, sym, ◌∙◌, arith}
+use Rattle.std.proofs.Common.{sym, ◌∙◌, arith}
 use Rattle.row_edits.proofs.Editing.{walk_came, walk_range, walk_same, walk_stands}
 use Rattle.row_edits.proofs.origin.origin.Goals as goal
 

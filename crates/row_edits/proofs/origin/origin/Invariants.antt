@@ -1,6 +1,6 @@
 use Rattle.std.proofs.Common.{◌≡◌, ℕ, List, [], length, get_or, take, ◌<◌, ◌≤◌}
 use Rattle.mk_value.specs.Data.{Datum}
-use Rattle.row_edits.specs.Edits.{AreInRange, edited_by, size_by}
+use Rattle.row_edits.specs.Edits.{edited_by, size_by}
 use Rattle.row_edits.specs.Origins.{StandAfter}
 use Rattle.row_edits.proofs.origin.origin.Given as goal
 

@@ -4,7 +4,7 @@ use Rattle.live.specs.Keeping.{AreKept}
 use Rattle.live.specs.Putting.{least_room, set_aside}
 use Rattle.live.specs.States.{Watching}
 use Rattle.live.specs.Watching.{goes_from, root_turn}
-use Rattle.live.specs.declared.event.Event.{Event}
+use Rattle.row_edits.specs.declared.event.Event.{Event}
 use Rattle.live.proofs.Room.{have_room, same_room, set_one_aside}
 use Rattle.live.proofs.Seeing.{linked_inside}
 use Rattle.live.proofs.Standing.{now_linked, now_same}

@@ -9,8 +9,8 @@ use Rattle.live.proofs.Standing.{now_same}
 use Rattle.live.proofs.Turning.{written}
 use Rattle.live.proofs.watches.Watches.reserve.Goals as goal
 
-pub invariant_of-self : goal.invariant_of-self
-invariant_of-self c =
+pub invariant_of-self-2 : goal.invariant_of-self-2
+invariant_of-self-2 c =
     let new = c.reserve_all.new.watches in
     let old = c.deref_mut.result.now in
     let e = c.reserve_all.ensures in

@@ -1,4 +1,4 @@
-use Rattle.std.proofs.Common.{◌≡◌, ◌≤◌, sym, subst, ◌∙◌, arith}
+use Rattle.std.proofs.Common.{sym, ◌∙◌}
 use Rattle.row_edits.proofs.Showing.{came_before, came_last, part_stands, whole_stands}
 use Rattle.row_edits.proofs.between.Between.place.Goals as goal
 

@@ -1,4 +1,4 @@
-use Rattle.std.proofs.Common.{◌≡◌, length, sym, subst, ap, ◌∙◌}
+use Rattle.std.proofs.Common.{sym, subst, ap, ◌∙◌}
 use Rattle.mk_value.specs.Data.{AreRowsOf}
 use Rattle.row_edits.specs.Edits.{AreInRange, IsInRange, size_after, size_by}
 use Rattle.row_edits.proofs.Showing.{between_part, between_rows, between_size, between_whole}

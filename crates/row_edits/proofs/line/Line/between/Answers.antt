@@ -1,4 +1,4 @@
-use Rattle.std.proofs.Common.{length, take, sym, subst}
+use Rattle.std.proofs.Common.{take, sym, subst}
 use Rattle.row_edits.specs.Lines.{IsBetween}
 use Rattle.row_edits.proofs.Showing.{some_between}
 use Rattle.row_edits.proofs.line.Line.between.Goals as goal

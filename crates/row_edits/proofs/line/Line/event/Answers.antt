@@ -1,4 +1,3 @@
-use Rattle.std.proofs.Common.{◌≤◌, arith}
 use Rattle.row_edits.proofs.Editing.{few_by}
 use Rattle.row_edits.proofs.Showing.{edit_range, whole_range}
 use Rattle.row_edits.proofs.line.Line.event.Goals as goal

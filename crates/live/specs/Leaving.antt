@@ -1,0 +1,43 @@
+-- Rows of which some go, wherever they stand, and the positions of those that stay.
+use Rattle.std.specs.Prelude.{◌==◌, ℕ, Bool, not, if◌then◌else◌, List, length, map, filter, Option}
+use Rattle.mk_value.specs.Data.{Datum}
+use Rattle.relations.specs.Positions.{numbers}
+use Rattle.relations.specs.Rows.{rows_at}
+use Rattle.live.specs.Chains.{place_in_root}
+use Rattle.row_edits.specs.Runs.{is_outside}
+use Rattle.live.specs.States.{WatchState}
+
+-- the places that stay, of so many
+abbrev pub staying : (ℕ → Bool) → ℕ → List ℕ
+staying gone n = filter (λ i. not (gone i)) (numbers n)
+
+-- the rows that stay
+abbrev pub rows_left : (ℕ → Bool) → List (List Datum) → List (List Datum)
+rows_left gone rows = rows_at rows (staying gone (length rows))
+
+-- the place of a row then: as many stay before it
+abbrev pub place_left : (ℕ → Bool) → ℕ → ℕ
+place_left gone i = length (staying gone i)
+
+-- the positions that are left, by their new numbers
+abbrev pub kept_left : (ℕ → Bool) → List ℕ → List ℕ
+kept_left gone kept = map (place_left gone) (filter (λ i. not (gone i)) kept)
+
+-- a place is one of so many from one on
+abbrev pub is_inside : ℕ → ℕ → ℕ → Bool
+is_inside at count k = not (is_outside at count k)
+
+-- a row of a source goes where it stands in the root among so many from a place on
+abbrev pub goes_at : ℕ → ℕ → List WatchState → Option ℕ → ℕ → Bool
+goes_at at count watches over i = is_inside at count (place_in_root watches over i)
+
+-- what stands for the place of a row that goes: no table has so many rows
+abbrev pub no_rank : ℕ
+no_rank = 4294967295
+
+abbrev pub has_rank : ℕ → Bool
+has_rank k = not (k == no_rank)
+
+-- the place that a row has then, or that it goes
+abbrev pub rank_of : (ℕ → Bool) → ℕ → ℕ
+rank_of gone i = if gone i then no_rank else place_left gone i
