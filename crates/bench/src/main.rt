@@ -1,7 +1,7 @@
 //! Times what the store is made of, in nanoseconds a call, a row or an event.
 //!
 //! `bench columns` times columns of integers and of texts, `bench blocks` their bytes, `bench edits` edits of a long view, `bench nested` edits
-//! inside one of its rows, `bench operators` the operators, `bench pairs none`, `size` and `rows` a join of sixteen million pairs, and `bench watches` what follows the events of a table. Without a word the operators go over a few rows, and what they answer is printed without times.
+//! inside one of its rows, `bench places` rows put in and removed at random places, `bench operators` the operators, `bench pairs none`, `size` and `rows` a join of sixteen million pairs, and `bench watches` what follows the events of a table. Without a word the operators go over a few rows, and what they answer is printed without times.
 #![tactic(auto)]
 
 mod blocks;
@@ -10,6 +10,7 @@ mod columns;
 mod edits;
 mod nested;
 mod operators;
+mod places;
 mod structures;
 mod views;
 mod watches;
@@ -43,7 +44,10 @@ fn measure_part(rt: &HostRuntime, part: &str, pairs: &str) -> Result<()> {
         "nested" => nested::measure_all(rt),
         "operators" => operators::measure_all(rt),
         "pairs" => operators::list_pairs(rt, pairs),
+        "places" => places::measure_all(rt),
         "watches" => watches::measure_all(rt),
-        _ => bail!("the words are blocks, columns, edits, nested, operators, pairs or watches"),
+        _ => bail!(
+            "the words are blocks, columns, edits, nested, operators, pairs, places or watches"
+        ),
     }
 }

@@ -41,6 +41,12 @@ pub fn put_row(root: &mut Root, path: &Path, place: usize, row: &Row, count: u32
     Ok(())
 }
 
+/// Removes the row at a place.
+pub fn take_row(root: &mut Root, path: &Path, place: usize) -> Result<()> {
+    root.remove_rows(path, place, 1)?;
+    Ok(())
+}
+
 /// Gives a property of the row at a place another value.
 pub fn set_value(
     root: &mut Root,

@@ -1,12 +1,12 @@
 -- Laws of a column that is made of its blocks.
-use Rattle.std.proofs.Common.{◌≡◌, ℕ, zero, suc, ◌+◌, ◌-◌, ◌<◌, ◌≤◌, ℤ, pos, Bool, true, false, cond, Some, slice_get, List, [], ◌∷◌, ◌++◌, length, get_or, take, drop, inl, inr, refl, sym, ap, subst, ◌∙◌, arith}
+use Rattle.std.proofs.Common.{◌≡◌, ℕ, suc, ◌+◌, ◌-◌, ◌<◌, ◌≤◌, ℤ, pos, Bool, true, false, cond, Some, slice_get, List, [], ◌∷◌, ◌++◌, length, get_or, take, drop, refl, sym, ap, subst, ◌∙◌, arith}
 use Rattle.std.specs.Prelude.{nat_le, not}
-use Rattle.std.specs.List.{filter, concat}
-use Rattle.std.proofs.lemmas.Bool.{cases_lt, le-leb, lt-leb, leb-true, false≢true, eq-eqb}
+use Rattle.std.specs.List.{concat}
+use Rattle.std.proofs.lemmas.Bool.{le-leb, lt-leb, false≢true, eq-eqb}
 use Rattle.std.proofs.lemmas.List.{append_assoc, append-nil, map-append, take_all, take_at, drop_at, take_more, take-append-drop, length-map, length-append, length-take-le, length-drop, get_or-append-add}
 use Rattle.std.proofs.lemmas.List.Elements.{filter-append}
 use Rattle.std.proofs.lemmas.Option.{get_or_from_slice_get, slice_get_within, slice_get-get_or}
-use Rattle.segments.proofs.Lists.{take-split, drop-cons-at}
+use Rattle.segments.proofs.Lists.{take-split}
 use Rattle.bytes_col.specs.declared.blocks.BlocksError.{BlocksError}
 use Rattle.bytes_col.specs.declared.blocks.BlocksError.TheVariants.{Mismatch, Memory}
 use Rattle.bytes_col.specs.declared.blocks.Next.{Next}

@@ -32,7 +32,7 @@ cells_kept bytes more cs h = All-weaker (IsCell bytes) (IsCell (bytes ++ more)) 
 
 -- cells that are apart
 
-apart_sym : (c d : Cell) → IsApart c d → IsApart d c
+pub apart_sym : (c d : Cell) → IsApart c d → IsApart d c
 apart_sym (Cell.Short p) (Cell.Short q) h = elim h [ inl before ↦ inr before | inr behind ↦ inl behind ]
 apart_sym (Cell.Short p) (Cell.Memo m) h = tt
 apart_sym (Cell.Memo m) (Cell.Short q) h = tt
@@ -45,7 +45,7 @@ behind_apart bytes (Cell.Short p) (Cell.Memo n) b h = tt
 behind_apart bytes (Cell.Memo m) (Cell.Memo n) b h = tt
 
 -- a cell behind all bytes is apart from those that are there
-all_apart : (bytes : List ℕ) (cs : List Cell) (c : Cell) → IsBehind (length bytes) c → All (IsCell bytes) cs → All (λ d. IsApart d c) cs
+pub all_apart : (bytes : List ℕ) (cs : List Cell) (c : Cell) → IsBehind (length bytes) c → All (IsCell bytes) cs → All (λ d. IsApart d c) cs
 all_apart bytes cs c b h = All-weaker (IsCell bytes) (λ d. IsApart d c) (λ d. behind_apart bytes c d b) cs h
 
 apart-push : (cs : List Cell) (c : Cell) → AreApart cs → All (λ d. IsApart d c) cs → AreApart (cs ++ c ∷ [])
@@ -301,3 +301,7 @@ value_read cs bytes i c l here = ap (cell_value bytes) here ∙ sym (get_or-map 
 pub both_ok : {A E P Q R : Type 0} (r : Result A E) → (P → Q → R) → OnOk r P → OnOk r Q → OnOk r R
 both_ok (Ok x) f p q = f p q
 both_ok (Err e) f p q = tt
+
+pub all_ok : {A E P Q R S : Type 0} (r : Result A E) → (P → Q → R → S) → OnOk r P → OnOk r Q → OnOk r R → OnOk r S
+all_ok (Ok x) f p q s = f p q s
+all_ok (Err e) f p q s = tt

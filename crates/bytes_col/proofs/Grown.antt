@@ -1,16 +1,16 @@
 -- Laws of chunks, the last of which stands by itself and takes more values.
-use Rattle.std.proofs.Common.{◌≡◌, ℕ, zero, suc, ◌+◌, ◌-◌, ◌<◌, ◌≤◌, List, [], ◌∷◌, ◌++◌, length, get_or, take, pos, None, refl, sym, ap, subst, ◌∙◌, arith}
-use Rattle.std.proofs.lemmas.List.{length-map, length-take-le, length_push, take-map, map-append}
+use Rattle.std.proofs.Common.{◌≡◌, ℕ, zero, suc, ◌+◌, ◌-◌, ◌<◌, List, [], ◌∷◌, ◌++◌, length, get_or, take, pos, sym, ap, subst, ◌∙◌, arith}
+use Rattle.std.proofs.lemmas.List.{length-map, length-take-le, take-map, map-append}
 use Rattle.std.proofs.lemmas.List.Elements.{All-take}
 use Rattle.segments.specs.Joined.{joined}
 use Rattle.segments.proofs.Last.{joined-last-more, front_and_last, front_parts, front-push, last_is}
 use Rattle.int_col.specs.Numbers.{Numbers, Push as NumbersPush}
 use Rattle.bytes_col.specs.declared.cell.Cell.{Cell}
 use Rattle.bytes_col.specs.Chunk.{cell_value, cell_values, IsApart, IsCell, AreApart, IsChunk}
-use Rattle.bytes_col.specs.Growing.{front, EndsWithSome}
+use Rattle.bytes_col.specs.Growing.{front}
 use Rattle.bytes_col.specs.Prepared.{AreSizes}
 use Rattle.bytes_col.specs.Spine.{HasSizes, LastTakes}
-use Rattle.bytes_col.specs.Strings.{short_bytes, sizes_of}
+use Rattle.bytes_col.specs.Strings.{short_bytes}
 use Rattle.bytes_col.proofs.Short.{length-short-append}
 
 apart-take : (k : ℕ) (cs : List Cell) → AreApart cs → AreApart (take k cs)

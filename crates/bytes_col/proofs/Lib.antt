@@ -9,3 +9,6 @@ pub mod Orders
 mod Filled
 mod BlockLaws
 pub mod Grown
+pub mod Inserted
+pub mod Edited
+pub mod Places

@@ -52,6 +52,13 @@ sizes_removed vs new s t at n h is sized home = record {
   nowhere = home ∙ ap (home_after n) h.nowhere ∙ none_after n;
 }
 
+-- the same, where the sizes have no home then
+pub sizes_put : (vs new : List (List ℕ)) (s t : Numbers) (at n : ℕ) (v : List ℕ) → HasSizes vs s → new ≡ take at vs ++ (replicate n v ++ drop at vs) → t.values ≡ take at s.values ++ (replicate n (pos (length v)) ++ drop at s.values) → t.home ≡ None → HasSizes new t
+sizes_put vs new s t at n v h is sized home = sizes_inserted vs new s t at n v h is sized (home ∙ sym (ap (home_after n) h.nowhere ∙ none_after n))
+
+pub sizes_taken : (vs new : List (List ℕ)) (s t : Numbers) (at n : ℕ) → HasSizes vs s → new ≡ take at vs ++ drop (at + n) vs → t.values ≡ take at s.values ++ drop (at + n) s.values → t.home ≡ None → HasSizes new t
+sizes_taken vs new s t at n h is sized home = sizes_removed vs new s t at n h is sized (home ∙ sym (ap (home_after n) h.nowhere ∙ none_after n))
+
 pub length-sizes : (vs : List (List ℕ)) (s : Numbers) → HasSizes vs s → length s.values ≡ length vs
 length-sizes vs s h = ap length h.are ∙ length-map vs (λ x. pos (length x))
 

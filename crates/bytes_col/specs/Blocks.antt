@@ -1,5 +1,5 @@
 -- A column made of its blocks.
-use Rattle.std.specs.Prelude.{◌≡◌, ℕ, ◌≤◌, ℤ, pos, Bool, false, ◌==◌, nat_le, if◌then◌else◌, List, [], ◌∷◌, ◌++◌, length, take, drop}
+use Rattle.std.specs.Prelude.{◌≡◌, ℕ, ◌≤◌, ℤ, Bool, false, ◌==◌, nat_le, if◌then◌else◌, List, [], ◌∷◌, ◌++◌, length, take}
 use Rattle.bytes_col.specs.declared.blocks.BlocksError.{BlocksError}
 use Rattle.bytes_col.specs.declared.blocks.BlocksError.TheVariants.{Mismatch, Memory}
 use Rattle.bytes_col.specs.declared.blocks.Next.{Next}

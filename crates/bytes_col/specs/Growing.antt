@@ -1,5 +1,5 @@
 -- A list of values that grows at its end, and a column that is ready for one more value.
-use Rattle.std.specs.Prelude.{◌≡◌, ℕ, ◌-◌, ◌<◌, List, [], length, take, slice_index_or}
+use Rattle.std.specs.Prelude.{ℕ, ◌-◌, ◌<◌, List, [], length, take, slice_index_or}
 
 -- a list without its last item
 abbrev pub front : {X : Type 0} → List X → List X

@@ -9,3 +9,4 @@ pub mod Cursor
 pub mod Blocks
 pub mod Growing
 pub mod Prepared
+pub mod Places

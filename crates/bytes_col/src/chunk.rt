@@ -1,8 +1,9 @@
 //! A segment of values.
-ghost use Rattle.std.specs.Prelude.{◌≡◌, ℕ, pos, ◌+◌, ◌-◌, ◌*◌, ◌<◌, ◌≤◌, [], ◌∷◌, ◌++◌, length, slice_set, slice_index_or, take, drop, replicate, None, IfOk, OnOk, OnErr};
+ghost use Rattle.std.specs.Prelude.{◌≡◌, ℕ, pos, ◌+◌, ◌-◌, ◌*◌, ◌<◌, ◌≤◌, [], ◌∷◌, ◌++◌, length, slice_set, slice_index_or, take, drop, replicate, None, IfOk, OnOk, OnErr, vec_capacity};
 ghost use Rattle.bytes_col.specs.Growing.{front};
 ghost use Rattle.bytes_col.specs.Strings.{short_bytes};
 ghost use Rattle.std.specs.Bool.{OnTrue, OnFalse};
+ghost use Rattle.segments.specs.Together.{Together};
 ghost use Rattle.bytes_col.specs.Chunk.{cell_value, IsCell, IsBehind, HasSize, overwritten};
 
 use crate::cell::{Cell, Piece, SHORT_MOST};
@@ -185,6 +186,86 @@ impl Chunk {
         Ok(())
     }
 
+    /// Puts a value in before a place, or at the end, with its size, and makes the call, or none of these.
+    pub(crate) fn insert_then<F: FnMut() -> Result<(), Memory>>(
+        &mut self,
+        at: usize,
+        value: &[u8],
+        sizes: &mut IntCol,
+        row: usize,
+        also: &mut F,
+    ) -> Result<(), Memory>
+        requires at { at ≤ length self.old }
+        requires room { length self.old < 512 }
+        requires row { row ≤ length sizes.old.values }
+        requires few { length sizes.old.values < 16777216 }
+        requires also { F.pre also.old }
+        ensures ok { OnOk result (self.new ≡ take at self.old ++ (value.now ∷ drop at self.old)) }
+        ensures sizes { OnOk result (sizes.new.values ≡ take row sizes.old.values ++ (replicate 1 (pos (length value.now)) ++ drop row sizes.old.values)) }
+        ensures home { OnOk result (sizes.new.home ≡ None) }
+        ensures err { OnErr result (self.new ≡ self.old) }
+        ensures sizes_err { OnErr result (sizes.new ≡ sizes.old) }
+        ensures also { Together F.step result also.old also.new }
+    {
+        self.tighten()?;
+        self.put_then(at, value, sizes, row, also)
+    }
+
+    /// The same, where the bytes of no value are few.
+    fn put_then<F: FnMut() -> Result<(), Memory>>(
+        &mut self,
+        at: usize,
+        value: &[u8],
+        sizes: &mut IntCol,
+        row: usize,
+        also: &mut F,
+    ) -> Result<(), Memory>
+        requires at { at ≤ length self.old }
+        requires room { length self.old < 512 }
+        requires row { row ≤ length sizes.old.values }
+        requires few { length sizes.old.values < 16777216 }
+        requires also { F.pre also.old }
+        ensures ok { OnOk result (self.new ≡ take at self.old ++ (value.now ∷ drop at self.old)) }
+        ensures sizes { OnOk result (sizes.new.values ≡ take row sizes.old.values ++ (replicate 1 (pos (length value.now)) ++ drop row sizes.old.values)) }
+        ensures home { OnOk result (sizes.new.home ≡ None) }
+        ensures err { OnErr result (self.new ≡ self.old) }
+        ensures sizes_err { OnErr result (sizes.new ≡ sizes.old) }
+        ensures also { Together F.step result also.old also.new }
+    {
+        self.cells.reserve(1)?;
+        let cell = stage(&mut self.bytes, value)?;
+        sizes.insert_then(row, value.len() as i64, 1, also)?;
+        put_cell(&mut self.cells, at, cell);
+        self.short += short_size(value);
+        Ok(())
+    }
+
+    /// Takes the value at a place away, and its size, and makes the call, or none of these. Its bytes, if it is short, are those of no
+    /// value then.
+    pub(crate) fn remove_then<F: FnMut() -> Result<(), Memory>>(
+        &mut self,
+        at: usize,
+        sizes: &mut IntCol,
+        row: usize,
+        also: &mut F,
+    ) -> Result<(), Memory>
+        requires at { at < length self.old }
+        requires row { row < length sizes.old.values }
+        requires also { F.pre also.old }
+        ensures ok { OnOk result (self.new ≡ take at self.old ++ drop (at + 1) self.old) }
+        ensures sizes { OnOk result (sizes.new.values ≡ take row sizes.old.values ++ drop (row + 1) sizes.old.values) }
+        ensures home { OnOk result (sizes.new.home ≡ None) }
+        ensures err { OnErr result (self.new ≡ self.old) }
+        ensures sizes_err { OnErr result (sizes.new ≡ sizes.old) }
+        ensures also { Together F.step result also.old also.new }
+    {
+        let short = self.short - short_size(self.value(at));
+        sizes.remove_then(row, 1, also)?;
+        take_cell(&mut self.cells, at);
+        self.short = short;
+        Ok(())
+    }
+
     /// Adds a copy of another chunk's value. A memo's copy shares its bytes.
     pub(crate) fn add(&mut self, other: &Chunk, at: usize) -> Result<(), Memory>
         requires at { at < length other.now }
@@ -333,6 +414,76 @@ pub(crate) fn set_shared(
         Some(own) => own.set(at, value, sizes, row),
         None => chunk.own()?.set(at, value, sizes, row),
     }
+}
+
+/// Puts a value into a chunk, with its size, and makes the call, or none of these. Other owners keep the chunk as it was.
+pub(crate) fn insert_shared<F: FnMut() -> Result<(), Memory>>(
+    chunk: &mut Shared<Chunk>,
+    at: usize,
+    value: &[u8],
+    sizes: &mut IntCol,
+    row: usize,
+    also: &mut F,
+) -> Result<(), Memory>
+    requires at { at ≤ length chunk.old }
+    requires room { length chunk.old < 512 }
+    requires row { row ≤ length sizes.old.values }
+    requires few { length sizes.old.values < 16777216 }
+    requires also { F.pre also.old }
+    ensures ok { OnOk result (chunk.new ≡ take at chunk.old ++ (value.now ∷ drop at chunk.old)) }
+    ensures sizes { OnOk result (sizes.new.values ≡ take row sizes.old.values ++ (replicate 1 (pos (length value.now)) ++ drop row sizes.old.values)) }
+    ensures home { OnOk result (sizes.new.home ≡ None) }
+    ensures err { OnErr result (chunk.new ≡ chunk.old) }
+    ensures sizes_err { OnErr result (sizes.new ≡ sizes.old) }
+    ensures also { Together F.step result also.old also.new }
+{
+    match chunk.sole() {
+        Some(own) => own.insert_then(at, value, sizes, row, also),
+        None => chunk.own()?.insert_then(at, value, sizes, row, also),
+    }
+}
+
+/// Takes a value out of a chunk, with its size, and makes the call, or none of these. Other owners keep the chunk as it was.
+pub(crate) fn remove_shared<F: FnMut() -> Result<(), Memory>>(
+    chunk: &mut Shared<Chunk>,
+    at: usize,
+    sizes: &mut IntCol,
+    row: usize,
+    also: &mut F,
+) -> Result<(), Memory>
+    requires at { at < length chunk.old }
+    requires row { row < length sizes.old.values }
+    requires also { F.pre also.old }
+    ensures ok { OnOk result (chunk.new ≡ take at chunk.old ++ drop (at + 1) chunk.old) }
+    ensures sizes { OnOk result (sizes.new.values ≡ take row sizes.old.values ++ drop (row + 1) sizes.old.values) }
+    ensures home { OnOk result (sizes.new.home ≡ None) }
+    ensures err { OnErr result (chunk.new ≡ chunk.old) }
+    ensures sizes_err { OnErr result (sizes.new ≡ sizes.old) }
+    ensures also { Together F.step result also.old also.new }
+{
+    match chunk.sole() {
+        Some(own) => own.remove_then(at, sizes, row, also),
+        None => chunk.own()?.remove_then(at, sizes, row, also),
+    }
+}
+
+/// Puts a cell in before a place, or at the end, where there is room for it.
+fn put_cell(cells: &mut Vec<Cell>, at: usize, cell: Cell)
+    requires at { at ≤ length cells.old.items }
+    requires room { length cells.old.items < vec_capacity cells.old }
+    ensures { cells.new.items ≡ take at cells.old.items ++ (cell ∷ drop at cells.old.items) }
+{
+    if cells.insert(at, cell).is_err() {
+        unreachable!();
+    }
+}
+
+/// Takes the cell at a place away.
+fn take_cell(cells: &mut Vec<Cell>, at: usize)
+    requires { at < length cells.old.items }
+    ensures { cells.new.items ≡ take at cells.old.items ++ drop (at + 1) cells.old.items }
+{
+    let _cell = cells.remove(at);
 }
 
 /// How many short bytes a value has.

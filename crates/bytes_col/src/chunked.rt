@@ -5,16 +5,19 @@ ghost use Rattle.segments.specs.Joined.{joined};
 ghost use Rattle.bytes_col.specs.Strings.{short_bytes};
 ghost use Rattle.bytes_col.specs.Blocks.{AreBlocks, IsBlocksRefusal};
 ghost use Rattle.bytes_col.specs.Spine.{HasSizes, LastTakes};
+ghost use Rattle.bytes_col.specs.Places.{HasRoomAt, HasMoreAt};
+ghost use Rattle.segments.specs.Splices.{Applies, spliced};
+ghost use Rattle.segments.specs.Together.{Together};
 
 use crate::blocks::{BlocksError, Memos, parts_of};
-use crate::chunk::{CHUNK_MOST, Chunk, push_shared, set_shared};
+use crate::chunk::{CHUNK_MOST, Chunk, insert_shared, push_shared, remove_shared, set_shared};
 use crate::chunks::Chunks;
 use crate::growing::Growing;
 use crate::parts::Parts;
 use crate::spine::Spine;
 use int_col::IntCol;
 use mk_value::{Bytes, Memory};
-use segments::Shared;
+use segments::{Place, Shared, Splice};
 use std::alloc::{AllocError, Global};
 use std::marker::Model;
 
@@ -202,51 +205,142 @@ impl Chunked {
         }
     }
 
-    /// Inserts copies of a value before a place, or at the end, and their sizes.
-    pub(crate) fn insert(
+    /// Adds a value at the end, and its size.
+    pub(crate) fn push(&mut self, value: &[u8], sizes: &mut IntCol) -> Result<(), Memory>
+        requires few { length (joined self.old) < 16777216 }
+        requires sizes { HasSizes (joined self.old) sizes.old }
+        ensures ok { OnOk result (joined self.new ≡ joined self.old ++ value.now ∷ []) }
+        ensures sizes { OnOk result (HasSizes (joined self.new) sizes.new) }
+        ensures err { OnErr result (self.new ≡ self.old) }
+        ensures sizes_err { OnErr result (sizes.new ≡ sizes.old) }
+    {
+        match &mut self.kind {
+            Kind::Many(spine) if spine.get().takes() => push_to_list(spine, value, sizes),
+            Kind::One(chunk) if chunk.get().len() < CHUNK_MOST => {
+                push_to_chunk(chunk, value, sizes)
+            }
+            _ => self.push_anew(value, sizes),
+        }
+    }
+
+    /// Adds a value at the end, and its size, by a copy.
+    fn push_anew(&mut self, value: &[u8], sizes: &mut IntCol) -> Result<(), Memory>
+        requires few { length (joined self.old) < 16777216 }
+        requires sizes { HasSizes (joined self.old) sizes.old }
+        ensures ok { OnOk result (joined self.new ≡ joined self.old ++ value.now ∷ []) }
+        ensures sizes { OnOk result (HasSizes (joined self.new) sizes.new) }
+        ensures err { OnErr result (self.new ≡ self.old) }
+        ensures sizes_err { OnErr result (sizes.new ≡ sizes.old) }
+    {
+        let len = self.len();
+        self.insert_anew(len, value, 1, sizes, &mut || Ok(()))
+    }
+
+    /// Inserts copies of a value before a place, or at the end, and their sizes, and makes the call, or none of these. One is put into
+    /// its chunk where that has room, in place where the chunk is not shared.
+    pub(crate) fn insert_then<F: FnMut() -> Result<(), Memory>>(
         &mut self,
         at: usize,
         value: &[u8],
         count: usize,
         sizes: &mut IntCol,
+        also: &mut F,
     ) -> Result<(), Memory>
         requires at { at ≤ length (joined self.old) }
         requires few { length (joined self.old) + count ≤ 16777216 }
         requires sizes { HasSizes (joined self.old) sizes.old }
+        requires also { F.pre also.old }
         ensures ok { OnOk result (joined self.new ≡ take at (joined self.old) ++ (replicate count value.now ++ drop at (joined self.old))) }
         ensures sizes { OnOk result (HasSizes (joined self.new) sizes.new) }
         ensures err { OnErr result (self.new ≡ self.old) }
         ensures sizes_err { OnErr result (sizes.new ≡ sizes.old) }
+        ensures also { Together F.step result also.old also.new }
+    {
+        if count == 1 {
+            return self.insert_one(at, value, sizes, also);
+        }
+        self.insert_anew(at, value, count, sizes, also)
+    }
+
+    /// The same of one.
+    fn insert_one<F: FnMut() -> Result<(), Memory>>(
+        &mut self,
+        at: usize,
+        value: &[u8],
+        sizes: &mut IntCol,
+        also: &mut F,
+    ) -> Result<(), Memory>
+        requires at { at ≤ length (joined self.old) }
+        requires few { length (joined self.old) < 16777216 }
+        requires sizes { HasSizes (joined self.old) sizes.old }
+        requires also { F.pre also.old }
+        ensures ok { OnOk result (joined self.new ≡ take at (joined self.old) ++ (replicate 1 value.now ++ drop at (joined self.old))) }
+        ensures sizes { OnOk result (HasSizes (joined self.new) sizes.new) }
+        ensures err { OnErr result (self.new ≡ self.old) }
+        ensures sizes_err { OnErr result (sizes.new ≡ sizes.old) }
+        ensures also { Together F.step result also.old also.new }
     {
         match &mut self.kind {
-            Kind::Many(spine) => match spine.sole() {
-                Some(own) => own.insert(at, value, count, sizes),
-                None => spine.own()?.insert(at, value, count, sizes),
-            },
-            Kind::One(chunk) if count == 1 && takes_at(chunk.get(), at) => {
-                push_to_chunk(chunk, value, sizes)
+            Kind::One(chunk) if chunk.get().len() < CHUNK_MOST => {
+                insert_in_chunk(chunk, at, value, sizes, also)
             }
-            _ => self.insert_anew(at, value, count, sizes),
+            Kind::Many(spine) => match spine.get().room_at(at) {
+                Some(place) => insert_in_list(spine, at, &place, value, sizes, also),
+                None => self.insert_anew(at, value, 1, sizes, also),
+            },
+            _ => self.insert_anew(at, value, 1, sizes, also),
         }
     }
 
-    /// Removes values from a place on, and their sizes.
-    pub(crate) fn remove(
+    /// Removes values from a place on, and their sizes, and makes the call, or none of these. One is taken out of its chunk where that
+    /// has more than a few, in place where the chunk is not shared.
+    pub(crate) fn remove_then<F: FnMut() -> Result<(), Memory>>(
         &mut self,
         at: usize,
         count: usize,
         sizes: &mut IntCol,
+        also: &mut F,
     ) -> Result<(), Memory>
         requires within { at + count ≤ length (joined self.old) }
         requires sizes { HasSizes (joined self.old) sizes.old }
+        requires also { F.pre also.old }
         ensures ok { OnOk result (joined self.new ≡ take at (joined self.old) ++ drop (at + count) (joined self.old)) }
         ensures sizes { OnOk result (HasSizes (joined self.new) sizes.new) }
         ensures err { OnErr result (self.new ≡ self.old) }
         ensures sizes_err { OnErr result (sizes.new ≡ sizes.old) }
+        ensures also { Together F.step result also.old also.new }
+    {
+        if count == 1 {
+            return self.remove_one(at, sizes, also);
+        }
+        self.remove_anew(at, count, sizes, also)
+    }
+
+    /// The same of one.
+    fn remove_one<F: FnMut() -> Result<(), Memory>>(
+        &mut self,
+        at: usize,
+        sizes: &mut IntCol,
+        also: &mut F,
+    ) -> Result<(), Memory>
+        requires at { at < length (joined self.old) }
+        requires sizes { HasSizes (joined self.old) sizes.old }
+        requires also { F.pre also.old }
+        ensures ok { OnOk result (joined self.new ≡ take at (joined self.old) ++ drop (at + 1) (joined self.old)) }
+        ensures sizes { OnOk result (HasSizes (joined self.new) sizes.new) }
+        ensures err { OnErr result (self.new ≡ self.old) }
+        ensures sizes_err { OnErr result (sizes.new ≡ sizes.old) }
+        ensures also { Together F.step result also.old also.new }
     {
         match &mut self.kind {
-            Kind::Many(spine) => spine.own()?.remove(at, count, sizes),
-            _ => self.remove_anew(at, count, sizes),
+            Kind::One(chunk) if chunk.get().len() > 1 => {
+                remove_from_chunk(chunk, at, sizes, also)
+            }
+            Kind::Many(spine) => match spine.get().more_at(at) {
+                Some(place) => remove_from_list(spine, at, &place, sizes, also),
+                None => self.remove_anew(at, 1, sizes, also),
+            },
+            _ => self.remove_anew(at, 1, sizes, also),
         }
     }
 
@@ -268,44 +362,65 @@ impl Chunked {
     }
 
     /// Makes an insert in a list of the chunks, which stays where they are several then.
-    fn insert_anew(
+    fn insert_anew<F: FnMut() -> Result<(), Memory>>(
         &mut self,
         at: usize,
         value: &[u8],
         count: usize,
         sizes: &mut IntCol,
+        also: &mut F,
     ) -> Result<(), Memory>
         requires at { at ≤ length (joined self.old) }
         requires few { length (joined self.old) + count ≤ 16777216 }
         requires sizes { HasSizes (joined self.old) sizes.old }
+        requires also { F.pre also.old }
         ensures ok { OnOk result (joined self.new ≡ take at (joined self.old) ++ (replicate count value.now ++ drop at (joined self.old))) }
         ensures sizes { OnOk result (HasSizes (joined self.new) sizes.new) }
         ensures err { OnErr result (self.new ≡ self.old) }
         ensures sizes_err { OnErr result (sizes.new ≡ sizes.old) }
+        ensures also { Together F.step result also.old also.new }
     {
-        let mut longer = sizes.same()?;
-        let mut spine = self.to_spine()?;
-        spine.insert(at, value, count, &mut longer)?;
-        *self = Chunked::of_spine(spine)?;
-        *sizes = longer;
+        let end = at;
+        let fresh = self.spliced(&Splice { at, end, count }, value)?;
+        sizes.insert_then(at, value.len() as i64, count, also)?;
+        *self = fresh;
         Ok(())
     }
 
     /// Makes a removal in a list of the chunks.
-    fn remove_anew(&mut self, at: usize, count: usize, sizes: &mut IntCol) -> Result<(), Memory>
+    fn remove_anew<F: FnMut() -> Result<(), Memory>>(
+        &mut self,
+        at: usize,
+        count: usize,
+        sizes: &mut IntCol,
+        also: &mut F,
+    ) -> Result<(), Memory>
         requires within { at + count ≤ length (joined self.old) }
         requires sizes { HasSizes (joined self.old) sizes.old }
+        requires also { F.pre also.old }
         ensures ok { OnOk result (joined self.new ≡ take at (joined self.old) ++ drop (at + count) (joined self.old)) }
         ensures sizes { OnOk result (HasSizes (joined self.new) sizes.new) }
         ensures err { OnErr result (self.new ≡ self.old) }
         ensures sizes_err { OnErr result (sizes.new ≡ sizes.old) }
+        ensures also { Together F.step result also.old also.new }
     {
-        let mut shorter = sizes.same()?;
-        let mut spine = self.to_spine()?;
-        spine.remove(at, count, &mut shorter)?;
-        *self = Chunked::of_spine(spine)?;
-        *sizes = shorter;
+        // The list has few values.
+        let _few = self.len();
+        let end = at + count;
+        let fresh = self.spliced(&Splice { at, end, count: 0 }, &[])?;
+        sizes.remove_then(at, count, also)?;
+        *self = fresh;
         Ok(())
+    }
+
+    /// The values with a splice made: the chunks that it touches are made anew, and the others are shared.
+    fn spliced(&self, splice: &Splice, value: &[u8]) -> Result<Chunked, Memory>
+        requires { Applies (length (joined self.now)) splice.now }
+        ensures { IfOk result (λ chunked. joined chunked ≡ spliced (joined self.now) splice.now.at splice.now.end splice.now.count value.now) }
+    {
+        let mut spine = self.to_spine()?;
+        spine.replace(splice, value)?;
+        Chunked::of_spine(spine)
     }
 
     /// The same values and one more. Where they are in several chunks, the last of them is no other list's.
@@ -410,14 +525,6 @@ fn spine_of_one(chunk: &Shared<Chunk>) -> Result<Spine, Memory>
     Spine::of_chunks(Chunks::of_one(alloc, chunk.clone()?)?)
 }
 
-/// Whether a value at this place is one more of the chunk, which has room for it.
-fn takes_at(chunk: &Chunk, at: usize) -> bool
-    ensures place { OnTrue result (at ≡ length chunk.now) }
-    ensures room { OnTrue result (length chunk.now < 512) }
-{
-    at == chunk.len() && at < CHUNK_MOST
-}
-
 /// Sets a value of a chunk that has all values, and its size.
 fn set_in_chunk(
     chunk: &mut Shared<Chunk>,
@@ -445,4 +552,108 @@ fn push_to_chunk(chunk: &mut Shared<Chunk>, value: &[u8], sizes: &mut IntCol) ->
     ensures sizes_err { OnErr result (sizes.new ≡ sizes.old) }
 {
     push_shared(chunk, value, sizes)
+}
+
+/// Puts a value into a chunk that has all values, with its size, and makes the call, or none of these.
+fn insert_in_chunk<F: FnMut() -> Result<(), Memory>>(
+    chunk: &mut Shared<Chunk>,
+    at: usize,
+    value: &[u8],
+    sizes: &mut IntCol,
+    also: &mut F,
+) -> Result<(), Memory>
+    requires at { at ≤ length chunk.old }
+    requires room { length chunk.old < 512 }
+    requires sizes { HasSizes chunk.old sizes.old }
+    requires also { F.pre also.old }
+    ensures ok { OnOk result (chunk.new ≡ take at chunk.old ++ (replicate 1 value.now ++ drop at chunk.old)) }
+    ensures sizes { OnOk result (HasSizes chunk.new sizes.new) }
+    ensures err { OnErr result (chunk.new ≡ chunk.old) }
+    ensures sizes_err { OnErr result (sizes.new ≡ sizes.old) }
+    ensures also { Together F.step result also.old also.new }
+{
+    insert_shared(chunk, at, value, sizes, at, also)
+}
+
+/// Takes a value out of a chunk that has all values, with its size, and makes the call, or none of these.
+fn remove_from_chunk<F: FnMut() -> Result<(), Memory>>(
+    chunk: &mut Shared<Chunk>,
+    at: usize,
+    sizes: &mut IntCol,
+    also: &mut F,
+) -> Result<(), Memory>
+    requires at { at < length chunk.old }
+    requires sizes { HasSizes chunk.old sizes.old }
+    requires also { F.pre also.old }
+    ensures ok { OnOk result (chunk.new ≡ take at chunk.old ++ drop (at + 1) chunk.old) }
+    ensures sizes { OnOk result (HasSizes chunk.new sizes.new) }
+    ensures err { OnErr result (chunk.new ≡ chunk.old) }
+    ensures sizes_err { OnErr result (sizes.new ≡ sizes.old) }
+    ensures also { Together F.step result also.old also.new }
+{
+    remove_shared(chunk, at, sizes, at, also)
+}
+
+/// Adds a value that the last chunk of a list takes, and its size. Other owners keep the list as it was.
+fn push_to_list(list: &mut Shared<Spine>, value: &[u8], sizes: &mut IntCol) -> Result<(), Memory>
+    requires takes { LastTakes list.old }
+    requires few { length (joined list.old) < 16777216 }
+    requires sizes { HasSizes (joined list.old) sizes.old }
+    ensures ok { OnOk result (joined list.new ≡ joined list.old ++ value.now ∷ []) }
+    ensures sizes { OnOk result (HasSizes (joined list.new) sizes.new) }
+    ensures err { OnErr result (list.new ≡ list.old) }
+    ensures sizes_err { OnErr result (sizes.new ≡ sizes.old) }
+{
+    match list.sole() {
+        Some(own) => own.push(value, sizes),
+        None => list.own()?.push(value, sizes),
+    }
+}
+
+/// Puts a value into a chunk of a list, with its size, and makes the call, or none of these. Other owners keep the list as it was.
+fn insert_in_list<F: FnMut() -> Result<(), Memory>>(
+    list: &mut Shared<Spine>,
+    at: usize,
+    place: &Place,
+    value: &[u8],
+    sizes: &mut IntCol,
+    also: &mut F,
+) -> Result<(), Memory>
+    requires place { HasRoomAt list.old at place.now }
+    requires few { length (joined list.old) < 16777216 }
+    requires sizes { HasSizes (joined list.old) sizes.old }
+    requires also { F.pre also.old }
+    ensures ok { OnOk result (joined list.new ≡ take at (joined list.old) ++ (replicate 1 value.now ++ drop at (joined list.old))) }
+    ensures sizes { OnOk result (HasSizes (joined list.new) sizes.new) }
+    ensures err { OnErr result (list.new ≡ list.old) }
+    ensures sizes_err { OnErr result (sizes.new ≡ sizes.old) }
+    ensures also { Together F.step result also.old also.new }
+{
+    match list.sole() {
+        Some(own) => own.insert_at(at, place, value, sizes, also),
+        None => list.own()?.insert_at(at, place, value, sizes, also),
+    }
+}
+
+/// Takes a value out of a chunk of a list, with its size, and makes the call, or none of these. Other owners keep the list as it was.
+fn remove_from_list<F: FnMut() -> Result<(), Memory>>(
+    list: &mut Shared<Spine>,
+    at: usize,
+    place: &Place,
+    sizes: &mut IntCol,
+    also: &mut F,
+) -> Result<(), Memory>
+    requires place { HasMoreAt list.old at place.now }
+    requires sizes { HasSizes (joined list.old) sizes.old }
+    requires also { F.pre also.old }
+    ensures ok { OnOk result (joined list.new ≡ take at (joined list.old) ++ drop (at + 1) (joined list.old)) }
+    ensures sizes { OnOk result (HasSizes (joined list.new) sizes.new) }
+    ensures err { OnErr result (list.new ≡ list.old) }
+    ensures sizes_err { OnErr result (sizes.new ≡ sizes.old) }
+    ensures also { Together F.step result also.old also.new }
+{
+    match list.sole() {
+        Some(own) => own.remove_at(at, place, sizes, also),
+        None => list.own()?.remove_at(at, place, sizes, also),
+    }
 }

@@ -6,6 +6,7 @@ ghost use Rattle.std.specs.Ordering.{nat_cmp};
 ghost use Rattle.std.specs.Cmp.Lexicographic.{slice_cmp};
 ghost use Rattle.bytes_col.specs.Blocks.{AreBlocks, IsBlocksRefusal};
 ghost use Rattle.segments.specs.Joined.{joined};
+ghost use Rattle.segments.specs.Together.{Together};
 ghost use Rattle.bytes_col.specs.Spine.{HasSizes, LastTakes, strings_of};
 ghost use Rattle.bytes_col.specs.Strings.{Strings, Push, is_short, short_bytes, sizes_of, memo_rows, home_after};
 
@@ -159,8 +160,9 @@ impl BytesCol {
 
     /// Inserts copies of a value before a place, or at the end. The home is then none, unless there are no copies.
     ///
-    /// The copies of a memo share its bytes, and whole chunks of copies are one chunk, shared. It costs the chunk at the place
-    /// and its group, and a walk over the places where chunks end.
+    /// The copies of a memo share its bytes, and whole chunks of copies are one chunk, shared. One value is put into the chunk at the
+    /// place where that has room: in place, or into a copy of it where it is shared, with a walk over the places where chunks end. Else
+    /// it costs copies of the values of the chunks at the place.
     ///
     /// # Errors
     ///
@@ -175,7 +177,47 @@ impl BytesCol {
         if count == 0 {
             return Ok(());
         }
-        self.chunks.insert(at, value, count, &mut self.sizes)?;
+        if count == 1 && at == self.len() {
+            return self.push(value);
+        }
+        self.insert_then(at, value, count, &mut || Ok(()))
+    }
+
+    /// Adds a value at the end.
+    fn push(&mut self, value: &[u8]) -> Result<(), Memory>
+        requires { length self.old.values < 16777216 }
+        ensures values { OnOk result (self.new.values ≡ self.old.values ++ value.now ∷ []) }
+        ensures home { OnOk result (self.new.home ≡ None) }
+        ensures err { OnErr result (self.new ≡ self.old) }
+    {
+        self.chunks.push(value, &mut self.sizes)?;
+        self.home = None;
+        Ok(())
+    }
+
+    /// Inserts copies of a value before a place, or at the end, and makes a call on the way, both or neither: the call is made when
+    /// nothing can fail any more but itself. The home is then none.
+    ///
+    /// # Errors
+    ///
+    /// `Memory`, and the column is as it was; or the call's.
+    pub fn insert_then<F: FnMut() -> Result<(), Memory>>(
+        &mut self,
+        at: usize,
+        value: &[u8],
+        count: usize,
+        also: &mut F,
+    ) -> Result<(), Memory>
+        requires at { at ≤ length self.old.values }
+        requires few { length self.old.values + count ≤ 16777216 }
+        requires also { F.pre also.old }
+        ensures values { OnOk result (self.new.values ≡ take at self.old.values ++ (replicate count value.now ++ drop at self.old.values)) }
+        ensures home { OnOk result (self.new.home ≡ None) }
+        ensures err { OnErr result (self.new ≡ self.old) }
+        ensures also { Together F.step result also.old also.new }
+    {
+        self.chunks
+            .insert_then(at, value, count, &mut self.sizes, also)?;
         self.home = None;
         Ok(())
     }
@@ -266,7 +308,8 @@ impl BytesCol {
 
     /// Removes as many values from a place on. The home is then none, unless none are removed.
     ///
-    /// It costs the chunks at both ends of what is removed and their groups, and a walk over the places where chunks end.
+    /// One value is taken out of its chunk where that has more than a few: in place, or out of a copy of it where it is shared, with a
+    /// walk over the places where chunks end. Else it costs copies of the values of the chunks at both ends.
     ///
     /// # Errors
     ///
@@ -280,7 +323,31 @@ impl BytesCol {
         if count == 0 {
             return Ok(());
         }
-        self.chunks.remove(at, count, &mut self.sizes)?;
+        self.remove_then(at, count, &mut || Ok(()))
+    }
+
+    /// Removes as many values from a place on, and makes a call on the way, both or neither: the call is made when nothing can fail any
+    /// more but itself. The home is then none.
+    ///
+    /// # Errors
+    ///
+    /// `Memory`, and the column is as it was; or the call's.
+    pub fn remove_then<F: FnMut() -> Result<(), Memory>>(
+        &mut self,
+        at: usize,
+        count: usize,
+        also: &mut F,
+    ) -> Result<(), Memory>
+        requires within { at + count ≤ length self.old.values }
+        requires also { F.pre also.old }
+        ensures values { OnOk result (self.new.values ≡ take at self.old.values ++ drop (at + count) self.old.values) }
+        ensures home { OnOk result (self.new.home ≡ None) }
+        ensures err { OnErr result (self.new ≡ self.old) }
+        ensures also { Together F.step result also.old also.new }
+    {
+        // The list has few values.
+        let _few = self.len();
+        self.chunks.remove_then(at, count, &mut self.sizes, also)?;
         self.home = None;
         Ok(())
     }

@@ -10,23 +10,33 @@ use segments::Shared;
 use std::alloc::Global;
 use std::mem::replace;
 
-/// Chunks under construction: those that are done, and the last, which takes more values.
+/// Chunks under construction: those that are done, and the last, which takes more values. One that has as many values as it is to have
+/// takes no more, where they come one by one.
 #[derive(Drop)]
 pub(crate) struct Parts {
     done: Chunks,
     last: Chunk,
+    most: usize,
 }
 
 impl Parts {
     ghost use Rattle.bytes_col.specs.Parts.{added};
 
-    /// No values.
+    /// No values, in chunks that are to be full.
     pub(crate) fn new(alloc: Global) -> Parts
+        ensures { added result ≡ [] }
+    {
+        Parts::sharing(alloc, CHUNK_MOST)
+    }
+
+    /// No values, in chunks that are to have about so many.
+    pub(crate) fn sharing(alloc: Global, most: usize) -> Parts
         ensures { added result ≡ [] }
     {
         Parts {
             done: Chunks::new(alloc),
             last: Chunk::new(alloc),
+            most,
         }
     }
 
@@ -46,7 +56,8 @@ impl Parts {
         ensures values { OnOk result (added self.new ≡ added self.old) }
         ensures room { OnOk result (length self.new.last < 512) }
     {
-        if self.last.len() < CHUNK_MOST {
+        let len = self.last.len();
+        if len == 0 || len < self.most.min(CHUNK_MOST) {
             return Ok(());
         }
         self.close()
@@ -136,7 +147,11 @@ impl Parts {
     pub(crate) fn finish(self) -> Result<Chunks, Memory>
         ensures { IfOk result (λ chunks. joined chunks ≡ added self) }
     {
-        let Parts { mut done, last } = self;
+        let Parts {
+            mut done,
+            last,
+            most: _most,
+        } = self;
         if last.len() > 0 {
             done.push(Shared::of(done.allocator(), last)?)?;
         }

@@ -1,5 +1,5 @@
 //! The list of a column's chunks.
-ghost use Rattle.std.specs.Prelude.{◌≡◌, ℕ, pos, ◌+◌, ◌-◌, ◌<◌, ◌≤◌, List, [], ◌∷◌, ◌++◌, length, sum, slice_set, slice_index_or, take, drop, replicate, map, None, All, IfOk, OnOk, OnErr};
+ghost use Rattle.std.specs.Prelude.{◌≡◌, ℕ, pos, ◌+◌, ◌-◌, ◌<◌, ◌≤◌, List, [], ◌∷◌, ◌++◌, length, sum, slice_set, slice_index_or, take, drop, replicate, map, None, All, IfOk, IfSome, OnOk, OnErr};
 ghost use Rattle.std.specs.Bool.{OnTrue};
 ghost use Rattle.segments.specs.Segments.{IsPlace};
 ghost use Rattle.segments.specs.Splices.{Applies, Covers, items_after, spliced};
@@ -8,8 +8,10 @@ ghost use Rattle.bytes_col.specs.Strings.{short_bytes, sizes_of};
 ghost use Rattle.bytes_col.specs.Spine.{IsSpine, HasSizes, LastTakes};
 ghost use Rattle.bytes_col.specs.Growing.{front};
 ghost use Rattle.bytes_col.specs.Parts.{added};
+ghost use Rattle.bytes_col.specs.Places.{IsPlaceOrEnd, HasRoomAt, HasMoreAt};
+ghost use Rattle.segments.specs.Together.{Together};
 
-use crate::chunk::{CHUNK_MOST, Chunk, push_shared, set_shared};
+use crate::chunk::{CHUNK_MOST, Chunk, insert_shared, push_shared, remove_shared, set_shared};
 use crate::chunks::Chunks;
 use crate::parts::Parts;
 use int_col::IntCol;
@@ -17,6 +19,9 @@ use mk_value::Memory;
 use segments::{Groups, Place, Replaced, Segments, Shared, Splice};
 use std::alloc::{AllocError, Global};
 use std::marker::Model;
+
+/// A chunk of no more values than these is joined with its neighbours, if they fit, when one is taken out of it.
+const CHUNK_FEW: usize = 128;
 
 /// The chunks in order, none of which is empty, in groups that copies share, and how they cut the list of values.
 #[derive(Drop)]
@@ -196,7 +201,7 @@ impl Spine {
     }
 
     /// Adds a value that the last chunk takes, and its size.
-    fn push(&mut self, value: &[u8], sizes: &mut IntCol) -> Result<(), Memory>
+    pub(crate) fn push(&mut self, value: &[u8], sizes: &mut IntCol) -> Result<(), Memory>
         requires takes { LastTakes self.old }
         requires few { length (joined self.old) < 16777216 }
         requires sizes { HasSizes (joined self.old) sizes.old }
@@ -241,30 +246,105 @@ impl Spine {
         Ok(from + count)
     }
 
-    /// Inserts copies of a value before a place, or at the end, and their sizes.
-    pub(crate) fn insert(
+    /// Where a value can be put in before a place, or at the end, if the chunk there has room.
+    pub(crate) fn room_at(&self, at: usize) -> Option<Place>
+        requires { at ≤ length (joined self.now) }
+        ensures { IfSome result (HasRoomAt self.now at) }
+    {
+        let place = self.place_of(at)?;
+        if self.chunk(place.segment).len() == CHUNK_MOST {
+            return None;
+        }
+        Some(place)
+    }
+
+    /// Where a value stands that can be taken away, if its chunk has more than a few.
+    pub(crate) fn more_at(&self, at: usize) -> Option<Place>
+        requires { at < length (joined self.now) }
+        ensures { IfSome result (HasMoreAt self.now at) }
+    {
+        let place = self.find(at);
+        if self.chunk(place.segment).len() <= CHUNK_FEW {
+            return None;
+        }
+        Some(place)
+    }
+
+    /// Where a place is. The end of the list is in its last chunk.
+    fn place_of(&self, at: usize) -> Option<Place>
+        requires { at ≤ length (joined self.now) }
+        ensures { IfSome result (IsPlaceOrEnd self.now at) }
+    {
+        if at < self.len() {
+            return Some(self.find(at));
+        }
+        self.end_of_last()
+    }
+
+    /// The end of the list.
+    fn end_of_last(&self) -> Option<Place>
+        ensures { IfSome result (IsPlaceOrEnd self.now (length (joined self.now))) }
+    {
+        let count = self.count();
+        if count == 0 {
+            return None;
+        }
+        let segment = count - 1;
+        Some(Place {
+            segment,
+            offset: self.chunk(segment).len(),
+        })
+    }
+
+    /// Puts a value in before a place of a chunk, or at its end, with its size, and makes the call, or none of these.
+    pub(crate) fn insert_at<F: FnMut() -> Result<(), Memory>>(
         &mut self,
         at: usize,
+        place: &Place,
         value: &[u8],
-        count: usize,
         sizes: &mut IntCol,
+        also: &mut F,
     ) -> Result<(), Memory>
-        requires at { at ≤ length (joined self.old) }
-        requires few { length (joined self.old) + count ≤ 16777216 }
+        requires place { HasRoomAt self.old at place.now }
+        requires few { length (joined self.old) < 16777216 }
         requires sizes { HasSizes (joined self.old) sizes.old }
-        ensures ok { OnOk result (joined self.new ≡ take at (joined self.old) ++ (replicate count value.now ++ drop at (joined self.old))) }
+        requires also { F.pre also.old }
+        ensures ok { OnOk result (joined self.new ≡ take at (joined self.old) ++ (replicate 1 value.now ++ drop at (joined self.old))) }
         ensures sizes { OnOk result (HasSizes (joined self.new) sizes.new) }
         ensures err { OnErr result (self.new ≡ self.old) }
         ensures sizes_err { OnErr result (sizes.new ≡ sizes.old) }
+        ensures also { Together F.step result also.old also.new }
     {
-        if count == 1 && at == self.len() && self.takes() {
-            return self.push(value, sizes);
-        }
-        let mut longer = sizes.same()?;
-        longer.insert(at, value.len() as i64, count)?;
-        let end = at;
-        self.replace(&Splice { at, end, count }, value)?;
-        *sizes = longer;
+        let count = self.chunk(place.segment).len() + 1;
+        let chunk = self.chunks.slot(place.segment)?;
+        insert_shared(chunk, place.offset, value, sizes, at, also)?;
+        self.ends.recount(place.segment, count);
+        Ok(())
+    }
+
+    /// Takes the value at a place of a chunk away, with its size, and makes the call, or none of these.
+    pub(crate) fn remove_at<F: FnMut() -> Result<(), Memory>>(
+        &mut self,
+        at: usize,
+        place: &Place,
+        sizes: &mut IntCol,
+        also: &mut F,
+    ) -> Result<(), Memory>
+        requires place { HasMoreAt self.old at place.now }
+        requires sizes { HasSizes (joined self.old) sizes.old }
+        requires also { F.pre also.old }
+        ensures ok { OnOk result (joined self.new ≡ take at (joined self.old) ++ drop (at + 1) (joined self.old)) }
+        ensures sizes { OnOk result (HasSizes (joined self.new) sizes.new) }
+        ensures err { OnErr result (self.new ≡ self.old) }
+        ensures sizes_err { OnErr result (sizes.new ≡ sizes.old) }
+        ensures also { Together F.step result also.old also.new }
+    {
+        // The list has few values.
+        let _list = self.len();
+        let count = self.chunk(place.segment).len() - 1;
+        let chunk = self.chunks.slot(place.segment)?;
+        remove_shared(chunk, place.offset, sizes, at, also)?;
+        self.ends.recount(place.segment, count);
         Ok(())
     }
 
@@ -278,31 +358,8 @@ impl Spine {
         self.replace(&Splice { at, end, count: 1 }, value)
     }
 
-    /// Removes values from a place on, and their sizes.
-    pub(crate) fn remove(
-        &mut self,
-        at: usize,
-        count: usize,
-        sizes: &mut IntCol,
-    ) -> Result<(), Memory>
-        requires within { at + count ≤ length (joined self.old) }
-        requires sizes { HasSizes (joined self.old) sizes.old }
-        ensures ok { OnOk result (joined self.new ≡ take at (joined self.old) ++ drop (at + count) (joined self.old)) }
-        ensures sizes { OnOk result (HasSizes (joined self.new) sizes.new) }
-        ensures err { OnErr result (self.new ≡ self.old) }
-        ensures sizes_err { OnErr result (sizes.new ≡ sizes.old) }
-    {
-        let _few = self.len();
-        let mut shorter = sizes.same()?;
-        shorter.remove(at, count)?;
-        let end = at + count;
-        self.replace(&Splice { at, end, count: 0 }, &[])?;
-        *sizes = shorter;
-        Ok(())
-    }
-
     /// Makes a splice, with copies of the value: the replaced chunks are spliced, and all others stay.
-    fn replace(&mut self, splice: &Splice, value: &[u8]) -> Result<(), Memory>
+    pub(crate) fn replace(&mut self, splice: &Splice, value: &[u8]) -> Result<(), Memory>
         requires { Applies (length (joined self.old)) splice.now }
         ensures ok { OnOk result (joined self.new ≡ spliced (joined self.old) splice.now.at splice.now.end splice.now.count value.now) }
         ensures err { OnErr result (self.new ≡ self.old) }
@@ -337,6 +394,20 @@ impl Spine {
         parts.prepare(self.chunk(replaced.first - 1), CHUNK_MOST)
     }
 
+    /// How many values each of the chunks is to have that stand in place of the replaced: as many as a chunk may have at the end of the
+    /// list, where more are likely to follow, and else about as many as the others, so that each has room.
+    fn share(&self, splice: &Splice, replaced: &Replaced) -> usize
+        requires applies { Applies (length (joined self.now)) splice.now }
+        requires covers { Covers (counts_of self.now) splice.now replaced.now }
+    {
+        if splice.at == self.len() {
+            return CHUNK_MOST;
+        }
+        let size = splice.size_after(replaced);
+        let chunks = size / CHUNK_MOST + 1;
+        size / chunks + 1
+    }
+
     /// The values that stand in place of those of the replaced chunks.
     fn parts_after(
         &self,
@@ -351,7 +422,7 @@ impl Spine {
         let alloc = self.allocator();
         let mut one = Chunk::new(alloc);
         one.append(value)?;
-        let mut parts = Parts::new(alloc);
+        let mut parts = Parts::sharing(alloc, self.share(splice, replaced));
         self.expect_more(&mut parts, splice, replaced)?;
         self.add_to(&mut parts, replaced.start, splice.at)?;
         parts.add_copies(&one, splice.count)?;

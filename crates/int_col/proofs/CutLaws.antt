@@ -1,9 +1,10 @@
 -- Laws of cuts and of where they end.
-use Rattle.std.proofs.Common.{◌≡◌, ℕ, zero, suc, ◌+◌, ◌-◌, ◌*◌, ◌/◌, ◌%◌, ◌<◌, ◌≤◌, inl, inr, List, [], ◌∷◌, ◌++◌, length, get_or, take, drop, replicate, refl, sym, ap, subst, ◌∙◌, arith, sum}
-use Rattle.std.proofs.lemmas.List.{append-nil, replicate_more}
+use Rattle.std.proofs.Common.{◌≡◌, ℕ, zero, suc, ◌+◌, ◌-◌, ◌*◌, ◌/◌, ◌%◌, ◌<◌, ◌≤◌, inl, inr, List, [], ◌∷◌, ◌++◌, length, get_or, set, take, drop, replicate, refl, sym, ap, subst, ◌∙◌, arith, sum}
+use Rattle.std.proofs.lemmas.List.{append-nil, drop_all, replicate_more}
 use Rattle.std.proofs.lemmas.Bool.{cases_lt}
 use Rattle.segments.specs.Splices.{AreApartBefore, AreApartBehind}
 use Rattle.segments.proofs.Counts.{sum-cons, sum-append}
+use Rattle.segments.proofs.Lists.{drop-cons-at}
 use Rattle.int_col.specs.Cuts.{Precedes, AreCuts, rest_cut, full_cuts}
 
 -- a last cut c may stand right before these cuts
@@ -187,6 +188,37 @@ pub AreCuts-last-more : (cs : List ℕ) (c : ℕ) → AreCuts (cs ++ c ∷ []) �
 AreCuts-last-more [] c h room = (omega arith, omega arith, tt, tt)
 AreCuts-last-more (x ∷ []) c h room = (h.0, h.1, omega (arith, h.2), AreCuts-last-more [] c h.3 room)
 AreCuts-last-more (x ∷ y ∷ cs) c h room = (h.0, h.1, h.2, AreCuts-last-more (y ∷ cs) c h.3 room)
+
+-- a segment of another count, which its neighbours are apart from
+pub AreCuts-set : (cs : List ℕ) (k n : ℕ) → AreCuts cs → k < length cs → 0 < n → n ≤ 2048 → ((j : ℕ) → k ≡ suc j → 2048 < get_or cs j 0 + n) → (suc k < length cs → 2048 < n + get_or cs (suc k) 0) → AreCuts (set cs k n)
+AreCuts-set [] k n h l some few before behind = absurd (omega arith)
+AreCuts-set (c ∷ []) zero n h l some few before behind = (some, few, tt, tt)
+AreCuts-set (c ∷ d ∷ cs) zero n h l some few before behind = (some, few, behind (omega arith), h.3)
+AreCuts-set (c ∷ []) (suc k) n h l some few before behind = absurd (omega arith)
+AreCuts-set (c ∷ d ∷ cs) (suc zero) n h l some few before behind =
+    (h.0, h.1, before 0 refl, AreCuts-set (d ∷ cs) zero n h.3 (omega arith) some few (λ j is. absurd (omega arith)) (λ more. behind (omega arith)))
+AreCuts-set (c ∷ d ∷ cs) (suc (suc k)) n h l some few before behind =
+    (h.0, h.1, h.2, AreCuts-set (d ∷ cs) (suc k) n h.3 (omega arith) some few (λ j is. before (suc j) (ap suc is)) (λ more. behind (omega arith)))
+
+-- two segments in place of those from a up to b, which their neighbours are apart from
+pub AreCuts-two : (cs : List ℕ) (a b m n : ℕ) → AreCuts cs → a ≤ length cs → m ≤ 2048 → n ≤ 2048 → 2048 < m + n → ((j : ℕ) → a ≡ suc j → 2048 < get_or cs j 0 + m) → (b < length cs → 2048 < n + get_or cs b 0) → AreCuts (take a cs ++ (m ∷ n ∷ drop b cs))
+AreCuts-two cs a b m n h in_range m_few n_few apart before behind = go a in_range before
+  where
+    follows : Precedes n (drop b cs)
+    follows =
+        let P : List ℕ → Type 0 = Precedes n in
+        elim (cases_lt b (length cs)) [
+          | inl more ↦ subst P (sym (drop-cons-at cs b 0 more)) (behind more)
+          | inr last ↦ subst P (sym (drop_all b cs last)) tt
+        ]
+
+    both : AreCuts (m ∷ n ∷ drop b cs)
+    both = (omega arith, m_few, apart, (omega arith, n_few, follows, AreCuts-drop b cs h))
+
+    go : (k : ℕ) → k ≤ length cs → ((j : ℕ) → k ≡ suc j → 2048 < get_or cs j 0 + m) → AreCuts (take k cs ++ (m ∷ n ∷ drop b cs))
+    go zero within apart_before = both
+    go (suc k) within apart_before =
+        AreCuts-append (take (suc k) cs) (m ∷ n ∷ drop b cs) (AreCuts-take (suc k) cs h) both (Meet-take k cs (m ∷ n ∷ drop b cs) (omega arith) (apart_before k refl))
 
 -- there are at most as many segments as values
 pub cuts_count : (cs : List ℕ) → AreCuts cs → length cs ≤ sum cs

@@ -26,7 +26,7 @@ behind w vs bytes from h whole within =
     subst Q len (packed-split w (take from vs) (drop from vs) bytes (subst P (sym (take-append-drop from vs)) h) edge).1
 
 -- the first whole segments
-front : (w : Width) (vs : List ℤ) (bytes : List ℕ) (n : ℕ) → PackedAt w vs bytes → n % 8 ≡ 0 → n ≤ length vs → PackedAt w (take n vs) (take (packed_len w n) bytes)
+pub front : (w : Width) (vs : List ℤ) (bytes : List ℕ) (n : ℕ) → PackedAt w vs bytes → n % 8 ≡ 0 → n ≤ length vs → PackedAt w (take n vs) (take (packed_len w n) bytes)
 front w vs bytes n h whole within =
     let P : List ℤ → Type 0 = λ xs. PackedAt w xs bytes in
     let Q : ℕ → Type 0 = λ k. PackedAt w (take n vs) (take (packed_len w k) bytes) in

@@ -5,3 +5,4 @@ pub mod Segment
 pub mod Segmented
 pub mod Spine
 pub mod Tail
+pub mod Within

@@ -4,6 +4,7 @@ ghost use Rattle.bit_pack.specs.declared.widths.Width.{Width};
 ghost use Rattle.bit_pack.specs.Width.{IsLeastWidth};
 ghost use Rattle.bit_pack.specs.Packed.{Packed, packed};
 ghost use Rattle.bit_pack.specs.Refusal.{IsRefusal};
+ghost use Rattle.segments.specs.Together.{Together};
 ghost use Rattle.int_col.specs.Cuts.{full_cuts};
 ghost use Rattle.int_col.specs.Spine.{numbers_of, LastTakes};
 ghost use Rattle.int_col.specs.Numbers.{Numbers, Push, IsColumn, segment_values, home_after, HasPackedBytes, ArePackedBytes};
@@ -15,6 +16,7 @@ use crate::prepared::PreparedPush;
 use crate::segmented::Segmented;
 use bit_pack::{PackError, Width};
 use mk_value::{Memory, Span};
+use segments::Splice;
 use std::alloc::Global;
 use std::marker::Model;
 
@@ -146,7 +148,8 @@ impl IntCol {
 
     /// Inserts copies of a value before a place, or at the end. The home is then none, unless there are no copies.
     ///
-    /// It costs the segments that the copies stand in and a walk over the places where segments end.
+    /// Where the segment at the place has room, it is done in its bytes, or in a copy of it where it is shared, and the places where
+    /// segments end are gone over; else the segments that the copies stand in are cut anew.
     ///
     /// # Errors
     ///
@@ -161,7 +164,48 @@ impl IntCol {
         if count == 0 {
             return Ok(());
         }
-        self.segments.insert(at, value, count)?;
+        if count == 1 && at == self.len() {
+            return self.push(value);
+        }
+        self.insert_then(at, value, count, &mut || Ok(()))
+    }
+
+    /// Adds a value at the end.
+    fn push(&mut self, value: i64) -> Result<(), Memory>
+        requires { length self.old.values < 16777216 }
+        ensures values { OnOk result (self.new.values ≡ self.old.values ++ value ∷ []) }
+        ensures home { OnOk result (self.new.home ≡ None) }
+        ensures err { OnErr result (self.new ≡ self.old) }
+    {
+        self.segments.push(value)?;
+        self.home = None;
+        Ok(())
+    }
+
+    /// Inserts copies of a value before a place, or at the end, and makes a call on the way, both or neither: the call is made when
+    /// nothing can fail any more but itself. The home is then none.
+    ///
+    /// # Errors
+    ///
+    /// `Memory`, and the column is as it was; or the call's.
+    pub fn insert_then<F: FnMut() -> Result<(), Memory>>(
+        &mut self,
+        at: usize,
+        value: i64,
+        count: usize,
+        also: &mut F,
+    ) -> Result<(), Memory>
+        requires at { at ≤ length self.old.values }
+        requires few { length self.old.values + count ≤ 16777216 }
+        requires also { F.pre also.old }
+        ensures values { OnOk result (self.new.values ≡ take at self.old.values ++ (replicate count value ++ drop at self.old.values)) }
+        ensures home { OnOk result (self.new.home ≡ None) }
+        ensures err { OnErr result (self.new ≡ self.old) }
+        ensures also { Together F.step result also.old also.new }
+    {
+        let end = at;
+        self.segments
+            .splice_then(&Splice { at, end, count }, value, also)?;
         self.home = None;
         Ok(())
     }
@@ -230,7 +274,8 @@ impl IntCol {
 
     /// Removes as many values from a place on. The home is then none, unless none are removed.
     ///
-    /// It costs the segments at both ends of what is removed and a walk over the places where segments end.
+    /// Where they stand in one segment, which has some left and neighbours that do not fit into it, it is done in its bytes, or in a
+    /// copy of it where it is shared, and the places where segments end are gone over; else the segments at both ends are cut anew.
     ///
     /// # Errors
     ///
@@ -244,7 +289,33 @@ impl IntCol {
         if count == 0 {
             return Ok(());
         }
-        self.segments.remove(at, count)?;
+        self.remove_then(at, count, &mut || Ok(()))
+    }
+
+    /// Removes as many values from a place on, and makes a call on the way, both or neither: the call is made when nothing can fail any
+    /// more but itself. The home is then none.
+    ///
+    /// # Errors
+    ///
+    /// `Memory`, and the column is as it was; or the call's.
+    pub fn remove_then<F: FnMut() -> Result<(), Memory>>(
+        &mut self,
+        at: usize,
+        count: usize,
+        also: &mut F,
+    ) -> Result<(), Memory>
+        requires within { at + count ≤ length self.old.values }
+        requires also { F.pre also.old }
+        ensures values { OnOk result (self.new.values ≡ take at self.old.values ++ drop (at + count) self.old.values) }
+        ensures home { OnOk result (self.new.home ≡ None) }
+        ensures err { OnErr result (self.new ≡ self.old) }
+        ensures also { Together F.step result also.old also.new }
+    {
+        // The list has few values.
+        let _few = self.len();
+        let end = at + count;
+        self.segments
+            .splice_then(&Splice { at, end, count: 0 }, 0, also)?;
         self.home = None;
         Ok(())
     }

@@ -1,5 +1,5 @@
 //! Values cut into segments: full ones, and a last one of what is left.
-ghost use Rattle.std.specs.Prelude.{◌≡◌, ℕ, ◌+◌, ◌-◌, ◌<◌, ◌≤◌, length, take, drop, IfOk};
+ghost use Rattle.std.specs.Prelude.{◌≡◌, ℕ, ◌+◌, ◌-◌, ◌<◌, ◌≤◌, [], ◌∷◌, length, take, drop, IfOk};
 ghost use Rattle.bit_pack.specs.Packed.{PackedAt, values_from};
 ghost use Rattle.segments.specs.Joined.{joined, counts_of};
 ghost use Rattle.int_col.specs.Cuts.{full_cuts};
@@ -24,6 +24,23 @@ pub(crate) fn cut(alloc: Global, values: &[i64]) -> Result<Vec<Shared<Segment>>,
         from = to;
     }
     Ok(segments)
+}
+
+/// Cuts values in two, the first part of which has so many.
+pub(crate) fn halves(
+    alloc: Global,
+    values: &[i64],
+    first: usize,
+) -> Result<Vec<Shared<Segment>>, Memory>
+    requires within { first ≤ length values.now }
+    requires first_few { first ≤ 2048 }
+    requires rest_few { length values.now - first ≤ 2048 }
+    ensures values { IfOk result (λ segments. joined segments.items ≡ values.now) }
+    ensures counts { IfOk result (λ segments. counts_of segments.items ≡ first ∷ (length values.now - first) ∷ []) }
+{
+    let before = shared(alloc, &values[..first])?;
+    let behind = shared(alloc, &values[first..])?;
+    Ok(Vec::from_array(alloc, [before, behind])?)
 }
 
 /// A segment of these values.

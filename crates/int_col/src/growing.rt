@@ -4,6 +4,7 @@ ghost use Rattle.std.specs.Bool.{OnTrue};
 ghost use Rattle.bit_pack.specs.Width.{IsLeastWidth};
 ghost use Rattle.bit_pack.specs.Packed.{Packed};
 ghost use Rattle.segments.specs.Joined.{joined, counts_of};
+ghost use Rattle.segments.specs.Splices.{Applies, spliced};
 ghost use Rattle.int_col.specs.Spine.{LastTakes};
 ghost use Rattle.int_col.specs.Tail.{AreSegments};
 
@@ -13,7 +14,7 @@ use crate::spine::Spine;
 use crate::tail::Tail;
 use bit_pack::Width;
 use mk_value::Memory;
-use segments::Shared;
+use segments::{Shared, Splice};
 use std::alloc::{AllocError, Global};
 use std::marker::Model;
 
@@ -181,30 +182,12 @@ impl Growing {
         self.parts.tail.set(at - before, value)
     }
 
-    /// A list with copies of a value more before a place, or at the end.
-    pub(crate) fn inserted(
-        &self,
-        at: usize,
-        value: i64,
-        count: usize,
-    ) -> Result<Shared<Spine>, Memory>
-        requires at { at ≤ length (joined self.now) }
-        requires few { length (joined self.now) + count ≤ 16777216 }
-        ensures { IfOk result (λ spine. joined spine ≡ take at (joined self.now) ++ (replicate count value ++ drop at (joined self.now))) }
+    /// A list with a splice made.
+    pub(crate) fn spliced(&self, splice: &Splice, value: i64) -> Result<Spine, Memory>
+        requires { Applies (length (joined self.now)) splice.now }
+        ensures { IfOk result (λ spine. joined spine ≡ spliced (joined self.now) splice.now.at splice.now.end splice.now.count value) }
     {
-        let mut spine = self.to_spine()?;
-        spine.insert(at, value, count)?;
-        Shared::of(self.allocator(), spine)
-    }
-
-    /// A list without as many values from a place on.
-    pub(crate) fn removed(&self, at: usize, count: usize) -> Result<Shared<Spine>, Memory>
-        requires { at + count ≤ length (joined self.now) }
-        ensures { IfOk result (λ spine. joined spine ≡ take at (joined self.now) ++ drop (at + count) (joined self.now)) }
-    {
-        let mut spine = self.to_spine()?;
-        spine.remove(at, count)?;
-        Shared::of(self.allocator(), spine)
+        self.to_spine()?.spliced(splice, value)
     }
 
     /// Whether the last segment takes one more value.

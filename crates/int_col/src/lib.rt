@@ -16,6 +16,7 @@ mod fill;
 mod growing;
 mod held;
 mod packed;
+mod packed_splice;
 mod prepared;
 mod segment;
 mod segmented;

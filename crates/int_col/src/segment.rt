@@ -1,15 +1,18 @@
 //! A segment of values, packed.
-ghost use Rattle.std.specs.Prelude.{◌≡◌, ◌≢◌, ℕ, ℤ, pos, ◌+◌, ◌-◌, ◌<◌, ◌≤◌, [], ◌∷◌, ◌++◌, length, slice_get, slice_set, slice_index_or, take, drop, replicate, Some, IfOk, OnOk, OnErr};
+ghost use Rattle.std.specs.Prelude.{◌≡◌, ◌≢◌, ℕ, ℤ, pos, ◌+◌, ◌-◌, ◌<◌, ◌≤◌, ◌⊎◌, [], ◌∷◌, ◌++◌, length, slice_get, slice_set, slice_index_or, take, drop, replicate, Some, IfOk, OnOk, OnErr};
 ghost use Rattle.std.specs.Bool.{OnTrue};
 ghost use Rattle.bit_pack.specs.declared.widths.Width.{Width};
 ghost use Rattle.bit_pack.specs.Width.{Holds, HoldsAll, IsLeastWidth};
 ghost use Rattle.bit_pack.specs.Packed.{Packed, PackedAt, values_from};
+ghost use Rattle.segments.specs.Splices.{Applies, spliced};
+ghost use Rattle.segments.specs.Together.{Together};
 ghost use Rattle.int_col.specs.Segment.{Takes};
 
 use crate::held::Held;
+use crate::packed_splice::{reserve, splice_packed, unpack_around};
 use bit_pack::{Width, width_for};
 use mk_value::Memory;
-use segments::Shared;
+use segments::{Shared, Splice};
 use std::alloc::{AllocError, Global};
 use std::marker::Model;
 
@@ -213,6 +216,95 @@ impl Segment {
         Ok(())
     }
 
+    /// Makes a splice, with copies of the value, and the call, or neither. It is done in place where the width stays the least that
+    /// holds all, and else all values are packed again.
+    pub(crate) fn splice_then<F: FnMut() -> Result<(), Memory>>(
+        &mut self,
+        splice: &Splice,
+        value: i64,
+        also: &mut F,
+    ) -> Result<(), Memory>
+        requires applies { Applies (length self.old) splice.now }
+        requires room { splice.now.at + splice.now.count + (length self.old - splice.now.end) ≤ 2048 }
+        requires also { F.pre also.old }
+        ensures ok { OnOk result (self.new ≡ spliced self.old splice.now.at splice.now.end splice.now.count value) }
+        ensures err { OnErr result (self.new ≡ self.old) }
+        ensures also { Together F.step result also.old also.new }
+    {
+        if !self.keeps_width_after(splice, value) {
+            let fresh = self.spliced(splice, value)?;
+            also()?;
+            *self = fresh;
+            return Ok(());
+        }
+        let size = splice.at + splice.count + (self.count - splice.end);
+        reserve(&mut self.bytes, self.width.packed_len(size))?;
+        also()?;
+        splice_packed(self.width, &mut self.bytes, self.count, splice, value);
+        self.count = size;
+        Ok(())
+    }
+
+    /// A segment with a splice made.
+    fn spliced(&self, splice: &Splice, value: i64) -> Result<Segment, Memory>
+        requires applies { Applies (length self.now) splice.now }
+        requires room { splice.now.at + splice.now.count + (length self.now - splice.now.end) ≤ 2048 }
+        ensures { IfOk result (λ segment. segment ≡ spliced self.now splice.now.at splice.now.end splice.now.count value) }
+    {
+        let alloc = self.allocator();
+        let size = splice.at + splice.count + (self.count - splice.end);
+        let mut values = vec![in alloc; value; size]?;
+        unpack_around(
+            self.width,
+            &self.bytes,
+            self.count,
+            0,
+            splice,
+            value,
+            &mut values,
+        );
+        Segment::of(alloc, &values)
+    }
+
+    /// Whether the width is the least for the values after a splice.
+    fn keeps_width_after(&self, splice: &Splice, value: i64) -> bool
+        requires { Applies (length self.now) splice.now }
+        ensures { OnTrue result ((w : Width) → IsLeastWidth w self.now → IsLeastWidth w (spliced self.now splice.now.at splice.now.end splice.now.count value)) }
+    {
+        if !self.width.holds(value) {
+            return false;
+        }
+        match self.width.narrower() {
+            None => true,
+            Some(narrower) => self.exceeds_after(narrower, splice, value),
+        }
+    }
+
+    /// Whether a width that does not hold the values holds them not after a splice either.
+    fn exceeds_after(&self, narrower: Width, splice: &Splice, value: i64) -> bool
+        requires applies { Applies (length self.now) splice.now }
+        requires exceeds { HoldsAll narrower self.now → ⊥ }
+        ensures { OnTrue result (HoldsAll narrower (spliced self.now splice.now.at splice.now.end splice.now.count value) → ⊥) }
+    {
+        if splice.at == splice.end {
+            return true;
+        }
+        self.another_exceeds_beside(narrower, splice.at, splice.end)
+    }
+
+    /// Whether a value before place `at` or from place `end` on is none of the width.
+    fn another_exceeds_beside(&self, narrower: Width, at: usize, end: usize) -> bool
+        ensures { OnTrue result ((k : ℕ) × (k < length self.now) × ((k < at) ⊎ (end ≤ k)) × (Holds narrower (slice_index_or self.now k (pos 0)) → ⊥)) }
+    {
+        for k in 0..self.count {
+            let beside = k < at || end <= k;
+            if beside && !narrower.holds(self.get(k)) {
+                return true;
+            }
+        }
+        false
+    }
+
     /// All values.
     pub(crate) fn values(&self) -> Result<Vec<i64>, Memory>
         ensures values { IfOk result (λ values. values.items ≡ self.now) }
@@ -278,6 +370,26 @@ pub(crate) fn set_shared(segment: &mut Shared<Segment>, at: usize, value: i64) -
     match segment.sole() {
         Some(own) => own.set(at, value),
         None => segment.own()?.set(at, value),
+    }
+}
+
+/// Makes a splice of a segment, with copies of the value, and the call, or neither. Other owners keep the segment as it was.
+pub(crate) fn splice_shared<F: FnMut() -> Result<(), Memory>>(
+    segment: &mut Shared<Segment>,
+    splice: &Splice,
+    value: i64,
+    also: &mut F,
+) -> Result<(), Memory>
+    requires applies { Applies (length segment.old) splice.now }
+    requires room { splice.now.at + splice.now.count + (length segment.old - splice.now.end) ≤ 2048 }
+    requires also { F.pre also.old }
+    ensures ok { OnOk result (segment.new ≡ spliced segment.old splice.now.at splice.now.end splice.now.count value) }
+    ensures err { OnErr result (segment.new ≡ segment.old) }
+    ensures also { Together F.step result also.old also.new }
+{
+    match segment.sole() {
+        Some(own) => own.splice_then(splice, value, also),
+        None => segment.own()?.splice_then(splice, value, also),
     }
 }
 

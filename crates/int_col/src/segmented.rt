@@ -5,15 +5,17 @@ ghost use Rattle.bit_pack.specs.Width.{IsLeastWidth};
 ghost use Rattle.bit_pack.specs.Packed.{Packed, PackedAt, values_from};
 ghost use Rattle.segments.specs.Splices.{Applies, spliced};
 ghost use Rattle.segments.specs.Joined.{joined, counts_of};
+ghost use Rattle.segments.specs.Together.{Together};
 ghost use Rattle.int_col.specs.Cuts.{AreCuts, full_cuts};
 ghost use Rattle.int_col.specs.Segment.{Takes};
 ghost use Rattle.int_col.specs.Spine.{LastTakes};
+ghost use Rattle.int_col.specs.Within.{IsWithin};
 
 use crate::cut::{cut, cut_packed};
 use crate::growing::Growing;
 use crate::held::Held;
-use crate::segment::{Segment, push_shared, set_shared};
-use crate::spine::Spine;
+use crate::segment::{SEGMENT_MOST, Segment, push_shared, set_shared, splice_shared};
+use crate::spine::{Spine, Within};
 use bit_pack::Width;
 use mk_value::Memory;
 use segments::{Shared, Splice};
@@ -237,51 +239,84 @@ impl Segmented {
         }
     }
 
-    /// Inserts copies of a value before a place, or at the end.
-    pub(crate) fn insert(&mut self, at: usize, value: i64, count: usize) -> Result<(), Memory>
-        requires at { at ≤ length (joined self.old) }
-        requires few { length (joined self.old) + count ≤ 16777216 }
-        ensures ok { OnOk result (joined self.new ≡ take at (joined self.old) ++ (replicate count value ++ drop at (joined self.old))) }
+    /// Adds a value at the end.
+    pub(crate) fn push(&mut self, value: i64) -> Result<(), Memory>
+        requires { length (joined self.old) < 16777216 }
+        ensures ok { OnOk result (joined self.new ≡ joined self.old ++ value ∷ []) }
         ensures err { OnErr result (self.new ≡ self.old) }
     {
         match &mut self.kind {
-            Kind::Many(spine) => match spine.sole() {
-                Some(own) => own.insert(at, value, count),
-                None => spine.own()?.insert(at, value, count),
-            },
-            Kind::Growing(growing) => {
-                let spine = growing.inserted(at, value, count)?;
-                self.kind = Kind::Many(spine);
-                Ok(())
-            }
-            Kind::One(segment) if count == 1 && takes_at(segment.get(), at, value) => {
-                push_shared(segment, value)
-            }
-            _ => {
-                let end = at;
-                self.splice(&Splice { at, end, count }, value)
-            }
+            Kind::One(segment) if segment.get().takes(value) => push_shared(segment, value),
+            Kind::Many(spine) if spine.get().takes(value) => push_to_list(spine, value),
+            _ => self.push_by_splice(value),
         }
     }
 
-    /// Removes values from a place on.
-    pub(crate) fn remove(&mut self, at: usize, count: usize) -> Result<(), Memory>
-        requires { at + count ≤ length (joined self.old) }
-        ensures ok { OnOk result (joined self.new ≡ take at (joined self.old) ++ drop (at + count) (joined self.old)) }
+    /// Adds a value at the end, where it does not simply stand behind the others.
+    fn push_by_splice(&mut self, value: i64) -> Result<(), Memory>
+        requires { length (joined self.old) < 16777216 }
+        ensures ok { OnOk result (joined self.new ≡ joined self.old ++ value ∷ []) }
         ensures err { OnErr result (self.new ≡ self.old) }
     {
-        let _few = self.len();
+        let at = self.len();
+        let end = at;
+        self.splice_then(&Splice { at, end, count: 1 }, value, &mut || Ok(()))
+    }
+
+    /// Makes a splice, with copies of the value, and the call, or neither. A splice of one segment is made in place, where that is not
+    /// shared; else the segments that it touches are cut anew.
+    pub(crate) fn splice_then<F: FnMut() -> Result<(), Memory>>(
+        &mut self,
+        splice: &Splice,
+        value: i64,
+        also: &mut F,
+    ) -> Result<(), Memory>
+        requires applies { Applies (length (joined self.old)) splice.now }
+        requires also { F.pre also.old }
+        ensures ok { OnOk result (joined self.new ≡ spliced (joined self.old) splice.now.at splice.now.end splice.now.count value) }
+        ensures err { OnErr result (self.new ≡ self.old) }
+        ensures also { Together F.step result also.old also.new }
+    {
         match &mut self.kind {
-            Kind::Many(spine) => spine.own()?.remove(at, count),
-            Kind::Growing(growing) => {
-                let spine = growing.removed(at, count)?;
-                self.kind = Kind::Many(spine);
-                Ok(())
+            Kind::One(segment) if fits_in(segment.get(), splice) => {
+                splice_shared(segment, splice, value, also)
             }
-            _ => {
-                let end = at + count;
-                self.splice(&Splice { at, end, count: 0 }, 0)
-            }
+            Kind::Many(spine) => match spine.get().within(splice) {
+                Some(within) => splice_in_list(spine, splice, &within, value, also),
+                None => self.splice_anew(splice, value, also),
+            },
+            _ => self.splice_anew(splice, value, also),
+        }
+    }
+
+    /// Makes a splice by a copy.
+    fn splice_anew<F: FnMut() -> Result<(), Memory>>(
+        &mut self,
+        splice: &Splice,
+        value: i64,
+        also: &mut F,
+    ) -> Result<(), Memory>
+        requires applies { Applies (length (joined self.old)) splice.now }
+        requires also { F.pre also.old }
+        ensures ok { OnOk result (joined self.new ≡ spliced (joined self.old) splice.now.at splice.now.end splice.now.count value) }
+        ensures err { OnErr result (self.new ≡ self.old) }
+        ensures also { Together F.step result also.old also.new }
+    {
+        let fresh = self.spliced(splice, value)?;
+        also()?;
+        *self = fresh;
+        Ok(())
+    }
+
+    /// The values with a splice made.
+    fn spliced(&self, splice: &Splice, value: i64) -> Result<Segmented, Memory>
+        requires { Applies (length (joined self.now)) splice.now }
+        ensures { IfOk result (λ fresh. joined fresh ≡ spliced (joined self.now) splice.now.at splice.now.end splice.now.count value) }
+    {
+        match &self.kind {
+            Kind::Many(spine) => of_list(spine.get().spliced(splice, value)?),
+            Kind::Growing(growing) => of_list(growing.spliced(splice, value)?),
+            _ => self.cut_anew(splice, value),
         }
     }
 
@@ -303,7 +338,7 @@ impl Segmented {
         ensures { IfOk result (λ copy. joined copy ≡ joined self.now ++ value ∷ []) }
     {
         let mut copy = self.clone()?;
-        copy.insert(self.len(), value, 1)?;
+        copy.push(value)?;
         Ok(copy)
     }
 
@@ -333,15 +368,13 @@ impl Segmented {
         }
     }
 
-    /// Makes an edit, with copies of the value: all values are cut anew.
-    fn splice(&mut self, splice: &Splice, value: i64) -> Result<(), Memory>
-        requires { Applies (length (joined self.old)) splice.now }
-        ensures ok { OnOk result (joined self.new ≡ spliced (joined self.old) splice.now.at splice.now.end splice.now.count value) }
-        ensures err { OnErr result (self.new ≡ self.old) }
+    /// All values after a splice, cut anew.
+    fn cut_anew(&self, splice: &Splice, value: i64) -> Result<Segmented, Memory>
+        requires { Applies (length (joined self.now)) splice.now }
+        ensures { IfOk result (λ fresh. joined fresh ≡ spliced (joined self.now) splice.now.at splice.now.end splice.now.count value) }
     {
         let values = self.values_after(splice, value)?;
-        *self = Segmented::of(*values.allocator(), &values)?;
-        Ok(())
+        Segmented::of(*values.allocator(), &values)
     }
 
     /// The values after an edit.
@@ -366,12 +399,58 @@ impl Segmented {
     }
 }
 
-/// Whether a value at this place is one more of the segment, which takes it.
-fn takes_at(segment: &Segment, at: usize, value: i64) -> bool
-    ensures place { OnTrue result (at ≡ length segment.now) }
-    ensures takes { OnTrue result (Takes segment.now value) }
+/// Whether a segment has some values after a splice, and room for them.
+fn fits_in(segment: &Segment, splice: &Splice) -> bool
+    requires { Applies (length segment.now) splice.now }
+    ensures some { OnTrue result (0 < splice.now.at + splice.now.count + (length segment.now - splice.now.end)) }
+    ensures room { OnTrue result (splice.now.at + splice.now.count + (length segment.now - splice.now.end) ≤ 2048) }
 {
-    at == segment.len() && segment.takes(value)
+    let size = splice.at + splice.count + (segment.len() - splice.end);
+    0 < size && size <= SEGMENT_MOST
+}
+
+/// The values of a list.
+fn of_list(spine: Spine) -> Result<Segmented, Memory>
+    ensures { IfOk result (λ segmented. segmented ≡ spine) }
+{
+    let alloc = spine.allocator();
+    Ok(Segmented {
+        kind: Kind::Many(Shared::of(alloc, spine)?),
+    })
+}
+
+/// Adds a value that the last segment of a list takes. Other owners keep the list as it was.
+fn push_to_list(list: &mut Shared<Spine>, value: i64) -> Result<(), Memory>
+    requires takes { LastTakes list.old value }
+    requires few { length (joined list.old) < 16777216 }
+    ensures ok { OnOk result (joined list.new ≡ joined list.old ++ value ∷ []) }
+    ensures err { OnErr result (list.new ≡ list.old) }
+{
+    match list.sole() {
+        Some(own) => own.push(value),
+        None => list.own()?.push(value),
+    }
+}
+
+/// Makes a splice of one segment of a list, and the call, or neither. Other owners keep the list as it was.
+fn splice_in_list<F: FnMut() -> Result<(), Memory>>(
+    list: &mut Shared<Spine>,
+    splice: &Splice,
+    within: &Within,
+    value: i64,
+    also: &mut F,
+) -> Result<(), Memory>
+    requires applies { Applies (length (joined list.old)) splice.now }
+    requires within { IsWithin (counts_of list.old) splice.now within.now }
+    requires also { F.pre also.old }
+    ensures ok { OnOk result (joined list.new ≡ spliced (joined list.old) splice.now.at splice.now.end splice.now.count value) }
+    ensures err { OnErr result (list.new ≡ list.old) }
+    ensures also { Together F.step result also.old also.new }
+{
+    match list.sole() {
+        Some(own) => own.splice_within(splice, within, value, also),
+        None => list.own()?.splice_within(splice, within, value, also),
+    }
 }
 
 /// The values as they grow, if they take one more in place, and else the values as they are.

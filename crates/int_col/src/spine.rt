@@ -1,5 +1,5 @@
 //! The list of a column's segments.
-ghost use Rattle.std.specs.Prelude.{◌≡◌, ℕ, ℤ, ◌+◌, ◌-◌, ◌<◌, ◌≤◌, List, [], ◌∷◌, ◌++◌, length, sum, slice_get, slice_set, slice_index_or, take, drop, Some, All, IfOk, OnOk, OnErr, replicate};
+ghost use Rattle.std.specs.Prelude.{◌≡◌, ℕ, suc, ℤ, ◌+◌, ◌-◌, ◌^◌, ◌<◌, ◌≤◌, List, [], ◌∷◌, ◌++◌, length, sum, slice_get, slice_index, slice_set, slice_index_or, take, drop, Some, All, IfOk, IfSome, OnOk, OnErr, replicate};
 ghost use Rattle.std.specs.Bool.{OnTrue, OnFalse};
 ghost use Rattle.bit_pack.specs.Width.{IsLeastWidth};
 ghost use Rattle.bit_pack.specs.Packed.{Packed};
@@ -8,16 +8,26 @@ ghost use Rattle.segments.specs.Splices.{Applies, Covers, AreApartBefore, AreApa
 ghost use Rattle.segments.specs.Joined.{joined, counts_of};
 ghost use Rattle.int_col.specs.Cuts.{AreCuts, full_cuts};
 ghost use Rattle.int_col.specs.Spine.{LastTakes, IsLastFull, HasLastRoom};
+ghost use Rattle.segments.specs.Together.{Together};
 ghost use Rattle.int_col.specs.Tail.{AreSegments};
+ghost use Rattle.int_col.specs.Within.{IsPlaceOrEnd, IsWithin};
 
-use crate::cut::cut;
+use crate::cut::{cut, halves};
 use crate::held::Held;
-use crate::segment::{SEGMENT_MOST, Segment, push_shared, set_shared};
+use crate::segment::{SEGMENT_MOST, Segment, push_shared, set_shared, splice_shared};
 use bit_pack::Width;
 use mk_value::Memory;
 use segments::{Groups, Place, Replaced, Segments, Shared, Splice};
 use std::alloc::{AllocError, Global};
 use std::marker::Model;
+
+/// A splice of the values of one segment, and how many it has then.
+#[derive(Clone, Copy)]
+pub(crate) struct Within {
+    segment: usize,
+    splice: Splice,
+    size: usize,
+}
 
 /// The segments in order, and how they cut the list of values.
 #[derive(Drop)]
@@ -200,29 +210,129 @@ impl Spine {
         self.copy_values(splice.end, &mut into[before + splice.count..]);
     }
 
-    /// Inserts copies of a value before a place, or at the end.
-    pub(crate) fn insert(&mut self, at: usize, value: i64, count: usize) -> Result<(), Memory>
-        requires at { at ≤ length (joined self.old) }
-        requires few { length (joined self.old) + count ≤ 16777216 }
-        ensures ok { OnOk result (joined self.new ≡ take at (joined self.old) ++ (replicate count value ++ drop at (joined self.old))) }
-        ensures err { OnErr result (self.new ≡ self.old) }
+    /// The one segment that a splice touches, if there is one which has some values after it, room for them, and neighbours that do not
+    /// fit into it.
+    pub(crate) fn within(&self, splice: &Splice) -> Option<Within>
+        requires { Applies (length (joined self.now)) splice.now }
+        ensures { IfSome result (IsWithin (counts_of self.now) splice.now) }
     {
-        if count == 1 && at == self.len() && self.takes(value) {
-            return self.push(value);
+        let place = self.place_of(splice.at)?;
+        let count = self.count_of(place.segment);
+        let end = place.offset + (splice.end - splice.at);
+        if end > count {
+            return None;
         }
-        let end = at;
-        self.replace(&Splice { at, end, count }, value)
+        let size = place.offset + splice.count + (count - end);
+        if !self.may_have(place.segment, size) {
+            return None;
+        }
+        Some(Within {
+            segment: place.segment,
+            splice: Splice {
+                at: place.offset,
+                end,
+                count: splice.count,
+            },
+            size,
+        })
     }
 
-    /// Removes values from a place on.
-    pub(crate) fn remove(&mut self, at: usize, count: usize) -> Result<(), Memory>
-        requires { at + count ≤ length (joined self.old) }
-        ensures ok { OnOk result (joined self.new ≡ take at (joined self.old) ++ drop (at + count) (joined self.old)) }
-        ensures err { OnErr result (self.new ≡ self.old) }
+    /// Where a splice begins. The end of the list is in its last segment.
+    fn place_of(&self, at: usize) -> Option<Place>
+        requires { at ≤ length (joined self.now) }
+        ensures { IfSome result (IsPlaceOrEnd (counts_of self.now) at) }
     {
-        let _few = self.len();
-        let end = at + count;
-        self.replace(&Splice { at, end, count: 0 }, 0)
+        if at < self.len() {
+            return Some(self.find(at));
+        }
+        self.end_of_last()
+    }
+
+    /// The end of the list.
+    fn end_of_last(&self) -> Option<Place>
+        ensures { IfSome result (IsPlaceOrEnd (counts_of self.now) (length (joined self.now))) }
+    {
+        let count = self.segments();
+        if count == 0 {
+            return None;
+        }
+        let segment = count - 1;
+        Some(Place {
+            segment,
+            offset: self.count_of(segment),
+        })
+    }
+
+    /// How many values a segment has.
+    fn count_of(&self, k: usize) -> usize
+        requires { k < length self.now }
+        ensures count { result ≡ slice_index (counts_of self.now) k }
+        ensures few { result ≤ 2048 }
+    {
+        self.segments.get(k).len()
+    }
+
+    /// Whether a segment may have so many values.
+    fn may_have(&self, k: usize, size: usize) -> bool
+        requires in_range { k < length self.now }
+        requires small { size < 2 ^ 32 }
+        ensures cut { OnTrue result (AreCuts (slice_set (counts_of self.now) k size)) }
+        ensures few { OnTrue result (size ≤ 2048) }
+    {
+        if size == 0 {
+            return false;
+        }
+        if SEGMENT_MOST < size {
+            return false;
+        }
+        self.is_apart(k, size)
+    }
+
+    /// Whether so many values and those of a segment beside, if there is one, are too many for one segment.
+    fn is_apart(&self, k: usize, size: usize) -> bool
+        requires in_range { k < length self.now }
+        requires some { 0 < size }
+        requires few { size ≤ 2048 }
+        ensures { OnTrue result (AreCuts (slice_set (counts_of self.now) k size)) }
+    {
+        // The segments are cut as they have to be.
+        let _segments = self.segments();
+        if !self.ends_apart(k, size) {
+            return false;
+        }
+        self.begins_apart(k + 1, size)
+    }
+
+    /// Makes a splice within one segment, with copies of the value, and the call, or neither. It is done in place where the segment and
+    /// its group are this list's alone, and goes over the places where segments end.
+    pub(crate) fn splice_within<F: FnMut() -> Result<(), Memory>>(
+        &mut self,
+        splice: &Splice,
+        within: &Within,
+        value: i64,
+        also: &mut F,
+    ) -> Result<(), Memory>
+        requires applies { Applies (length (joined self.old)) splice.now }
+        requires within { IsWithin (counts_of self.old) splice.now within.now }
+        requires also { F.pre also.old }
+        ensures ok { OnOk result (joined self.new ≡ spliced (joined self.old) splice.now.at splice.now.end splice.now.count value) }
+        ensures err { OnErr result (self.new ≡ self.old) }
+        ensures also { Together F.step result also.old also.new }
+    {
+        let segment = self.segments.slot(within.segment)?;
+        splice_shared(segment, &within.splice, value, also)?;
+        self.ends.recount(within.segment, within.size);
+        Ok(())
+    }
+
+    /// A list with a splice made: the replaced segments are cut anew, and the others are shared.
+    pub(crate) fn spliced(&self, splice: &Splice, value: i64) -> Result<Spine, Memory>
+        requires { Applies (length (joined self.now)) splice.now }
+        ensures { IfOk result (λ spine. joined spine ≡ spliced (joined self.now) splice.now.at splice.now.end splice.now.count value) }
+    {
+        let mut spine = self.clone()?;
+        spine.replace(splice, value)?;
+        Ok(spine)
     }
 
     /// Whether the last segment has no room, as where there is none.
@@ -271,7 +381,7 @@ impl Spine {
     }
 
     /// Whether the last segment takes one more value.
-    fn takes(&self, value: i64) -> bool
+    pub(crate) fn takes(&self, value: i64) -> bool
         ensures { OnTrue result (LastTakes self.now value) }
     {
         match self.segments.last() {
@@ -281,7 +391,7 @@ impl Spine {
     }
 
     /// Adds a value that the last segment takes.
-    fn push(&mut self, value: i64) -> Result<(), Memory>
+    pub(crate) fn push(&mut self, value: i64) -> Result<(), Memory>
         requires takes { LastTakes self.old value }
         requires few { length (joined self.old) < 16777216 }
         ensures ok { OnOk result (joined self.new ≡ joined self.old ++ value ∷ []) }
@@ -302,8 +412,72 @@ impl Spine {
     {
         let replaced = self.replaced(splice);
         let values = self.values_after(splice, value, &replaced)?;
-        let fresh = cut(self.segments.allocator(), &values)?;
+        let fresh = self.cut_for(&replaced, &values)?;
         self.put(replaced.first, replaced.after, fresh)
+    }
+
+    /// Cuts the values that stand in place of those of the replaced segments: in two halves, which both have room, where they are too many
+    /// for one segment, two may stand there and they are as many, and else into full segments and a last one.
+    fn cut_for(&self, replaced: &Replaced, values: &[i64]) -> Result<Vec<Shared<Segment>>, Memory>
+        requires order { replaced.now.first ≤ replaced.now.after }
+        requires in_range { replaced.now.after ≤ length self.now }
+        requires few { length values.now ≤ 16777216 }
+        requires before { AreApartBefore 2048 (counts_of self.now) replaced.now.first (length values.now) }
+        requires behind { AreApartBehind 2048 (length values.now) (drop replaced.now.after (counts_of self.now)) }
+        ensures values { IfOk result (λ fresh. joined fresh.items ≡ values.now) }
+        ensures cut { IfOk result (λ fresh. AreCuts (take replaced.now.first (counts_of self.now) ++ (counts_of fresh.items ++ drop replaced.now.after (counts_of self.now)))) }
+    {
+        let alloc = self.segments.allocator();
+        let half = values.len() / 2;
+        if self.may_stand(replaced, half, values.len() - half) {
+            return halves(alloc, values, half);
+        }
+        cut(alloc, values)
+    }
+
+    /// Whether two segments of these counts may stand in place of the replaced.
+    fn may_stand(&self, replaced: &Replaced, first: usize, second: usize) -> bool
+        requires order { replaced.now.first ≤ replaced.now.after }
+        requires in_range { replaced.now.after ≤ length self.now }
+        requires first_small { first < 2 ^ 32 }
+        requires second_small { second < 2 ^ 32 }
+        ensures cut { OnTrue result (AreCuts (take replaced.now.first (counts_of self.now) ++ (first ∷ second ∷ drop replaced.now.after (counts_of self.now)))) }
+        ensures few { OnTrue result (first ≤ 2048) }
+        ensures second_few { OnTrue result (second ≤ 2048) }
+    {
+        // The segments are cut as they have to be.
+        let _segments = self.segments();
+        if SEGMENT_MOST < first {
+            return false;
+        }
+        if SEGMENT_MOST < second {
+            return false;
+        }
+        if first + second <= SEGMENT_MOST {
+            return false;
+        }
+        if !self.ends_apart(replaced.first, first) {
+            return false;
+        }
+        self.begins_apart(replaced.after, second)
+    }
+
+    /// Whether so many values and those of the segment before number `k`, if there is one, are too many for one segment.
+    fn ends_apart(&self, k: usize, size: usize) -> bool
+        requires in_range { k ≤ length self.now }
+        requires small { size < 2 ^ 32 }
+        ensures { OnTrue result ((j : ℕ) → k ≡ suc j → 2048 < slice_index (counts_of self.now) j + size) }
+    {
+        k == 0 || SEGMENT_MOST < self.count_of(k - 1) + size
+    }
+
+    /// Whether so many values and those of segment `k`, if there is one, are too many for one segment.
+    fn begins_apart(&self, k: usize, size: usize) -> bool
+        requires in_range { k ≤ length self.now }
+        requires small { size < 2 ^ 32 }
+        ensures { OnTrue result (k < length (counts_of self.now) → 2048 < size + slice_index (counts_of self.now) k) }
+    {
+        k == self.segments() || SEGMENT_MOST < size + self.count_of(k)
     }
 
     /// Puts segments in place of those from `first` up to `after`.

@@ -1,6 +1,7 @@
 -- Laws of a list that is kept in parts, one for each segment, and of the places of items in it.
 use Rattle.std.proofs.Common.{◌≡◌, ℕ, zero, suc, ◌+◌, ◌-◌, ◌<◌, ◌≤◌, Some, List, [], ◌∷◌, ◌++◌, length, get_or, set, take, drop, replicate, slice_get, refl, sym, ap, ◌∙◌, arith, sum}
-use Rattle.std.proofs.lemmas.List.{append_assoc, append-nil, length-append, length-map, length-take, length-drop, length-replicate, length_push, get_or-map, get_or_default, map-set, set-get_or, take-append-drop, take-map, drop-map, map-append, map_more, take_at, drop_at, drop-drop, drop-append-le, take-append-le}
+use Rattle.std.proofs.lemmas.List.{append_assoc, append-nil, length-append, length-map, length-take, length-drop, length-replicate, length_push, get_or-map, get_or_default, map-set, set-get_or, take-append-drop, take-map, drop-map, map-append, map_more, take_at, drop_at, drop-drop, drop-append-le, take-append-le, take-set, drop-set}
+use Rattle.std.proofs.Math.Seq.{drop-append-add}
 use Rattle.std.proofs.lemmas.List.Concat.{flat_map-append, length-flat_map, get_or-flat_map}
 use Rattle.std.proofs.lemmas.List.Sums.{sum-map}
 use Rattle.std.proofs.lemmas.Option.{slice_get-get_or, get_or_from_slice_get}
@@ -10,7 +11,7 @@ use Rattle.segments.specs.declared.splice.Replaced.{Replaced}
 use Rattle.segments.specs.Segments.{start_of, IsPlace}
 use Rattle.segments.specs.Splices.{Applies, Covers, size_after, spliced, items_after}
 use Rattle.segments.specs.Joined.{joined, counts_of}
-use Rattle.segments.proofs.Lists.{take-split, drop-split, drop-cons-at, last_parts, set_last}
+use Rattle.segments.proofs.Lists.{take-append-more, take-split, drop-split, drop-cons-at, last_parts, set_last}
 use Rattle.segments.proofs.Counts.{sum-take-suc}
 use Rattle.segments.proofs.Places.{start_within}
 
@@ -202,3 +203,47 @@ length-items_after {X} ss e t v a c =
 
 pub size_few_of : {X : Type 0} (ss : List (List X)) (e : Splice) (t : Replaced) → Applies (length (joined ss)) e → Covers (counts_of ss) e t → size_after e t ≤ 16777216
 size_few_of ss e t a c = omega (arith, a.few, a.within, stop_within ss e t c)
+
+-- a part with items in place of n of its own, from a place on
+
+module _ {X : Type 0} (ss : List (List X)) (k at offset n : ℕ) (s r : List X) (l : k < length ss) (here : s ≡ get_or ss k s) (place : start_of (counts_of ss) k + offset ≡ at) (within : offset + n ≤ length s) where
+  abbrev before : List X
+  before = joined (take k ss)
+
+  abbrev behind : List X
+  behind = joined (drop (k + 1) ss)
+
+  begins : length before ≡ start_of (counts_of ss) k
+  begins = length-joined-take k ss
+
+  all_parts : (t : List X) → joined (set ss k t) ≡ before ++ (t ++ behind)
+  all_parts t =
+      ap joined (sym (take-append-drop k (set ss k t)))
+      ∙ joined-append (take k (set ss k t)) (drop k (set ss k t))
+      ∙ ap (λ z. joined z ++ joined (drop k (set ss k t))) (take-set ss k t)
+      ∙ ap (λ z. before ++ joined z) (drop-set ss k t l)
+
+  whole : joined ss ≡ before ++ (s ++ behind)
+  whole = ap joined (sym (set-get_or ss k s)) ∙ all_parts (get_or ss k s) ∙ ap (λ z. before ++ (z ++ behind)) (sym here)
+
+  taken : take at (joined ss) ≡ before ++ take offset s
+  taken =
+      ap (λ i. take i (joined ss)) (let e : at ≡ length before + offset = omega (arith, begins, place) in e)
+      ∙ ap (take (length before + offset)) whole
+      ∙ take-append-more before (s ++ behind) offset
+      ∙ ap (λ z. before ++ z) (take-append-le offset s behind (omega arith))
+
+  dropped : drop (at + n) (joined ss) ≡ drop (offset + n) s ++ behind
+  dropped =
+      ap (λ i. drop i (joined ss)) (let e : at + n ≡ length before + (offset + n) = omega (arith, begins, place) in e)
+      ∙ ap (drop (length before + (offset + n))) whole
+      ∙ drop-append-add before (s ++ behind) (offset + n)
+      ∙ drop-append-le (offset + n) s behind within
+
+  pub spliced_part : joined (set ss k (take offset s ++ (r ++ drop (offset + n) s))) ≡ take at (joined ss) ++ (r ++ drop (at + n) (joined ss))
+  spliced_part =
+      all_parts (take offset s ++ (r ++ drop (offset + n) s))
+      ∙ ap (λ z. before ++ z) (append_assoc (take offset s) (r ++ drop (offset + n) s) behind ∙ ap (λ z. take offset s ++ z) (append_assoc r (drop (offset + n) s) behind))
+      ∙ sym (append_assoc before (take offset s) (r ++ (drop (offset + n) s ++ behind)))
+      ∙ ap (λ z. z ++ (r ++ (drop (offset + n) s ++ behind))) (sym taken)
+      ∙ ap (λ z. take at (joined ss) ++ (r ++ z)) (sym dropped)

@@ -5,4 +5,5 @@ pub mod Splices
 pub mod Joined
 pub mod Counted
 pub mod Last
+pub mod Moved
 pub mod Grouped

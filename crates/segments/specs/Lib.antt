@@ -2,3 +2,4 @@ pub mod Segments
 pub mod Splices
 pub mod Joined
 pub mod Groups
+pub mod Together

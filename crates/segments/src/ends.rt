@@ -76,3 +76,16 @@ pub(crate) fn push_moved(
     }
     Ok(())
 }
+
+/// Moves the ends from number `after` on in place: those of segments that stood from place `from` on stand from place `to` on now.
+pub(crate) fn move_ends(ends: &mut [usize], after: usize, from: usize, to: usize)
+    requires in_range { after ≤ length ends.old }
+    requires above { All (λ e. from ≤ e) (drop after ends.old) }
+    requires fits { All (λ e. e - from + to < 2 ^ 64) (drop after ends.old) }
+    ensures len { length ends.new ≡ length ends.old }
+    ensures items { ends.new ≡ take after ends.old ++ map (λ e. e - from + to) (drop after ends.old) }
+{
+    for at in after..ends.len() {
+        ends[at] = ends[at] - from + to;
+    }
+}

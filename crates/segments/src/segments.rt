@@ -4,7 +4,7 @@ ghost use Rattle.std.specs.Bool.{OnTrue, OnFalse};
 ghost use Rattle.segments.specs.Segments.{start_of, IsPlace};
 ghost use Rattle.segments.specs.Splices.{Applies, Covers, HoldsItem, IsNeeded, WithBefore, WithBehind, FitsBehind, IsApartBehind, TakesNeighbors, size_after};
 
-use crate::ends::{first_end_above, first_ends, push_ends, push_moved};
+use crate::ends::{first_end_above, first_ends, move_ends, push_ends, push_moved};
 use crate::splice::{Replaced, Splice};
 use mk_value::Memory;
 use std::alloc::{AllocError, Global};
@@ -157,6 +157,18 @@ impl<const MOST: usize> Segments<MOST> {
     {
         let last = self.ends.len() - 1;
         self.ends[last] += 1;
+    }
+
+    /// Gives a segment another count of items. It takes no memory, and goes over the ends of the segments from there on.
+    pub fn recount(&mut self, k: usize, count: usize)
+        requires in_range { k < length self.old }
+        requires count { count ≤ MOST }
+        requires few { sum (slice_set self.old k count) ≤ 16777216 }
+        ensures { self.new ≡ slice_set self.old k count }
+    {
+        let from = self.ends[k];
+        let to = self.start(k) + count;
+        move_ends(&mut self.ends, k, from, to);
     }
 
     /// The segments that a splice needs.

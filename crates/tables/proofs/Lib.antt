@@ -18,3 +18,4 @@ pub mod Resting
 pub mod RowHomes
 pub mod Setting
 pub mod Values
+pub mod Edited

@@ -1,5 +1,5 @@
 -- Columns at whose end a row was put, and those that were made ready for it.
-use Rattle.std.proofs.Common.{Box, Global, ◌≡◌, ℕ, zero, suc, ◌+◌, ◌-◌, ◌<◌, ℤ, List, [], ◌∷◌, ◌++◌, length, get_or, take, drop, map, pos, refl, ap, sym, subst, ◌∙◌, arith}
+use Rattle.std.proofs.Common.{Box, Global, ◌≡◌, ℕ, zero, suc, ◌+◌, ◌-◌, ◌<◌, ◌≤◌, ℤ, List, [], ◌∷◌, ◌++◌, length, get_or, take, drop, map, pos, refl, ap, sym, subst, ◌∙◌, arith}
 use Rattle.std.specs.List.{AllZip}
 use Rattle.std.proofs.lemmas.List.{length-map, get_or-map, take_all, drop_all}
 use Rattle.mk_value.specs.Heading.{Domain, Attribute}
@@ -15,6 +15,7 @@ use Rattle.tables.specs.Columns.{StoredColumn, integers, texts, views, no_column
 use Rattle.tables.specs.declared.prepared.Copied.{Copied}
 use Rattle.tables.specs.declared.prepared.PreparedColumn.{PreparedColumn}
 use Rattle.tables.specs.declared.prepared.PreparedColumn.TheVariants.{Ints, Blobs, Listed, Views}
+use Rattle.tables.specs.Edits.{IsPutIn, ArePutIn}
 use Rattle.tables.specs.Prepared.{IsPushed, AreReady, ArePushed, HasRoomForNumber, HasRoomForString, IsAfter, IsReadyFor, IsReadyForNumber, IsReadyForString, IsLonger}
 use Rattle.segments.proofs.Last.{front-push}
 use Rattle.tables.proofs.ColumnWith.{keeps_integer, keeps_long, keeps_text, keeps_bytes, numbers_many, strings_many, views_many, integers_inserted_in, longs_inserted_in, texts_inserted_in, bytes_inserted_in, views_inserted}
@@ -153,56 +154,65 @@ are_ready n schema row cols whole fits = go schema row cols whole.each fits
     go (a ∷ schema) (d ∷ row) [] h k = absurd h
     go (a ∷ schema) (d ∷ row) (c ∷ cols) h k = (h.0, k.0, go schema row cols h.1 k.1)
 
--- the columns after a row was put at their end, one by one
+-- the columns after a row was put in, one by one
 
-pub pushed_paired : (n : ℕ) (schema : List Attribute) (row : List Datum) (old new : List StoredColumn) → ArePushed n schema row old new → (length old ≡ length schema) × (length new ≡ length schema)
-pushed_paired n [] [] [] [] h = (refl, refl)
-pushed_paired n [] [] [] (e ∷ new) h = absurd h
-pushed_paired n [] [] (c ∷ old) new h = absurd h
-pushed_paired n [] (d ∷ row) old new h = absurd h
-pushed_paired n (a ∷ schema) [] old new h = absurd h
-pushed_paired n (a ∷ schema) (d ∷ row) [] new h = absurd h
-pushed_paired n (a ∷ schema) (d ∷ row) (c ∷ old) [] h = absurd h
-pushed_paired n (a ∷ schema) (d ∷ row) (c ∷ old) (e ∷ new) h =
-    let rest = pushed_paired n schema row old new h.1 in (omega (arith, rest.0), omega (arith, rest.1))
+put_paired : (at n : ℕ) (schema : List Attribute) (row : List Datum) (old new : List StoredColumn) → ArePutIn at n schema row old new → (length old ≡ length schema) × (length new ≡ length schema)
+put_paired at n [] [] [] [] h = (refl, refl)
+put_paired at n [] [] [] (e ∷ new) h = absurd h
+put_paired at n [] [] (c ∷ old) new h = absurd h
+put_paired at n [] (d ∷ row) old new h = absurd h
+put_paired at n (a ∷ schema) [] old new h = absurd h
+put_paired at n (a ∷ schema) (d ∷ row) [] new h = absurd h
+put_paired at n (a ∷ schema) (d ∷ row) (c ∷ old) [] h = absurd h
+put_paired at n (a ∷ schema) (d ∷ row) (c ∷ old) (e ∷ new) h =
+    let rest = put_paired at n schema row old new h.1 in (omega (arith, rest.0), omega (arith, rest.1))
 
-pub pushed_at : (n k : ℕ) (schema : List Attribute) (row : List Datum) (old new : List StoredColumn) → ArePushed n schema row old new → k < length schema
-    → IsPushed n (domain_at schema k) (get_or row k (integer (pos 0))) (get_or old k no_column) (get_or new k no_column)
-pushed_at n k [] row old new h p = absurd (omega arith)
-pushed_at n k (a ∷ schema) [] old new h p = absurd h
-pushed_at n k (a ∷ schema) (d ∷ row) [] new h p = absurd h
-pushed_at n k (a ∷ schema) (d ∷ row) (c ∷ old) [] h p = absurd h
-pushed_at n zero (a ∷ schema) (d ∷ row) (c ∷ old) (e ∷ new) h p = h.0
-pushed_at n (suc k) (a ∷ schema) (d ∷ row) (c ∷ old) (e ∷ new) h p = pushed_at n k schema row old new h.1 (omega arith)
+put_at : (at n k : ℕ) (schema : List Attribute) (row : List Datum) (old new : List StoredColumn) → ArePutIn at n schema row old new → k < length schema
+    → IsPutIn at n (domain_at schema k) (get_or row k (integer (pos 0))) (get_or old k no_column) (get_or new k no_column)
+put_at at n k [] row old new h p = absurd (omega arith)
+put_at at n k (a ∷ schema) [] old new h p = absurd h
+put_at at n k (a ∷ schema) (d ∷ row) [] new h p = absurd h
+put_at at n k (a ∷ schema) (d ∷ row) (c ∷ old) [] h p = absurd h
+put_at at n zero (a ∷ schema) (d ∷ row) (c ∷ old) (e ∷ new) h p = h.0
+put_at at n (suc k) (a ∷ schema) (d ∷ row) (c ∷ old) (e ∷ new) h p = put_at at n k schema row old new h.1 (omega arith)
 
 -- they are the columns of the table with the row
-pub row_pushed : (n : ℕ) (schema : List Attribute) (row : List Datum) (old new : List StoredColumn) → AreColumnsOf n schema old → IsRowOf row schema → ArePushed n schema row old new
-    → AreColumnsIn (with_rows_inserted n row 1 (table_of_columns n schema old)) new
-row_pushed n schema row old new whole fits h =
-    let t : StoredTable = table_of_columns n schema old in
-    let paired = pushed_paired n schema row old new h in
+rows_put : (m at n : ℕ) (schema : List Attribute) (row : List Datum) (old new : List StoredColumn) → AreColumnsOf m schema old → IsRowOf row schema → 0 < n → ArePutIn at n schema row old new
+    → AreColumnsIn (with_rows_inserted at row n (table_of_columns m schema old)) new
+rows_put m at zero schema row old new whole fits some h = absurd (omega arith)
+rows_put m at (suc n) schema row old new whole fits some h =
+    let t : StoredTable = table_of_columns m schema old in
+    let paired = put_paired at (suc n) schema row old new h in
     record {
       paired = paired.1;
       each = λ k p.
           let e : Domain = domain_at schema k in
           let d : Datum = get_or row k (integer (pos 0)) in
-          let values : column_values e (get_or old k no_column) ≡ column_of t.rows k = sym (column_of-columns n k schema old no_column whole.each p) in
+          let values : column_values e (get_or old k no_column) ≡ column_of t.rows k = sym (column_of-columns m k schema old no_column whole.each p) in
           let home : home_of (get_or old k no_column) ≡ get_or t.homes k no_home = sym (get_or-map home_of old k no_column no_home (omega (arith, paired.0))) in
-          column_inserted t n 1 k row (get_or new k no_column) (length-map old home_of ∙ paired.0) fits (omega arith) p
-          (subst (λ x. IsColumnWith e (inserted n 1 d (column_of t.rows k)) (home_inserted n 1 e d x) (get_or new k no_column)) home
-          (subst (λ vs. IsColumnWith e (inserted n 1 d vs) (home_inserted n 1 e d (home_of (get_or old k no_column))) (get_or new k no_column)) values
-          (pushed_at n k schema row old new h p)));
+          column_inserted t at (suc n) k row (get_or new k no_column) (length-map old home_of ∙ paired.0) fits some p
+          (subst (λ x. IsColumnWith e (inserted at (suc n) d (column_of t.rows k)) (home_inserted at (suc n) e d x) (get_or new k no_column)) home
+          (subst (λ vs. IsColumnWith e (inserted at (suc n) d vs) (home_inserted at (suc n) e d (home_of (get_or old k no_column))) (get_or new k no_column)) values
+          (put_at at (suc n) k schema row old new h p)));
     }
 
--- the table with the row
+-- the table with rows put in
+pub rows_done : (m at n : ℕ) (schema : List Attribute) (row : List Datum) (old new : List StoredColumn) → AreColumnsOf m schema old → IsTable (table_of_columns m schema old) → HasHomes (table_of_columns m schema old)
+    → at ≤ length (table_of_columns m schema old).rows → length (table_of_columns m schema old).rows + n ≤ 16777216 → 0 < n → IsRowOf row schema → ArePutIn at n schema row old new
+    → AreRebuilt (m + n) schema new (with_rows_inserted at row n (table_of_columns m schema old))
+rows_done m at n schema row old new whole table homes place few some fits h =
+    let t : StoredTable = table_of_columns m schema old in
+    let long : length t.rows ≡ m = length-rows_of_columns m schema old in
+    inserted_done t at n (m + n) row new table homes place few fits (rows_put m at n schema row old new whole fits some h) (omega (arith, long))
+
+-- the table with the row at its end
 pub row_done : (n : ℕ) (schema : List Attribute) (row : List Datum) (old new : List StoredColumn) → AreColumnsOf n schema old → IsTable (table_of_columns n schema old) → HasHomes (table_of_columns n schema old)
     → length (table_of_columns n schema old).rows < 16777216 → IsRowOf row schema → ArePushed n schema row old new
     → AreRebuilt (n + 1) schema new (with_rows_inserted (length (table_of_columns n schema old).rows) row 1 (table_of_columns n schema old))
 row_done n schema row old new whole table homes few fits h =
     let t : StoredTable = table_of_columns n schema old in
     let long : length t.rows ≡ n = length-rows_of_columns n schema old in
-    inserted_done t (length t.rows) 1 (n + 1) row new table homes (omega arith) (omega (arith, few)) fits
-    (subst (λ k. AreColumnsIn (with_rows_inserted k row 1 t) new) (sym long) (row_pushed n schema row old new whole fits h)) (omega (arith, long))
+    rows_done n (length t.rows) 1 schema row old new whole table homes (omega arith) (omega (arith, few)) (omega arith) fits (subst (λ k. ArePutIn k 1 schema row old new) (sym long) h)
 
 -- One column after another.
 
@@ -210,12 +220,15 @@ rest_of : {X : Type 0} (x : X) (xs : List X) → take (length (x ∷ xs) - 1) (d
 rest_of x xs = take_all (length (x ∷ xs) - 1) xs (omega arith)
 
 -- no columns are left
+pub none_put : (m at n : ℕ) (schema : List Attribute) (row : List Datum) (cols : List StoredColumn) → AreReady m schema row cols → length cols ≡ 0 → ArePutIn at n schema row cols cols
+none_put m at n [] [] [] h e = tt
+none_put m at n [] (d ∷ row) [] h e = absurd h
+none_put m at n (a ∷ schema) [] [] h e = absurd h
+none_put m at n (a ∷ schema) (d ∷ row) [] h e = absurd h
+none_put m at n schema row (c ∷ cols) h e = absurd (omega arith)
+
 pub pushed_none : (n : ℕ) (schema : List Attribute) (row : List Datum) (cols : List StoredColumn) → AreReady n schema row cols → length cols ≡ 0 → ArePushed n schema row cols cols
-pushed_none n [] [] [] h e = tt
-pushed_none n [] (d ∷ row) [] h e = absurd h
-pushed_none n (a ∷ schema) [] [] h e = absurd h
-pushed_none n (a ∷ schema) (d ∷ row) [] h e = absurd h
-pushed_none n schema row (c ∷ cols) h e = absurd (omega arith)
+pushed_none n schema row cols h e = none_put n n 1 schema row cols h e
 
 -- the columns behind the first
 pub ready_rest : (n : ℕ) (props : List Attribute) (values : List Value) (c : StoredColumn) (rest : List StoredColumn) → AreReady n props (map datum_of values) (c ∷ rest)
@@ -228,15 +241,20 @@ ready_rest n (a ∷ props) (v ∷ values) c rest h =
     (subst (λ (vs : List Value). AreReady n props (map datum_of vs) rest) (sym (rest_of v values)) h.2)
 
 -- the first of them, and those behind it
+pub more_put : (m at n : ℕ) (props : List Attribute) (values : List Value) (c new : StoredColumn) (rest more : List StoredColumn) (a : Attribute) (k : Domain) (v : Value)
+    → AreReady m props (map datum_of values) (c ∷ rest) → a ≡ get_or props 0 a → k ≡ a.domain → v ≡ get_or values 0 v → IsPutIn at n k (datum_of v) c new
+    → ArePutIn at n (take (length props - 1) (drop 1 props)) (map datum_of (take (length values - 1) (drop 1 values))) rest more → ArePutIn at n props (map datum_of values) (c ∷ rest) (new ∷ more)
+more_put m at n [] [] c new rest more a k v h here kind is first behind = absurd h
+more_put m at n [] (w ∷ values) c new rest more a k v h here kind is first behind = absurd h
+more_put m at n (b ∷ props) [] c new rest more a k v h here kind is first behind = absurd h
+more_put m at n (b ∷ props) (w ∷ values) c new rest more a k v h here kind is first behind =
+    let domain : k ≡ b.domain = kind ∙ ap (λ (x : Attribute). x.domain) here in (
+      subst (λ e. IsPutIn at n e (datum_of w) c new) domain (subst (λ (x : Value). IsPutIn at n k (datum_of x) c new) is first),
+      subst (λ (ps : List Attribute). ArePutIn at n ps (map datum_of values) rest more) (rest_of b props)
+          (subst (λ (vs : List Value). ArePutIn at n (take (length (b ∷ props) - 1) (drop 1 (b ∷ props))) (map datum_of vs) rest more) (rest_of w values) behind),
+    )
+
 pub pushed_more : (n : ℕ) (props : List Attribute) (values : List Value) (c new : StoredColumn) (rest more : List StoredColumn) (a : Attribute) (k : Domain) (v : Value)
     → AreReady n props (map datum_of values) (c ∷ rest) → a ≡ get_or props 0 a → k ≡ a.domain → v ≡ get_or values 0 v → IsPushed n k (datum_of v) c new
     → ArePushed n (take (length props - 1) (drop 1 props)) (map datum_of (take (length values - 1) (drop 1 values))) rest more → ArePushed n props (map datum_of values) (c ∷ rest) (new ∷ more)
-pushed_more n [] [] c new rest more a k v h at kind here first behind = absurd h
-pushed_more n [] (w ∷ values) c new rest more a k v h at kind here first behind = absurd h
-pushed_more n (b ∷ props) [] c new rest more a k v h at kind here first behind = absurd h
-pushed_more n (b ∷ props) (w ∷ values) c new rest more a k v h at kind here first behind =
-    let domain : k ≡ b.domain = kind ∙ ap (λ (x : Attribute). x.domain) at in (
-      subst (λ e. IsPushed n e (datum_of w) c new) domain (subst (λ (x : Value). IsPushed n k (datum_of x) c new) here first),
-      subst (λ (ps : List Attribute). ArePushed n ps (map datum_of values) rest more) (rest_of b props)
-          (subst (λ (vs : List Value). ArePushed n (take (length (b ∷ props) - 1) (drop 1 (b ∷ props))) (map datum_of vs) rest more) (rest_of w values) behind),
-    )
+pushed_more n props values c new rest more a k v h here kind is first behind = more_put n n 1 props values c new rest more a k v h here kind is first behind

@@ -2,6 +2,7 @@ pub mod Blocks
 pub mod Build
 pub mod Cells
 pub mod Columns
+pub mod Edits
 pub mod Falls
 pub mod HomeCode
 pub mod Homes

@@ -2,8 +2,8 @@
 use Rattle.std.specs.Prelude.{◌≡◌, ℕ, ◌-◌, ◌<◌, ℤ, List, [], ◌∷◌, ◌++◌, length, take, None}
 use Rattle.mk_value.specs.Heading.{Domain, Attribute}
 use Rattle.mk_value.specs.Data.{Datum, IsOf}
-use Rattle.tables.specs.Columns.{StoredColumn, integers, texts, views, column_values, home_of, IsColumnOf, IsColumnWith}
-use Rattle.tables.specs.Rows.{inserted, home_inserted}
+use Rattle.tables.specs.Columns.{StoredColumn, integers, texts, views, IsColumnOf}
+use Rattle.tables.specs.Edits.{IsPutIn, ArePutIn}
 use Rattle.tables.specs.Tables.{StoredTable}
 use Rattle.tables.specs.Build.{IsTableOfRows}
 use Rattle.tables.specs.declared.prepared.PreparedColumn.{PreparedColumn}
@@ -11,7 +11,7 @@ use Rattle.tables.specs.declared.prepared.PreparedColumn.TheVariants.{Ints, Blob
 
 -- a column of the domain after a value was put at its end, behind n values
 abbrev pub IsPushed : ℕ → Domain → Datum → StoredColumn → StoredColumn → Type 0
-IsPushed n e d old new = IsColumnWith e (inserted n 1 d (column_values e old)) (home_inserted n 1 e d (home_of old)) new
+IsPushed n e d old new = IsPutIn n 1 e d old new
 
 -- whole columns of n values, and a row that fits them
 abbrev pub AreReady : ℕ → List Attribute → List Datum → List StoredColumn → Type 0
@@ -21,9 +21,7 @@ AreReady n _ _ _ = ⊥
 
 -- the columns after the row was put at their end
 abbrev pub ArePushed : ℕ → List Attribute → List Datum → List StoredColumn → List StoredColumn → Type 0
-ArePushed n (a ∷ schema) (d ∷ row) (c ∷ old) (e ∷ new) = IsPushed n a.domain d c e × ArePushed n schema row old new
-ArePushed n [] [] [] [] = Unit {0}
-ArePushed n _ _ _ _ = ⊥
+ArePushed n schema row old new = ArePutIn n 1 schema row old new
 
 -- the column keeps numbers, or byte strings, and has room for one more
 abbrev pub HasRoomForNumber : StoredColumn → Type 0

@@ -1,15 +1,17 @@
 //! The columns of a table.
-ghost use Rattle.std.specs.Prelude.{◌≡◌, ◌<◌, [], ◌∷◌, ◌++◌, length, map, slice_index_or, slice_set, IfOk, OnOk, OnErr};
+ghost use Rattle.std.specs.Prelude.{◌≡◌, ◌+◌, ◌<◌, ◌≤◌, [], ◌∷◌, ◌++◌, length, map, slice_index_or, slice_set, IfOk, OnOk, OnErr};
 ghost use Rattle.mk_value.specs.Data.{IsOf};
 ghost use Rattle.mk_value.specs.Kinds.{domain_of};
 ghost use Rattle.mk_value.specs.Values.{datum_of};
 ghost use Rattle.tables.specs.Cells.{IsWholeColumn, IsSet, IsSetIn, HasNumber, HasString, HasView, with_number, with_string, with_view};
 ghost use Rattle.tables.specs.Columns.{column_values, no_column};
 ghost use Rattle.tables.specs.Homes.{empty_homes_in};
+ghost use Rattle.tables.specs.Edits.{ArePutIn, AreWithout, HaveSome};
 ghost use Rattle.tables.specs.Prepared.{AreReady, ArePushed};
 ghost use Rattle.tables.specs.Stored.{stored_of};
 
 use crate::build::inner_of_rows;
+use crate::edits::{insert_rows, remove_rows};
 use crate::prepared::push_row;
 use crate::{Shared, Tables};
 use bytes_col::BytesCol;
@@ -107,6 +109,42 @@ impl Cols {
         ensures err { OnErr result (self.new ≡ self.old) }
     {
         push_row(self.allocator(), rows, &mut self.items, props, values)
+    }
+
+    /// Puts copies of a row at a place of the columns of so many rows. No copy of a column is changed.
+    pub(crate) fn insert_rows(
+        &mut self,
+        rows: usize,
+        at: usize,
+        props: &[Prop],
+        values: &[Value],
+        count: usize,
+    ) -> Result<(), Memory>
+        requires at { at ≤ rows }
+        requires few { rows + count ≤ 16777216 }
+        requires ready { AreReady rows props.now (map datum_of values.now) self.old }
+        ensures ok { OnOk result (ArePutIn at count props.now (map datum_of values.now) self.old self.new) }
+        ensures err { OnErr result (self.new ≡ self.old) }
+    {
+        insert_rows(
+            self.allocator(),
+            rows,
+            at,
+            &mut self.items,
+            props,
+            values,
+            count,
+        )
+    }
+
+    /// Removes so many rows from a place on. No copy of a column is changed.
+    pub(crate) fn remove_rows(&mut self, at: usize, count: usize) -> Result<(), Memory>
+        requires few { at + count ≤ 16777216 }
+        requires within { HaveSome (at + count) self.old }
+        ensures ok { OnOk result (AreWithout at count self.old self.new) }
+        ensures err { OnErr result (self.new ≡ self.old) }
+    {
+        remove_rows(&mut self.items, at, count)
     }
 
     /// Gives the value at a row of a column another. No copy of the column is changed.

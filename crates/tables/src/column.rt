@@ -193,7 +193,7 @@ fn blobs_inserted(
 }
 
 /// The tables with one put in so many times at a place. No copy of them is changed.
-fn views_inserted(
+pub(crate) fn views_inserted(
     tables: &Tables,
     at: usize,
     table: &Shared,
@@ -207,32 +207,8 @@ fn views_inserted(
     Ok(column)
 }
 
-/// The numbers without so many from a place on. No copy of them is changed.
-fn numbers_removed(ints: &IntCol, at: usize, count: usize) -> Result<IntCol, Memory>
-    requires within { at + count ≤ length ints.now.values }
-    requires some { 0 < count }
-    ensures values { IfOk result (λ column. column.values ≡ removed at count ints.now.values) }
-    ensures home { IfOk result (λ column. column.home ≡ None) }
-{
-    let mut column = ints.same()?;
-    column.remove(at, count)?;
-    Ok(column)
-}
-
-/// The byte strings without so many from a place on. No copy of them is changed.
-fn blobs_removed(blobs: &BytesCol, at: usize, count: usize) -> Result<BytesCol, Memory>
-    requires within { at + count ≤ length blobs.now.values }
-    requires some { 0 < count }
-    ensures values { IfOk result (λ column. column.values ≡ removed at count blobs.now.values) }
-    ensures home { IfOk result (λ column. column.home ≡ None) }
-{
-    let mut column = blobs.same()?;
-    column.remove(at, count)?;
-    Ok(column)
-}
-
 /// The tables without so many from a place on. No copy of them is changed.
-fn views_removed(tables: &Tables, at: usize, count: usize) -> Result<Tables, Memory>
+pub(crate) fn views_removed(tables: &Tables, at: usize, count: usize) -> Result<Tables, Memory>
     requires { at + count ≤ length tables.now }
     ensures { IfOk result (λ column. column ≡ removed at count tables.now) }
 {
@@ -275,22 +251,6 @@ impl Column<'_> {
                 let table = inner_of_rows(alloc, self.kind, rows)?;
                 Ok(Col::Views(views_inserted(self.views(), at, &table, count)?))
             }
-        }
-    }
-
-    /// The column without so many values from a place on. No copy of it is changed.
-    pub(crate) fn removed(&self, at: usize, count: usize) -> Result<Col, Memory>
-        requires whole { IsWhole self.now }
-        requires within { at + count ≤ length (values_read self.now) }
-        requires some { 0 < count }
-        ensures { IfOk result (λ col. IsColumnWith (domain_of self.now.kind.now) (removed at count (values_read self.now)) (home_removed at count (home_of (stored_of self.now.col.now))) (stored_of col)) }
-    {
-        match self.kind {
-            Kind::I => Ok(Col::Ints(numbers_removed(self.ints(), at, count)?)),
-            Kind::L => Ok(Col::Ints(numbers_removed(self.ints(), at, count)?)),
-            Kind::S => Ok(Col::Blobs(blobs_removed(self.blobs(), at, count)?)),
-            Kind::B => Ok(Col::Blobs(blobs_removed(self.blobs(), at, count)?)),
-            Kind::V(_) => Ok(Col::Views(views_removed(self.views(), at, count)?)),
         }
     }
 }

@@ -8,6 +8,7 @@ mod build;
 mod chunk;
 mod cols;
 mod column;
+mod edits;
 mod groups;
 mod growing;
 mod prepared;

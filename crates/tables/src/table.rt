@@ -139,7 +139,8 @@ impl Table {
     /// there are any the plain columns have none.
     ///
     /// One row at the end costs its values: each column is made ready for it, and then takes it in place where its last segment is its own.
-    /// Else it costs copies of the columns, which share all but their lists of segments and the segments at the place.
+    /// Elsewhere a column of numbers, texts or byte strings takes it in the segment at the place, where that has room: in place where nothing
+    /// else holds the segment, and else in a copy of it. A column of tables is copied, but for what the copy shares.
     ///
     /// # Errors
     ///
@@ -158,10 +159,7 @@ impl Table {
         if count == 1 && at == self.len() {
             return self.push_row(row);
         }
-        let rows = self.len() + count;
-        let cols = self.cols_inserted(at, row, count)?;
-        self.set_cols(rows, cols);
-        Ok(())
+        self.put_rows(at, row, count)
     }
 
     /// Removes so many rows from a place on. Where there are any, the plain columns have no homes.
@@ -178,10 +176,7 @@ impl Table {
         if count == 0 {
             return Ok(());
         }
-        let rows = self.len() - count;
-        let cols = self.cols_removed(at, count)?;
-        self.set_cols(rows, cols);
-        Ok(())
+        self.take_rows(at, count)
     }
 
     /// Gives the value at a row and a column another. A plain column has no home then; the table of a view value has none.
@@ -248,43 +243,36 @@ impl Table {
         Ok(())
     }
 
-    /// Copies of the columns with rows put in.
-    fn cols_inserted(&self, at: usize, row: &Row, count: usize) -> Result<Cols, Memory>
-        requires at { at ≤ length self.now.rows }
-        requires few { length self.now.rows + count ≤ 16777216 }
+    /// Puts copies of a row at a place, some.
+    fn put_rows(&mut self, at: usize, row: &Row, count: usize) -> Result<(), Memory>
+        requires at { at ≤ length self.old.rows }
+        requires few { length self.old.rows + count ≤ 16777216 }
         requires some { 0 < count }
-        requires row { IsRowOf row.now self.now.schema }
-        ensures { IfOk result (AreColumnsIn (with_rows_inserted at row.now count self.now)) }
+        requires row { IsRowOf row.now self.old.schema }
+        ensures ok { OnOk result (self.new ≡ with_rows_inserted at row.now count self.old) }
+        ensures err { OnErr result (self.new ≡ self.old) }
+        ensures rests { RestsOn self.new self.old }
     {
-        let alloc = self.allocator();
-        let values = row.as_slice();
-        let mut cols = Cols::new(alloc);
-        for col in 0..self.width() {
-            cols.push(self.column(col).inserted(alloc, at, &values[col], count)?)?;
-        }
-        Ok(cols)
+        let rows = self.len();
+        let props = self.schema.get().as_slice();
+        self.cols
+            .insert_rows(rows, at, props, row.as_slice(), count)?;
+        self.rows = (rows + count) as u32;
+        Ok(())
     }
 
-    /// Copies of the columns with rows removed.
-    fn cols_removed(&self, at: usize, count: usize) -> Result<Cols, Memory>
-        requires within { at + count ≤ length self.now.rows }
+    /// Removes some rows from a place on.
+    fn take_rows(&mut self, at: usize, count: usize) -> Result<(), Memory>
+        requires within { at + count ≤ length self.old.rows }
         requires some { 0 < count }
-        ensures { IfOk result (AreColumnsIn (with_rows_removed at count self.now)) }
+        ensures ok { OnOk result (self.new ≡ with_rows_removed at count self.old) }
+        ensures err { OnErr result (self.new ≡ self.old) }
+        ensures rests { RestsOn self.new self.old }
     {
-        let mut cols = Cols::new(self.allocator());
-        for col in 0..self.width() {
-            cols.push(self.column(col).removed(at, count)?)?;
-        }
-        Ok(cols)
-    }
-
-    /// Puts columns of so many rows in place of the columns.
-    fn set_cols(&mut self, rows: usize, cols: Cols)
-        requires { AreColumnsOf rows self.old.schema cols }
-        ensures { self.new ≡ table_of_columns rows self.old.schema cols }
-    {
-        self.rows = rows as u32;
-        self.cols = cols;
+        let rows = self.len();
+        self.cols.remove_rows(at, count)?;
+        self.rows = (rows - count) as u32;
+        Ok(())
     }
 
     /// The rows, with memory of their own.

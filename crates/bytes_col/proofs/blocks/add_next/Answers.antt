@@ -1,4 +1,4 @@
-use Rattle.std.proofs.Common.{◌≡◌, ◌+◌, ◌-◌, ℕ, List, take, drop, refl, arith}
+use Rattle.std.proofs.Common.{◌+◌, ◌-◌, ℕ, List, take, drop, refl, arith}
 use Rattle.bytes_col.specs.Parts.{added}
 use Rattle.bytes_col.proofs.BlockLaws.{takes_short}
 use Rattle.bytes_col.proofs.blocks.add_next.Goals as goal

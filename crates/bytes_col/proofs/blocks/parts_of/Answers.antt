@@ -1,7 +1,5 @@
-use Rattle.std.proofs.Common.{◌≡◌, ◌<◌, ℕ, pos, Some, slice_get, length, drop, sym, ap, subst, ◌∙◌, arith}
+use Rattle.std.proofs.Common.{length, ap, arith}
 use Rattle.std.proofs.lemmas.List.{length-drop}
-use Rattle.std.proofs.lemmas.Option.{get_or_from_slice_get}
-use Rattle.bytes_col.specs.declared.blocks.BlocksError.{BlocksError}
 use Rattle.bytes_col.specs.Parts.{added}
 use Rattle.bytes_col.proofs.BlockLaws.{blocks_more, no_values, none_left, refusal_of, one_size}
 use Rattle.bytes_col.proofs.blocks.parts_of.Goals as goal

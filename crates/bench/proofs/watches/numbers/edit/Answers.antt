@@ -4,7 +4,7 @@ use Rattle.std.proofs.lemmas.Result.{on_ok_weaker}
 use Rattle.mk_value.specs.Data.{Datum}
 use Rattle.tables.specs.Tables.{StoredTable}
 use Rattle.live.specs.Watching.{IsTurn, root_turn}
-use Rattle.live.specs.declared.event.Event.{Event}
+use Rattle.row_edits.specs.declared.event.Event.{Event}
 use Rattle.live.specs.declared.turn.Turn.TheVariants.{Comes, Changes}
 use Rattle.live.proofs.Edits.{inserted_turn, replaced_turn}
 use Rattle.bench.proofs.watches.numbers.edit.Goals as goal

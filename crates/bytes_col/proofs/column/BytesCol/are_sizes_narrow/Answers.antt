@@ -1,9 +1,9 @@
-use Rattle.std.proofs.Common.{◌≡◌, ◌≤◌, [], Bool, true, false, leb, refl, sym, ap, subst, ◌∙◌, arith}
+use Rattle.std.proofs.Common.{◌≡◌, ◌≤◌, [], true, false, leb, refl, subst, arith}
 use Rattle.std.specs.Bool.{OnTrue}
 use Rattle.std.proofs.lemmas.Bool.Decides.{nat_tests}
 use Rattle.bit_pack.specs.Width.{bit_count, IsLeastWidth}
 use Rattle.segments.specs.Joined.{joined}
-use Rattle.bytes_col.specs.Strings.{Strings, memo_rows, sizes_of}
+use Rattle.bytes_col.specs.Strings.{memo_rows}
 use Rattle.bytes_col.proofs.Fills.{no_memos}
 use Rattle.bytes_col.proofs.column.BytesCol.are_sizes_narrow.Goals as goal
 
