@@ -1,10 +1,13 @@
 mod Answering
+mod Ascending
 mod Firsts
 mod Found
 mod Keys
 mod Levels
+mod Ordered
 mod Printed
 mod RowsUnder
+mod Runs
 mod Sizes
 mod Steps
 pub mod Unordered

@@ -1,5 +1,6 @@
 pub mod Answers
 pub mod Cursors
+pub mod InOrder
 pub mod Kept
 pub mod Operations
 pub mod Places

@@ -5,7 +5,7 @@ ghost use Rattle.eval.specs.Names.{IsSeen, Named, view_at};
 ghost use Rattle.eval.specs.declared.error.NameError.TheVariants as name_error;
 ghost use Rattle.following.specs.Keeping.{AreKept, followed};
 ghost use Rattle.following.specs.Watches.{is_watch as is_name_of_watch};
-ghost use Rattle.mappings.specs.Keeping.{mapped};
+ghost use Rattle.mappings.specs.Keeping.{AreKept as AreMapped, mapped};
 ghost use Rattle.mk_value.specs.Names.{same_bytes};
 ghost use Rattle.view_store.specs.Views.{table_of as view_named};
 ghost use Rattle.questions.specs.Kept.{Kept, is_kept, stored, table_of, watched};
@@ -34,7 +34,7 @@ pub struct Known<'a> {
 impl<'a> Model for Known<'a> {
     ghost use Rattle.std.specs.Coded.{codes};
     ghost use Rattle.following.specs.Keeping.{AreKept, followed};
-    ghost use Rattle.mappings.specs.Keeping.{mapped};
+    ghost use Rattle.mappings.specs.Keeping.{AreKept as AreMapped, mapped};
     ghost use Rattle.questions.specs.Kept.{Names, kept_code};
     ghost use Rattle.relations.specs.Criteria.{interval_code};
     ghost use Rattle.view_store.specs.Views.{views_code};
@@ -45,7 +45,7 @@ impl<'a> Model for Known<'a> {
 
     ghost view = { λ k. record { views = k.views.now; snapshots = k.snapshots.now; watches = followed k.watches.now; mappings = mapped k.mappings.now } };
 
-    ghost invariant = { λ k. AreKept k.views.now k.watches.now };
+    ghost invariant = { λ k. AreKept k.views.now k.watches.now × AreMapped k.views.now k.mappings.now };
 }
 
 impl Names<Shared> for Known<'_> {
@@ -71,6 +71,7 @@ impl<'a> Known<'a> {
         mappings: &'a Mappings,
     ) -> Known<'a>
         requires kept { AreKept views.now watches.now }
+        requires mapped { AreMapped views.now mappings.now }
         ensures views { result.views ≡ views.now }
         ensures snapshots { result.snapshots ≡ snapshots.now }
         ensures watches { result.watches ≡ followed watches.now }

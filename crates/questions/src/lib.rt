@@ -7,6 +7,7 @@
 
 mod cursor;
 mod error;
+mod in_order;
 mod known;
 mod level;
 mod places;

@@ -67,6 +67,22 @@ impl<V: Viewer> Scope<'_, V> {
         requires { IsWhole (query_of expr.now) }
         ensures { Answers (λ position. position) (search_due (asked_names self.now.names (map V.meaning self.now.viewers.now) self.now.computed.now) self.now.names.watches self.now.names.mappings (map V.meaning self.now.viewers.now) (query_of expr.now) criteria.now) result }
     {
+        match self.names.in_order(expr) {
+            Some(view) => view.search(alloc, criteria),
+            None => self.search_all(alloc, expr, criteria),
+        }
+    }
+
+    /// The same, where it is not known that the rows stand in the order: those that come before the values are counted.
+    fn search_all(
+        &self,
+        alloc: Global,
+        expr: &Expr,
+        criteria: &[Crit],
+    ) -> Result<u64, QuestionError>
+        requires { IsWhole (query_of expr.now) }
+        ensures { Answers (λ position. position) (search_due (asked_names self.now.names (map V.meaning self.now.viewers.now) self.now.computed.now) self.now.names.watches self.now.names.mappings (map V.meaning self.now.viewers.now) (query_of expr.now) criteria.now) result }
+    {
         let table = self.unordered(alloc, expr)?;
         let values = tested(alloc, table.schema(), criteria)?;
         let keys = self.names.known_keys(alloc, expr, table.schema())?;
@@ -90,6 +106,22 @@ impl<V: Viewer> Scope<'_, V> {
         requires { IsWhole (query_of expr.now) }
         ensures { Answers (λ located. located) (locate_due (asked_names self.now.names (map V.meaning self.now.viewers.now) self.now.computed.now) self.now.names.watches self.now.names.mappings (map V.meaning self.now.viewers.now) (query_of expr.now) criteria.now) result }
     {
+        match self.names.in_order(expr) {
+            Some(view) => view.locate(alloc, criteria),
+            None => self.locate_all(alloc, expr, criteria),
+        }
+    }
+
+    /// The same, where it is not known that the rows stand in the order: all are looked at.
+    fn locate_all(
+        &self,
+        alloc: Global,
+        expr: &Expr,
+        criteria: &[Crit],
+    ) -> Result<Located, QuestionError>
+        requires { IsWhole (query_of expr.now) }
+        ensures { Answers (λ located. located) (locate_due (asked_names self.now.names (map V.meaning self.now.viewers.now) self.now.computed.now) self.now.names.watches self.now.names.mappings (map V.meaning self.now.viewers.now) (query_of expr.now) criteria.now) result }
+    {
         let table = self.unordered(alloc, expr)?;
         let values = tested(alloc, table.schema(), criteria)?;
         let keys = self.names.known_keys(alloc, expr, table.schema())?;
@@ -103,7 +135,7 @@ impl<V: Viewer> Scope<'_, V> {
 }
 
 /// The criteria as values of their properties' kinds, where none is due a refusal.
-fn tested(
+pub(crate) fn tested(
     alloc: Global,
     schema: &Schema,
     criteria: &[Crit],

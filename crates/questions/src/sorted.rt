@@ -52,7 +52,7 @@ impl Known<'_> {
     }
 
     /// Of how many values the key is in whose order the rows of the view to which a path leads stand, if they do.
-    fn order_at(&self, path: &Path) -> Option<usize>
+    pub(crate) fn order_at(&self, path: &Path) -> Option<usize>
         ensures { result ≡ order_where self.now.mappings path.now }
     {
         if path.steps().is_empty() {
@@ -149,7 +149,7 @@ fn key(order: &Order) -> Result<Key, Memory>
 }
 
 /// The first properties, so many, upwards.
-fn upwards(alloc: Global, schema: &Schema, count: usize) -> Result<Sequence<Key>, Memory>
+pub(crate) fn upwards(alloc: Global, schema: &Schema, count: usize) -> Result<Sequence<Key>, Memory>
     requires { count ≤ length schema.now }
     ensures { IfOk result (λ keys. keys ≡ keys_upwards count schema.now) }
 {

@@ -1,12 +1,13 @@
 -- What a session holds.
-use Rattle.std.specs.Prelude.{ℕ, List, []}
+use Rattle.std.specs.Prelude.{ℕ, List, [], length, Option, Some, None}
 use Rattle.computing.specs.Computed.{Computations, no_computations}
 use Rattle.following.specs.Watches.{Followed, followed_by}
 use Rattle.mappings.specs.Mapped.{MappedView}
 use Rattle.questions.specs.Cursors.{Placed}
 use Rattle.questions.specs.Kept.{Kept, Names}
 use Rattle.storage.specs.Stored.{Stored, with_views}
-use Rattle.view_store.specs.Views.{NamedTable}
+use Rattle.tables.specs.Tables.{StoredTable}
+use Rattle.view_store.specs.Views.{NamedTable, table_of}
 
 pub record World : Type 0 where
   -- the views that are edited, the commit that the file stands for, and what is known of the file
@@ -27,6 +28,14 @@ world_over store = record { store = store; snapshots = []; cursors = []; watches
 -- the names that stand for tables, beside those of computed watches
 abbrev pub kept_names : World → Names
 kept_names w = record { views = w.store.views; snapshots = w.snapshots; watches = w.watches; mappings = w.mappings }
+
+-- how many rows the view of a name has, and 0 if there is none
+abbrev pub rows_in : Option StoredTable → ℕ
+rows_in None = 0
+rows_in (Some t) = length t.rows
+
+abbrev pub view_size : World → List ℕ → ℕ
+view_size w name = rows_in (table_of w.store.views name)
 
 -- the world with another store
 abbrev pub with_store : World → Stored → World

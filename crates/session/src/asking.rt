@@ -4,7 +4,7 @@ ghost use Rattle.cmd_text.specs.declared.command.Command.TheVariants as commands
 ghost use Rattle.eval.specs.Parts.{IsWhole};
 ghost use Rattle.expr_text.specs.Meanings.{query_of};
 ghost use Rattle.following.specs.Keeping.{AreKept, followed};
-ghost use Rattle.mappings.specs.Keeping.{mapped};
+ghost use Rattle.mappings.specs.Keeping.{AreKept as AreMapped, mapped};
 ghost use Rattle.session.specs.Answered.{Answered};
 ghost use Rattle.session.specs.World.{kept_names};
 
@@ -114,6 +114,7 @@ fn names_of<'a>(
     mappings: &'a Mappings,
 ) -> Known<'a>
     requires kept { AreKept store.now.views watches.now }
+    requires mapped { AreMapped store.now.views mappings.now }
     ensures views { result.views ≡ store.now.views }
     ensures snapshots { result.snapshots ≡ snapshots.now }
     ensures watches { result.watches ≡ followed watches.now }
@@ -132,6 +133,7 @@ pub(crate) fn scope_of<'a, V: Viewer>(
     viewers: &'a [V],
 ) -> Scope<'a, V>
     requires kept { AreKept store.now.views watches.now }
+    requires mapped { AreMapped store.now.views mappings.now }
     ensures views { result.names.views ≡ store.now.views }
     ensures snapshots { result.names.snapshots ≡ snapshots.now }
     ensures watches { result.names.watches ≡ followed watches.now }

@@ -17,7 +17,7 @@ ghost use Rattle.session.specs.Disk.{IsSteady};
 ghost use Rattle.session.specs.Lines.{IsOfLine, is_blank, is_quit};
 ghost use Rattle.session.specs.Going.{GoesOn, GoesOnLine};
 ghost use Rattle.session.specs.Saying.{FitsIn, IsUnbounded, KeepsRoom};
-ghost use Rattle.session.specs.World.{world_over};
+ghost use Rattle.session.specs.World.{view_size, world_over};
 ghost use Rattle.session.specs.Step.{Step};
 
 use crate::refusals::of_reading;
@@ -30,7 +30,7 @@ use following::Following;
 use host_io::Host;
 use lines::Flow;
 use mappings::{By, Mappings};
-use mk_value::{Memory, Text};
+use mk_value::{Memory, Name, TableRead, Text};
 use questions::{Cursors, Snapshots};
 use std::alloc::Global;
 use std::marker::Model;
@@ -98,6 +98,16 @@ impl Session {
         ensures whole { IsCommit self.now.store.kept }
     {
         self.store.number()
+    }
+
+    /// The number of rows of a view, and 0 if there is none of the name.
+    pub fn view_size(&self, name: &Name) -> u64
+        ensures { result ≡ view_size self.now name.now }
+    {
+        match self.store.views().table(name) {
+            Some(table) => table.size() as u64,
+            None => 0,
+        }
     }
 
     /// Carries a command out, and gives the reply to it: the one that it is due, or a refusal for want of memory or because the disk

@@ -14,4 +14,4 @@ returns-then-not-is_watch c =
 pub returns : goal.returns
 returns c =
     subst (λ (n : Names). c.size.result ≡ length (rows_watched n.views n.watches c.args.name.now)) c.self.view_is
-    (size_shown (watch_table c.self.inside.views.now (followed c.self.inside.watches.now) c.args.name.now) c.size.result (c.size.ensures c.self.inside.views.now c.self.invariant))
+    (size_shown (watch_table c.self.inside.views.now (followed c.self.inside.watches.now) c.args.name.now) c.size.result (c.size.ensures c.self.inside.views.now c.self.invariant.0))

@@ -6,7 +6,6 @@ use Rattle.computing.specs.Computed.{names_of}
 use Rattle.computing.proofs.Naming.{no_steps}
 use Rattle.derived.specs.Layers.{table_of}
 use Rattle.eval.specs.Names.{IsSeen, seen_at}
-use Rattle.eval.specs.declared.error.NameError.{NameError}
 use Rattle.questions.proofs.Found.{is_this, no_steps_left}
 use Rattle.questions.proofs.Levels.{Refused, refused_before, seen_before, seen_behind, seen_stepped}
 use Rattle.questions.proofs.level.LevelNamesShared.view.Goals as goal
