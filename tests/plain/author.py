@@ -397,7 +397,7 @@ class Author:
 
     def of_insert(self):
         path, props, size = self.edited()
-        place, count = self.chance.randint(0, size + self.often(0.1)), 70_000 if self.often(0.05) else self.chance.randint(0, 2)
+        place, count = self.chance.randint(0, size + self.often(0.1)), 70_000 if self.often(0.05) else self.chance.choice((0, 1, 1, 2, 2, 7))
         return [*path, str(place), str(count), *(token for value in self.literals(props) for token in literal_tokens(value))]
 
     def of_set(self):
@@ -410,7 +410,7 @@ class Author:
 
     def of_remove(self):
         path, _, size = self.edited()
-        return [*path, str(self.chance.randint(0, size)), self.chance.choice("011")]
+        return [*path, str(self.chance.randint(0, size)), self.chance.choice("0111235")]
 
     def of_commit(self):
         return self.chance.choice(([], [], ['"a note"']))

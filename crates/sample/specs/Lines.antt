@@ -35,17 +35,9 @@ last_line = codes "commit"
 abbrev pub sample_lines : ℕ → ℕ → List (List ℕ)
 sample_lines number edits = first_line ∷ (edit_lines edits (beginning number) ++ last_line ∷ [])
 
--- the number of rows of the view after all lines
+-- the number of rows that a sample counts, in order to edit only rows that are there
 abbrev pub sample_size : ℕ → ℕ → ℕ
 sample_size number edits = (place_after edits (beginning number)).rows
-
--- the lines that are left of a sample, and the number of rows of its view after all of them
-pub record Left : Type 0 where
-  pub lines : List (List ℕ)
-  pub size : ℕ
-
-abbrev pub with_line : List ℕ → Left → Left
-with_line line left = record left { lines = line ∷ left.lines }
 
 -- the line begins with neither a space nor the first letter of `quit`
 abbrev pub BeginsWithVerb : List ℕ → Type 0

@@ -1,6 +1,6 @@
--- How far a sample has come, as what is left of it.
-use Rattle.std.specs.Prelude.{ℕ, [], ◌∷◌, ◌++◌}
-use Rattle.sample.specs.Lines.{Left, edit_lines, first_line, last_line, place_after}
+-- How far a sample has come, as the lines that are left of it.
+use Rattle.std.specs.Prelude.{ℕ, List, [], ◌∷◌, ◌++◌}
+use Rattle.sample.specs.Lines.{edit_lines, first_line, last_line}
 use Rattle.sample.specs.declared.place.Place.{Place}
 use Rattle.sample.specs.declared.sample.Stage.{Stage}
 use Rattle.sample.specs.declared.sample.Stage.TheVariants.{First, Edits, Over}
@@ -10,7 +10,7 @@ edits_left (First edits) = edits
 edits_left (Edits edits) = edits
 edits_left Over = 0
 
-abbrev pub left_at : Stage → Place → Left
-left_at (First edits) place = record { lines = first_line ∷ (edit_lines edits place ++ last_line ∷ []); size = (place_after edits place).rows }
-left_at (Edits edits) place = record { lines = edit_lines edits place ++ last_line ∷ []; size = (place_after edits place).rows }
-left_at Over place = record { lines = []; size = place.rows }
+abbrev pub left_at : Stage → Place → List (List ℕ)
+left_at (First edits) place = first_line ∷ (edit_lines edits place ++ last_line ∷ [])
+left_at (Edits edits) place = edit_lines edits place ++ last_line ∷ []
+left_at Over place = []

@@ -1,5 +1,5 @@
-ghost use Rattle.std.specs.Prelude.{◌≡◌, ◌≤◌, ◌+◌, [], length, true, false};
-ghost use Rattle.sample.specs.Lines.{BeginsWithVerb, sample_lines, sample_size, with_line};
+ghost use Rattle.std.specs.Prelude.{◌≡◌, ◌≤◌, ◌+◌, [], ◌∷◌, length, true, false};
+ghost use Rattle.sample.specs.Lines.{BeginsWithVerb, sample_lines};
 
 use crate::edit::append;
 use crate::place::Place;
@@ -12,7 +12,7 @@ pub const MAX_SAMPLE_LINE: usize = 80;
 /// The line that gives the view its structure.
 const STRUCTURE: &str = "getas item[id:I,name:S,qty:L]";
 
-/// The lines of a sample that are left, and how many rows its view has after the last.
+/// The lines of a sample that are left.
 #[derive(Drop)]
 pub struct Sample {
     place: Place,
@@ -31,11 +31,10 @@ pub(crate) enum Stage {
 }
 
 impl Model for Sample {
-    ghost use Rattle.std.specs.Prelude.{◌<◌, ◌+◌, ◌^◌};
-    ghost use Rattle.sample.specs.Lines.{Left};
+    ghost use Rattle.std.specs.Prelude.{ℕ, List, ◌<◌, ◌+◌, ◌^◌};
     ghost use Rattle.sample.specs.Stages.{edits_left, left_at};
 
-    ghost Value = { Left };
+    ghost Value = { List (List ℕ) };
 
     ghost view = { λ s. left_at s.stage s.place };
 
@@ -45,8 +44,7 @@ impl Model for Sample {
 impl Sample {
     /// The sample of a number, with so many edits.
     pub fn new(number: u64, edits: u32) -> Sample
-        ensures lines { result.lines ≡ sample_lines number edits }
-        ensures size { result.size ≡ sample_size number edits }
+        ensures { result ≡ sample_lines number edits }
     {
         Sample {
             place: Place {
@@ -61,10 +59,10 @@ impl Sample {
     pub fn next_line(&mut self, line: &mut Text) -> bool
         requires empty { line.old.bytes ≡ [] }
         requires room { MAX_SAMPLE_LINE ≤ line.old.spare }
-        ensures some { result ≡ true → self.old ≡ with_line line.new.bytes self.new }
+        ensures some { result ≡ true → self.old ≡ line.new.bytes ∷ self.new }
         ensures short { length line.new.bytes ≤ MAX_SAMPLE_LINE }
         ensures begins { result ≡ true → BeginsWithVerb line.new.bytes }
-        ensures none { result ≡ false → (self.old.lines ≡ []) × (self.new ≡ self.old) × (line.new.bytes ≡ []) }
+        ensures none { result ≡ false → (self.old ≡ []) × (self.new ≡ self.old) × (line.new.bytes ≡ []) }
         ensures room { line.old.spare ≤ line.new.spare + length line.new.bytes }
     {
         match self.stage {
@@ -85,13 +83,5 @@ impl Sample {
             }
             Stage::Over => false,
         }
-    }
-
-    /// The number of rows of the view after all lines, which have come.
-    pub fn size(&self) -> u64
-        requires { self.now.lines ≡ [] }
-        ensures { result ≡ self.now.size }
-    {
-        self.place.rows
     }
 }

@@ -1,5 +1,5 @@
 -- What each status of a run says of the bytes taken and said, and of what a crash would have left.
-use Rattle.std.specs.Prelude.{◌≡◌, ◌≢◌, ℕ, ◌+◌, ◌<◌, ◌≤◌, List, [], length, ◌⊎◌, Ok, Err}
+use Rattle.std.specs.Prelude.{◌≡◌, ◌≢◌, ℕ, ◌+◌, ◌<◌, ◌≤◌, List, [], length, ◌⊎◌, Ok, Err, codes}
 use Rattle.command_line.specs.Words.{AsksFor, AsksForSome}
 use Rattle.command_line.specs.declared.job.Job.{Job}
 use Rattle.command_line.specs.declared.job.Task.{Task}
@@ -13,11 +13,11 @@ use Rattle.lines.specs.Machine.{State}
 use Rattle.lines.specs.Served.{Serves, state_of}
 use Rattle.recovery.specs.Commits.{Commit}
 use Rattle.recovery.specs.Standing.{StandsFor}
-use Rattle.sample.specs.Lines.{sample_lines, sample_size}
+use Rattle.sample.specs.Lines.{sample_lines}
 use Rattle.session.specs.Disk.{IsAllowed}
 use Rattle.session.specs.Starting.{StartsAs}
 use Rattle.session.specs.Step.{machine}
-use Rattle.session.specs.World.{World}
+use Rattle.session.specs.World.{World, view_size}
 use Rattle.storage.specs.Spaces.{Reports}
 use Rattle.storage.specs.declared.mode.Mode.{Mode}
 use Rattle.storage.specs.declared.mode.Mode.TheVariants.{Read}
@@ -142,10 +142,15 @@ RanChecking TakeFault old new = ⊥
 RanChecking TooMuch old new = ⊥
 RanChecking SayFault old new = Checks SayFault old new
 
--- the line that is said of a sample: that all its lines were answered, or the reply to the first that was refused
+-- the view that the lines of a sample edit
+abbrev pub sample_view : List ℕ
+sample_view = codes "item"
+
+-- The line that is said of a sample: that all its lines were answered, with the rows that its view has in the last world; or the reply to the first
+-- that was refused.
 abbrev pub IsSampleLine : List Meaning → ℕ → ℕ → State World → State World → List ℕ → Type 0
 IsSampleLine viewers number edits old last line =
-    (AcceptsAll (machine viewers) old last (sample_lines number edits) × (line ≡ sample_line edits (sample_size number edits) last.world.store.kept.number))
+    (AcceptsAll (machine viewers) old last (sample_lines number edits) × (line ≡ sample_line edits (view_size last.world sample_view) last.world.store.kept.number))
     ⊎ RefusesOne (machine viewers) old last (sample_lines number edits) line
 
 -- The lines of a sample were answered in silence, up to the first that was refused, and then one line was said of them. From the last answer

@@ -29,10 +29,8 @@ pub(crate) fn answer_all<H: Host, C, S: Session<H, C>>(
     requires line { IsLineRoom line.old }
     requires out { IsClear out.old }
     requires ready { H.tells → IsReady (S.machine context.now) (state_of session.old (H.outside host.old)) }
-    ensures comes { H.tells → AnswersAll (S.machine context.now) sample.old.lines out.new.bytes session.old session.new (H.outside host.old) (H.outside host.new) result }
+    ensures comes { H.tells → AnswersAll (S.machine context.now) sample.old out.new.bytes session.old session.new (H.outside host.old) (H.outside host.new) result }
     ensures ready { H.tells → IsReady (S.machine context.now) (state_of session.new (H.outside host.new)) }
-    ensures over { OnOk result (sample.new.lines ≡ []) }
-    ensures size { OnOk result (sample.new.size ≡ sample.old.size) }
     ensures clear { OnOk result (IsClear out.new) }
     ensures say_faults { (H.outside host.new).say_faults ≡ (H.outside host.old).say_faults }
     ensures source { (H.outside host.new).source ≡ (H.outside host.old).source }

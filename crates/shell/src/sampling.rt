@@ -6,7 +6,8 @@ ghost use Rattle.host_io.specs.Outside.{Outside};
 ghost use Rattle.lines.specs.Rooms.{IsClear};
 ghost use Rattle.lines.specs.Served.{state_of};
 ghost use Rattle.session.specs.Disk.{IsSteady};
-ghost use Rattle.shell.specs.Ran.{IsSampleLine, RanSampling, SamplesFrom};
+ghost use Rattle.session.specs.World.{view_size};
+ghost use Rattle.shell.specs.Ran.{IsSampleLine, RanSampling, SamplesFrom, sample_view};
 ghost use Rattle.streaming.specs.Silence.{GoesInSilence};
 ghost use Rattle.shell.specs.Sampled.{IsLineRoom};
 ghost use Rattle.storage.specs.declared.mode.Mode.TheVariants as modes;
@@ -18,7 +19,7 @@ use crate::own_lines::write_sample;
 use crate::refusing::refuse;
 use crate::status::Status;
 use host_io::Host;
-use mk_value::Text;
+use mk_value::{Name, Text};
 use sample::{MAX_SAMPLE_LINE, Sample};
 use session::{Session, Viewers, start};
 use std::alloc::Global;
@@ -141,10 +142,20 @@ fn answer_sample<H: Host, V: Viewer>(
     ensures say_faults { (H.outside host.new).say_faults ≡ (H.outside host.old).say_faults }
     ensures source { (H.outside host.new).source ≡ (H.outside host.old).source }
 {
-    let mut sample = Sample::new(asked.number, asked.edits);
+    let mut lines = Sample::new(asked.number, asked.edits);
     let context = Viewers { list: viewers };
-    if answer_all(session, host, &context, &mut sample, line, out).is_err() {
+    if answer_all(session, host, &context, &mut lines, line, out).is_err() {
         return;
     }
-    write_sample(asked.edits, sample.size(), session.number(), out);
+    write_sample(asked.edits, rows_of_sample(session), session.number(), out);
+}
+
+/// How many rows the view of a sample has.
+fn rows_of_sample(session: &Session) -> u64
+    ensures { result ≡ view_size session.now sample_view }
+{
+    match Name::of("item") {
+        Ok(view) => session.view_size(&view),
+        Err(_) => 0,
+    }
 }

@@ -1,7 +1,6 @@
-use Rattle.std.proofs.Common.{◌≤◌, length, refl, sym, ap, ◌∙◌, subst, arith}
+use Rattle.std.proofs.Common.{◌≤◌, ℕ, List, length, refl, ◌∙◌, subst, arith}
 use Rattle.std.proofs.lemmas.Result.{err_from_is_err_and}
 use Rattle.lines.specs.Lines.{max_line}
-use Rattle.sample.specs.Lines.{Left}
 use Rattle.shell.proofs.InSilence.{Reaches, reaches_more, reaches_none, refuses_one}
 use Rattle.shell.proofs.Saying.{silence_joins}
 use Rattle.shell.proofs.answering.answer_all.Goals as goal
@@ -11,8 +10,7 @@ lines-init g c = record {
   line = c.requires.line;
   clear = c.requires.out;
   ready = c.requires.ready;
-  so_far = λ tells. reaches_none (g.S.Session.machine c.args.context.now) c.args.session.now (g.H.Disk.outside c.args.host.now) c.args.sample.now.lines;
-  size = refl;
+  so_far = λ tells. reaches_none (g.S.Session.machine c.args.context.now) c.args.session.now (g.H.Disk.outside c.args.host.now) c.args.sample.now;
   say_faults = refl;
   source = refl;
 }
@@ -30,11 +28,10 @@ lines-preserved g c =
       clear = record { empty = c.clear-in-lines.ensures.empty; spare = omega (arith, c.clear-in-lines.ensures.spare, c.answer_one.ensures.room) };
       ready = c.answer_one.ensures.ready;
       so_far = λ tells.
-          reaches_more machine c.args.session.now begin c.lines.session c.answer_one.new.session old (g.H.Disk.outside c.answer_one.new.host) c.args.sample.now.lines
-          c.next_line.new.self.lines line c.answer_one.new.out.bytes few (c.answer_one.ensures.answers tells)
-          (subst (λ (left : Left). Reaches machine c.args.session.now begin c.lines.session old c.args.sample.now.lines left.lines) step (c.lines.invariant.so_far tells))
+          reaches_more machine c.args.session.now begin c.lines.session c.answer_one.new.session old (g.H.Disk.outside c.answer_one.new.host) c.args.sample.now
+          c.next_line.new.self line c.answer_one.new.out.bytes few (c.answer_one.ensures.answers tells)
+          (subst (λ (left : List (List ℕ)). Reaches machine c.args.session.now begin c.lines.session old c.args.sample.now left) step (c.lines.invariant.so_far tells))
           (c.requires.goes_on.goes_on line (c.next_line.ensures.begins c.lines-test.true)) c.in_ok-answer_one.ensures.refused;
-      size = sym (ap (λ (left : Left). left.size) step) ∙ c.lines.invariant.size;
       say_faults = c.answer_one.ensures.say_faults ∙ c.lines.invariant.say_faults;
       source = c.answer_one.ensures.source ∙ c.lines.invariant.source;
     }
@@ -52,9 +49,9 @@ returns-in_err-answer_one-clause-comes g c =
     let so = c.lines.invariant.so_far tells in
     let answers = c.answer_one.ensures.answers tells in
     record {
-      comes = refuses_one machine c.args.session.now begin c.lines.session c.answer_one.new.session old (g.H.Disk.outside c.answer_one.new.host) c.args.sample.now.lines
-          c.next_line.new.self.lines line c.answer_one.new.out.bytes few answers
-          (subst (λ (left : Left). Reaches machine c.args.session.now begin c.lines.session old c.args.sample.now.lines left.lines) step so)
+      comes = refuses_one machine c.args.session.now begin c.lines.session c.answer_one.new.session old (g.H.Disk.outside c.answer_one.new.host) c.args.sample.now
+          c.next_line.new.self line c.answer_one.new.out.bytes few answers
+          (subst (λ (left : List (List ℕ)). Reaches machine c.args.session.now begin c.lines.session old c.args.sample.now left) step so)
           c.in_err-answer_one.ensures.refused;
       silence = silence_joins begin old (g.H.Disk.outside c.answer_one.new.host) so.silence answers.silence;
     })

@@ -12,11 +12,10 @@ invariant-lines g l = record {
   clear : IsClear l.out;
   ready : g.H.Disk.tells → IsReady (g.S.Session.machine l.context) (state_of l.session (g.H.Disk.outside l.host));
   so_far : g.H.Disk.tells
-      → Reaches (g.S.Session.machine l.context) l.initial.session (g.H.Disk.outside l.initial.host) l.session (g.H.Disk.outside l.host) l.initial.sample.lines l.sample.lines;
-  size : l.sample.size ≡ l.initial.sample.size;
+      → Reaches (g.S.Session.machine l.context) l.initial.session (g.H.Disk.outside l.initial.host) l.session (g.H.Disk.outside l.host) l.initial.sample l.sample;
   say_faults : (g.H.Disk.outside l.host).say_faults ≡ (g.H.Disk.outside l.initial.host).say_faults;
   source : (g.H.Disk.outside l.host).source ≡ (g.H.Disk.outside l.initial.host).source;
 }
 
 abbrev pub decreases-lines : goal.decreases-lines
-decreases-lines g l = length l.sample.lines
+decreases-lines g l = length l.sample

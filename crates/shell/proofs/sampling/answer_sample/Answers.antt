@@ -1,8 +1,10 @@
 use Rattle.std.proofs.Common.{ℕ, List, ◌++◌, ◌∙◌, map, ap, sym, inl, inr}
 use Rattle.lines.specs.Served.{state_of}
-use Rattle.sample.specs.Lines.{sample_lines, sample_size}
+use Rattle.sample.specs.Lines.{sample_lines}
 use Rattle.session.proofs.Machines.{ready, steady}
 use Rattle.session.specs.Step.{machine}
+use Rattle.session.specs.World.{view_size}
+use Rattle.shell.specs.Ran.{sample_view}
 use Rattle.shell.specs.Said.{sample_line}
 use Rattle.shell.proofs.Quitting.{goes_on_after_verbs}
 use Rattle.shell.proofs.Outcomes.{accepted_of, of_ok, refused_of}
@@ -21,7 +23,7 @@ returns-then-is_err-clause-outcome g c = λ tells.
     let last = state_of c.answer_all.new.session (g.H.Disk.outside c.answer_all.new.host) in
     let lines = sample_lines c.args.asked.number c.args.asked.edits in
     let answers = c.answer_all.ensures.comes tells in
-    inr (refused_of (machine viewers) old last lines c.answer_all.new.out.bytes c.answer_all.result (sym c.if-is_err.ensures.value) (rw c.new-sample.ensures.lines at answers.comes))
+    inr (refused_of (machine viewers) old last lines c.answer_all.new.out.bytes c.answer_all.result (sym c.if-is_err.ensures.value) (rw c.new-lines.ensures at answers.comes))
 
 pub returns-then-is_err-clause-ready : goal.returns-then-is_err-clause-ready
 returns-then-is_err-clause-ready g c = λ tells. steady (map g.V.Viewer.meaning c.args.viewers.now) (state_of c.answer_all.new.session (g.H.Disk.outside c.answer_all.new.host)) (c.answer_all.ensures.ready tells)
@@ -37,11 +39,10 @@ returns-clause-outcome g c = λ tells.
     let fine = sym c.if-is_err.ensures.value in
     let edits = c.args.asked.edits in
     let clear = of_ok result fine c.answer_all.ensures.clear in
-    let size = c.size.ensures ∙ (of_ok result fine c.answer_all.ensures.size ∙ c.new-sample.ensures.size) in
     inl (
-      accepted_of (machine viewers) old last lines c.answer_all.new.out.bytes result fine (rw c.new-sample.ensures.lines at answers.comes),
-      c.write_sample.ensures.bytes ∙ ap (λ (front : List ℕ). front ++ sample_line edits c.size.result c.number.result) clear.empty
-          ∙ ap (λ (n : ℕ). sample_line edits n c.number.result) size ∙ ap (sample_line edits (sample_size c.args.asked.number edits)) c.number.ensures.value,
+      accepted_of (machine viewers) old last lines c.answer_all.new.out.bytes result fine (rw c.new-lines.ensures at answers.comes),
+      c.write_sample.ensures.bytes ∙ ap (λ (front : List ℕ). front ++ sample_line edits c.rows_of_sample.result c.number.result) clear.empty
+          ∙ ap (λ (n : ℕ). sample_line edits n c.number.result) c.rows_of_sample.ensures ∙ ap (sample_line edits (view_size c.answer_all.new.session sample_view)) c.number.ensures.value,
     )
 
 pub returns-clause-ready : goal.returns-clause-ready
