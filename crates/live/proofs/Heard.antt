@@ -6,10 +6,10 @@ use Rattle.std.proofs.lemmas.List.{get_or_append_left, get_or-map}
 use Rattle.std.proofs.lemmas.List.Sums.{sum_by-cons}
 use Rattle.mk_value.specs.Data.{Datum}
 use Rattle.mk_value.specs.Heading.{Attribute}
-use Rattle.live.specs.Chains.{AreInOrder, AreNow, AreSame, AreTold, raised, seen, source_rows, turn_of}
+use Rattle.live.specs.Chains.{AreInOrder, AreNow, AreSame, AreTold, seen, source_rows, turn_of}
 use Rattle.live.specs.Costs.{after_cost, before_cost, digits}
 use Rattle.live.specs.Edits.{edit_cost, raised_by}
-use Rattle.live.specs.Histories.{AreHeard, AreStepped, HaveHeard, HaveStepped, Heard, IsHeard, IsStepped, Stepped, all_steps, all_told, coming_cost, cost_over, events_in, followed_over, last_rows, last_watches, now_cost, now_kept, now_rows, now_seen, now_turn, now_turns, rows_edited, source_turn, step_cost, step_cost_over, steps_in, told_in, told_over, watches_edited}
+use Rattle.live.specs.Histories.{AreHeard, AreStepped, HaveHeard, HaveStepped, Heard, IsHeard, IsStepped, Stepped, all_steps, all_told, coming_cost, cost_over, events_in, last_rows, last_watches, now_cost, now_kept, now_rows, now_seen, now_turn, now_turns, rows_edited, source_turn, step_cost, step_cost_over, steps_in, told_in, told_over, watches_edited}
 use Rattle.live.specs.Laws.{shown}
 use Rattle.live.specs.States.{WatchState}
 use Rattle.live.specs.Telling.{events_of, told_as, told_by}
@@ -173,17 +173,35 @@ sums_add f g h (x ∷ xs) add =
 abbrev cost_before : List Attribute → List (List Datum) → List WatchState → WatchState → ℕ
 cost_before schema before watches w = if is_sorting w.op then digits (length (now_seen schema before watches w.source)) else 0
 
-abbrev cost_after : List Attribute → List (List Datum) → List WatchState → WatchState → ℕ
-cost_after = coming_cost
-
 both_costs : (schema : List Attribute) (before after : List (List Datum)) (watches : List WatchState) (w : WatchState)
-    → now_cost schema before after watches w ≡ cost_before schema before watches w + cost_after schema after watches w
+    → now_cost schema before after watches w ≡ cost_before schema before watches w + coming_cost schema after watches w
 both_costs schema before after watches w = at (is_sorting w.op)
   where
     at : (sorts : Bool) → (if sorts then digits (length (now_seen schema before watches w.source)) + digits (length (now_seen schema after watches w.source)) else 1)
         ≡ (if sorts then digits (length (now_seen schema before watches w.source)) else 0) + (if sorts then digits (length (now_seen schema after watches w.source)) else 1)
     at true = refl
     at false = refl
+
+-- what it says of the watches as they are: the sums before an event and after it
+module _ (schema : List Attribute) (shape : List WatchState) (sources : AreInOrder shape) (rows : List (List Datum)) (watches : List WatchState) (now : AreNow schema rows watches) (alike : AreAlike shape watches) where
+  before_now : sum_by (before_cost rows watches) watches ≡ sum_by (cost_before schema rows shape) shape
+  before_now = sums_agree (before_cost rows watches) (cost_before schema rows shape) watches shape alike.long (λ k d p.
+      ap (λ o. if is_sorting o then digits (length (seen rows watches (get_or watches k d).source)) else 0) (alike.op k d p)
+      ∙ ap (λ xs. if is_sorting (get_or shape k d).op then digits (length xs) else 0) (source_now schema shape sources rows watches now alike k d p))
+
+  after_now : sum_by (after_cost rows watches) watches ≡ sum_by (coming_cost schema rows shape) shape
+  after_now = sums_agree (after_cost rows watches) (coming_cost schema rows shape) watches shape alike.long (λ k d p.
+      ap (λ o. if is_sorting o then digits (length (seen rows watches (get_or watches k d).source)) else 1) (alike.op k d p)
+      ∙ ap (λ xs. if is_sorting (get_or shape k d).op then digits (length xs) else 1) (source_now schema shape sources rows watches now alike k d p))
+
+costs_now : (schema : List Attribute) (shape : List WatchState) → AreInOrder shape → (before after : List (List Datum)) (old new : List WatchState)
+    → AreNow schema before old → AreAlike shape old → AreNow schema after new → AreAlike shape new
+    → sum_by (before_cost before old) old + sum_by (after_cost after new) new ≡ sum_by (now_cost schema before after shape) shape
+costs_now schema shape sources before after old new old_now old_alike new_now new_alike =
+    let first = before_now schema shape sources before old old_now old_alike in
+    let second = after_now schema shape sources after new new_now new_alike in
+    let all = sums_add (cost_before schema before shape) (coming_cost schema after shape) (now_cost schema before after shape) shape (both_costs schema before after shape) in
+    omega (arith, first, second, all)
 
 -- one event
 module _ (schema : List Attribute) (shape : List WatchState) (sources : AreInOrder shape) (rows : List (List Datum)) (old : List WatchState) (now : AreNow schema rows old) (alike : AreAlike shape old) (h : Heard) (is : IsHeard schema rows old h) where
@@ -210,21 +228,15 @@ module _ (schema : List Attribute) (shape : List WatchState) (sources : AreInOrd
 
   steps_now : h.steps ≤ sum_by (now_cost schema rows h.rows shape) shape
   steps_now =
-      let first = sums_agree (before_cost rows old) (cost_before schema rows shape) old shape alike.long (λ k d p.
-      ap (λ o. if is_sorting o then digits (length (seen rows old (get_or old k d).source)) else 0) (alike.op k d p)
-      ∙ ap (λ xs. if is_sorting (get_or shape k d).op then digits (length xs) else 0) (source_now schema shape sources rows old now alike k d p)) in
-      let second = sums_agree (after_cost h.rows h.watches) (cost_after schema h.rows shape) h.watches shape alike_left.long (λ k d p.
-      ap (λ o. if is_sorting o then digits (length (seen h.rows h.watches (get_or h.watches k d).source)) else 1) (alike_left.op k d p)
-      ∙ ap (λ xs. if is_sorting (get_or shape k d).op then digits (length xs) else 1) (source_now schema shape sources h.rows h.watches is.now alike_left k d p)) in
-      let all = sums_add (cost_before schema rows shape) (cost_after schema h.rows shape) (now_cost schema rows h.rows shape) shape (both_costs schema rows h.rows shape) in
+      let all = costs_now schema shape sources rows h.rows old h.watches now alike is.now alike_left in
       let most = is.cost in
-      omega (arith, first, second, all, most)
+      omega (arith, all, most)
 
 -- the watches after events, of which the first watches are like these
 record GoOn (schema : List Attribute) (shape : List WatchState) (rows : List (List Datum)) (old : List WatchState) (heard : List Heard) : Type 0 where
   alike : AreAlike shape (last_watches old heard)
   now : AreNow schema (last_rows rows heard) (last_watches old heard)
-  followed : (k : ℕ) (d : WatchState) → k < length old → (get_or (last_watches old heard) k d).followed ≡ followed_over heard (get_or old k d).followed
+  followed : (k : ℕ) (d : WatchState) → k < length old → (get_or (last_watches old heard) k d).followed ≡ raised_by (length heard) (get_or old k d).followed
   told : all_told heard ≡ told_over schema rows shape heard
   steps : all_steps heard ≤ cost_over schema rows shape heard
 
@@ -246,7 +258,9 @@ go_on schema shape sources rows old (h ∷ later) now alike all =
       now = rest.now;
       followed = λ k d p.
           rest.followed k d (omega arith)
-          ∙ ap (followed_over later) ((is.follows.each k d (omega arith)).followed ∙ ap raised ((is.same.each k d p).followed));
+          ∙ ap (raised_by (length later)) ((is.follows.each k d (omega arith)).followed ∙ ap (raised_by 1) ((is.same.each k d p).followed))
+          ∙ raised_more 1 (length later) (get_or old k d).followed
+          ∙ ap (λ n. raised_by n (get_or old k d).followed) (let e : 1 + length later ≡ suc (length later) = omega arith in e);
       told = ap (λ ts. ts ++ all_told later) (told_now schema shape sources rows old now alike h is)
           ∙ ap (λ ts. told_in shape (now_turns schema rows h.rows shape (root_turn h.event)) ++ ts) rest.told;
       steps = omega (arith, first, more, sum);
@@ -282,25 +296,11 @@ module _ (schema : List Attribute) (shape : List WatchState) (sources : AreInOrd
         op = λ k d p. (is.followed.each k d (omega arith)).op ∙ alike.op k d p;
       }
 
-  before_now : sum_by (before_cost rows old) old ≡ sum_by (cost_before schema rows shape) shape
-  before_now = sums_agree (before_cost rows old) (cost_before schema rows shape) old shape alike.long (λ k d p.
-      ap (λ o. if is_sorting o then digits (length (seen rows old (get_or old k d).source)) else 0) (alike.op k d p)
-      ∙ ap (λ xs. if is_sorting (get_or shape k d).op then digits (length xs) else 0) (source_now schema shape sources rows old now alike k d p))
-
-  after_now : sum_by (after_cost s.rows s.watches) s.watches ≡ sum_by (coming_cost schema s.rows shape) shape
-  after_now = sums_agree (after_cost s.rows s.watches) (coming_cost schema s.rows shape) s.watches shape alike_step.long (λ k d p.
-      ap (λ o. if is_sorting o then digits (length (seen s.rows s.watches (get_or s.watches k d).source)) else 1) (alike_step.op k d p)
-      ∙ ap (λ xs. if is_sorting (get_or shape k d).op then digits (length xs) else 1) (source_now schema shape sources s.rows s.watches is.now alike_step k d p))
-
   cost_step : (edit : RowEdit) → edit_cost edit rows s.rows old s.watches ≡ step_cost schema edit rows s.rows shape
   cost_step (Insert at zero) = refl
-  cost_step (Insert at (suc more)) = after_now
+  cost_step (Insert at (suc more)) = after_now schema shape sources s.rows s.watches is.now alike_step
   cost_step (Remove at count) = refl
-  cost_step (Change at) =
-      let all = sums_add (cost_before schema rows shape) (coming_cost schema s.rows shape) (now_cost schema rows s.rows shape) shape (both_costs schema rows s.rows shape) in
-      let first = before_now in
-      let second = after_now in
-      omega (arith, all, first, second)
+  cost_step (Change at) = costs_now schema shape sources rows s.rows old s.watches now alike is.now alike_step
 
 -- the watches after edits, of which the first watches are like these
 record StepOn (schema : List Attribute) (shape : List WatchState) (rows : List (List Datum)) (old : List WatchState) (edits : List Stepped) : Type 0 where

@@ -3,7 +3,7 @@ use Rattle.std.specs.Prelude.{◌≡◌, ◌<◌, ◌≤◌, ◌+◌, ℕ, zero,
 use Rattle.std.specs.List.{sum_by}
 use Rattle.mk_value.specs.Data.{Datum}
 use Rattle.mk_value.specs.Heading.{Attribute}
-use Rattle.live.specs.Chains.{AreNow, AreSame, AreTold, along, raised, source_rows}
+use Rattle.live.specs.Chains.{AreNow, AreSame, AreTold, along, source_rows}
 use Rattle.live.specs.Costs.{after_cost, before_cost, digits}
 use Rattle.live.specs.Edits.{HaveFollowed, edit_cost, raised_by}
 use Rattle.live.specs.Laws.{shown}
@@ -106,23 +106,18 @@ abbrev pub cost_over : List Attribute → List (List Datum) → List WatchState 
 cost_over schema rows watches [] = 0
 cost_over schema rows watches (h ∷ later) = sum_by (now_cost schema rows h.rows watches) watches + cost_over schema h.rows watches later
 
--- the count of events of a watch after these
-abbrev pub followed_over : List Heard → ℕ → ℕ
-followed_over [] followed = followed
-followed_over (h ∷ later) followed = followed_over later (raised followed)
-
--- a watch after events: it is the watch that it was, keeps the positions that are due now, and has followed each of the events
-pub record HasHeard (schema : List Attribute) (rows : List (List Datum)) (heard : List Heard) (watches : List WatchState) (old new : WatchState) : Type 0 where
+-- a watch after so many events: it is the watch that it was, keeps the positions that are due now, and has followed each of the events
+pub record HasHeard (schema : List Attribute) (rows : List (List Datum)) (events : ℕ) (watches : List WatchState) (old new : WatchState) : Type 0 where
   pub number : new.number ≡ old.number
   pub source : new.source ≡ old.source
   pub op : new.op ≡ old.op
   pub kept : new.kept ≡ now_kept schema rows watches old
-  pub followed : new.followed ≡ followed_over heard old.followed
+  pub followed : new.followed ≡ raised_by events old.followed
 
 -- Over a list of events, the watches keep, tell and count what is due.
 pub record HaveHeard (schema : List Attribute) (rows : List (List Datum)) (old : List WatchState) (heard : List Heard) : Type 0 where
   pub long : length (last_watches old heard) ≡ length old
-  pub each : (k : ℕ) (d : WatchState) → k < length old → HasHeard schema (last_rows rows heard) heard old (slice_index_or old k d) (slice_index_or (last_watches old heard) k d)
+  pub each : (k : ℕ) (d : WatchState) → k < length old → HasHeard schema (last_rows rows heard) (length heard) old (slice_index_or old k d) (slice_index_or (last_watches old heard) k d)
   pub now : AreNow schema (last_rows rows heard) (last_watches old heard)
   pub told : all_told heard ≡ told_over schema rows old heard
   pub steps : all_steps heard ≤ cost_over schema rows old heard
@@ -179,17 +174,9 @@ events_in edits = sum_by (λ s. count_of s.edit) edits
 abbrev pub steps_in : List Stepped → ℕ
 steps_in edits = sum_by (λ s. s.steps) edits
 
--- a watch after edits: it is the watch that it was, keeps the positions that are due now, and has followed each of their events
-pub record HasStepped (schema : List Attribute) (rows : List (List Datum)) (events : ℕ) (watches : List WatchState) (old new : WatchState) : Type 0 where
-  pub number : new.number ≡ old.number
-  pub source : new.source ≡ old.source
-  pub op : new.op ≡ old.op
-  pub kept : new.kept ≡ now_kept schema rows watches old
-  pub followed : new.followed ≡ raised_by events old.followed
-
 -- Over a list of edits, the watches keep and count what is due.
 pub record HaveStepped (schema : List Attribute) (rows : List (List Datum)) (old : List WatchState) (edits : List Stepped) : Type 0 where
   pub long : length (watches_edited old edits) ≡ length old
-  pub each : (k : ℕ) (d : WatchState) → k < length old → HasStepped schema (rows_edited rows edits) (events_in edits) old (slice_index_or old k d) (slice_index_or (watches_edited old edits) k d)
+  pub each : (k : ℕ) (d : WatchState) → k < length old → HasHeard schema (rows_edited rows edits) (events_in edits) old (slice_index_or old k d) (slice_index_or (watches_edited old edits) k d)
   pub now : AreNow schema (rows_edited rows edits) (watches_edited old edits)
   pub steps : steps_in edits ≤ step_cost_over schema rows old edits

@@ -5,8 +5,9 @@ use Rattle.live.specs.declared.turn.Turn.{Turn}
 use Rattle.live.specs.declared.op.WatchOp.{WatchOp}
 
 -- a watch: its number; the place of its source among the watches, or none where that is the root; what it shows; the positions that
--- it keeps, in the rows of its source; how many positions more it takes without memory; where the row that is to go stands in it, as
--- it noted before the last event; what the last event did to it; and how many events it has followed
+-- it keeps, in the rows of its source; how many positions more it takes without memory; where the row stood in it that was to go by the
+-- event that was noted last; its turn, which is what `after` last did to it, or `follow` where rows came or one changed, while rows that
+-- `follow` takes out leave it as it was; and how many events it has followed
 pub record WatchState : Type 0 where
   pub number : ℕ
   pub source : Option ℕ
