@@ -1,8 +1,8 @@
 -- Watches that follow rows that came side by side, one after another, each after its source.
-use Rattle.std.proofs.Common.{◌≡◌, ◌≢◌, ℕ, ◌+◌, ◌<◌, ◌≤◌, List, length, get_or, set, take, Option, Some, None, refl, ap, sym, subst, arith, inl, inr}
+use Rattle.std.proofs.Common.{◌≡◌, ◌≢◌, ℕ, ◌+◌, ◌<◌, ◌≤◌, false, List, length, get_or, set, take, Option, Some, None, refl, ap, sym, subst, ◌∙◌, arith, inl, inr}
 use Rattle.std.specs.Option.{ForSome}
 use Rattle.std.proofs.lemmas.Bool.{cases_lt}
-use Rattle.std.proofs.lemmas.List.{get_or-map}
+use Rattle.std.proofs.lemmas.List.{get_or-map, take-set}
 use Rattle.mk_value.specs.Data.{Datum}
 use Rattle.mk_value.specs.Heading.{Attribute}
 use Rattle.mk_value.specs.Limits.{max_rows}
@@ -10,9 +10,10 @@ use Rattle.relations.specs.Rows.{rows_at}
 use Rattle.live.specs.Chains.{seen}
 use Rattle.live.specs.Edits.{AreSpreadDue, HasTaken, HaveRoomFor, HaveTaken, IsSpread, IsSpreadDue, came_to}
 use Rattle.live.specs.States.{WatchState}
-use Rattle.live.specs.Watching.{IsAsked, comes_to, positions}
+use Rattle.live.specs.Turns.{answer_of}
+use Rattle.live.specs.Watching.{IsAsked, comes_to, placed, positions, told}
 use Rattle.live.specs.declared.turn.Turn.TheVariants.{Comes, Still}
-use Rattle.live.proofs.Following.{turn_prefix}
+use Rattle.live.proofs.Following.{turn_alike, turn_prefix}
 use Rattle.live.proofs.Onward.{AreOnward, here, new_rows, onward_more, onward_none, other, seen_all, source_within}
 use Rattle.live.proofs.Seeing.{seen_at, seen_prefix}
 
@@ -21,12 +22,16 @@ pub record HaveCome (schema : List Attribute) (rows : List (List Datum)) (at cou
   pub onward : AreOnward schema rows old ls i
   pub taken : (k : ℕ) (d : WatchState) → k < i → HasTaken count count (get_or old k d) (get_or ls k d)
   pub made : (k : ℕ) (d : WatchState) → k < i → IsSpread (comes_to (get_or ls k d).turn) count row (seen before old (Some k)) (seen rows ls (Some k))
+  pub told : (k : ℕ) (d : WatchState) → k < i → (get_or ls k d).turn ≡ told false None (placed (get_or ls k d).kept (came_to at ls (get_or old k d).source))
+  pub answer : (k : ℕ) (d : WatchState) → k < i → (get_or ls k d).answer ≡ answer_of count (get_or ls k d).turn
 
 pub come_none : (schema : List Attribute) (rows : List (List Datum)) (at count : ℕ) (row : List Datum) (before : List (List Datum)) (old : List WatchState) → HaveCome schema rows at count row before old old 0
 come_none schema rows at count row before old = record {
   onward = onward_none schema rows old;
   taken = λ k d p. absurd (omega arith);
   made = λ k d p. absurd (omega arith);
+  told = λ k d p. absurd (omega arith);
+  answer = λ k d p. absurd (omega arith);
 }
 
 came_prefix : (at : ℕ) (ls : List WatchState) (n : ℕ) (over : Option ℕ) → ForSome over (λ s. s < n) → came_to at (take n ls) over ≡ came_to at ls over
@@ -48,7 +53,9 @@ module _ (schema : List Attribute) (rows : List (List Datum)) (at count : ℕ) (
   module _ (p : i < length old) (new : WatchState)
       (f_taken : (d : WatchState) → HasTaken count count (get_or old i d) new)
       (f_now : (d : WatchState) → new.kept ≡ positions schema (get_or old i d).op (seen rows (take i ls) (get_or old i d).source))
-      (f_made : (d : WatchState) → IsSpread (comes_to new.turn) count due.row (rows_at (seen due.before old (get_or old i d).source) (get_or old i d).kept) (rows_at (seen rows (take i ls) (get_or old i d).source) new.kept)) where
+      (f_made : (d : WatchState) → IsSpread (comes_to new.turn) count due.row (rows_at (seen due.before old (get_or old i d).source) (get_or old i d).kept) (rows_at (seen rows (take i ls) (get_or old i d).source) new.kept))
+      (f_told : (d : WatchState) → new.turn ≡ told false None (placed new.kept (came_to at (take i ls) (get_or old i d).source)))
+      (f_answer : new.answer ≡ answer_of count new.turn) where
     abbrev all : List WatchState
     all = set ls i new
 
@@ -63,6 +70,12 @@ module _ (schema : List Attribute) (rows : List (List Datum)) (at count : ℕ) (
 
     is_other : (k : ℕ) (d : WatchState) → k ≢ i → get_or all k d ≡ get_or ls k d
     is_other k d ne = other schema rows old few due.now.sources ls i h.onward p new f_source f_op f_now k d ne
+
+    below_here : (d : WatchState) → ForSome (get_or old i d).source (λ s. s < i)
+    below_here d = source_within schema rows old few due.now.sources ls i h.onward i d p (omega arith)
+
+    came_all : (over : Option ℕ) → ForSome over (λ s. s < i) → came_to at all over ≡ came_to at ls over
+    came_all over below = ap comes_to (turn_alike (Comes at) all ls i over (take-set ls i new) below)
 
     made_here : (d : WatchState) → IsSpread (comes_to new.turn) count due.row (seen due.before old (Some i)) (seen rows all (Some i))
     made_here d =
@@ -86,6 +99,27 @@ module _ (schema : List Attribute) (rows : List (List Datum)) (at count : ℕ) (
             let e : i ≡ k = omega arith in
             subst (λ j. IsSpread (comes_to (get_or all j d).turn) count due.row (seen due.before old (Some j)) (seen rows all (Some j))) e
             (subst (λ (l : WatchState). IsSpread (comes_to l.turn) count due.row (seen due.before old (Some i)) (seen rows all (Some i))) (sym (is_here d)) (made_here d))
+      ];
+      told = λ k d q. elim (cases_lt k i) [
+        | inl lt ↦
+            let src = (get_or old k d).source in
+            let same = is_other k d (omega arith) in
+            ap (λ (l : WatchState). l.turn) same ∙ h.told k d lt
+            ∙ ap (λ (l : WatchState). told false None (placed l.kept (came_to at ls src))) (sym same)
+            ∙ ap (λ o. told false None (placed (get_or all k d).kept o)) (sym (came_all src (source_within schema rows old few due.now.sources ls i h.onward k d (omega arith) (omega arith))))
+        | inr ge ↦
+            let e : i ≡ k = omega arith in
+            subst (λ j. (get_or all j d).turn ≡ told false None (placed (get_or all j d).kept (came_to at all (get_or old j d).source))) e
+            (ap (λ (l : WatchState). l.turn) (is_here d) ∙ f_told d
+            ∙ ap (λ (l : WatchState). told false None (placed l.kept (came_to at (take i ls) (get_or old i d).source))) (sym (is_here d))
+            ∙ ap (λ o. told false None (placed (get_or all i d).kept o)) (came_prefix at ls i (get_or old i d).source (below_here d) ∙ sym (came_all (get_or old i d).source (below_here d))))
+      ];
+      answer = λ k d q. elim (cases_lt k i) [
+        | inl lt ↦ let same = is_other k d (omega arith) in ap (λ (l : WatchState). l.answer) same ∙ h.answer k d lt ∙ ap (λ (l : WatchState). answer_of count l.turn) (sym same)
+        | inr ge ↦
+            let e : i ≡ k = omega arith in
+            subst (λ j. (get_or all j d).answer ≡ answer_of count (get_or all j d).turn) e
+            (ap (λ (l : WatchState). l.answer) (is_here d) ∙ f_answer ∙ ap (λ (l : WatchState). answer_of count l.turn) (sym (is_here d)))
       ];
     }
 

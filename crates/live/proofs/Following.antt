@@ -22,7 +22,7 @@ turn_prefix root ls n None below = refl
 turn_prefix root ls n (Some s) below =
     ap (λ xs. get_or xs s Still) (sym (take-map (λ (l : WatchState). l.turn) n ls)) ∙ get_or-take n (map (λ (l : WatchState). l.turn) ls) s Still (below s refl)
 
-turn_alike : (root : Turn) (xs ys : List WatchState) (n : ℕ) (over : Option ℕ) → take n xs ≡ take n ys → ForSome over (λ s. s < n) → turn_of root xs over ≡ turn_of root ys over
+pub turn_alike : (root : Turn) (xs ys : List WatchState) (n : ℕ) (over : Option ℕ) → take n xs ≡ take n ys → ForSome over (λ s. s < n) → turn_of root xs over ≡ turn_of root ys over
 turn_alike root xs ys n over e below = sym (turn_prefix root xs n over below) ∙ ap (λ ls. turn_of root ls over) e ∙ turn_prefix root ys n over below
 
 -- the first i of the watches have followed, and the others are as they were

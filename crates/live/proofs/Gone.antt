@@ -4,6 +4,7 @@ use Rattle.std.specs.List.{All}
 use Rattle.std.specs.Option.{ForSome}
 use Rattle.std.proofs.lemmas.Bool.{cases_eq}
 use Rattle.std.proofs.lemmas.List.{get_or-set_other, get_or-set_same, get_or-take, get_or_default, length-map, length-set, length-take-le, take-set, take-take}
+use Rattle.std.proofs.lemmas.List.Elements.{filter_agree}
 use Rattle.mk_value.specs.Data.{Datum}
 use Rattle.mk_value.specs.Heading.{Attribute}
 use Rattle.mk_value.specs.Limits.{max_rows}
@@ -11,7 +12,8 @@ use Rattle.relations.specs.Rows.{rows_at}
 use Rattle.relations.proofs.Ascending.{place_of}
 use Rattle.live.specs.Chains.{AreInside, AreNow, along, place_in_root, seen, watch_places}
 use Rattle.live.specs.Edits.{AreFew, AreLeft, HasTaken}
-use Rattle.live.specs.Leaving.{goes_at, is_inside, kept_left, rows_left}
+use Rattle.relations.specs.Positions.{numbers}
+use Rattle.live.specs.Leaving.{goes_at, is_inside, kept_left, places_among, rows_left, went}
 use Rattle.live.specs.States.{WatchState}
 use Rattle.live.specs.Watching.{IsAsked, positions}
 use Rattle.live.proofs.Along.{prefix_along}
@@ -32,6 +34,7 @@ pub record HaveLeft (at count : ℕ) (old ls : List WatchState) (n : ℕ) : Type
   pub rest : take n ls ≡ take n old
   pub taken : (k : ℕ) (d : WatchState) → n ≤ k → k < length old → HasTaken count 0 (get_or old k d) (get_or ls k d)
   pub kept : (k : ℕ) (d : WatchState) → n ≤ k → k < length old → (get_or ls k d).kept ≡ kept_left (goes_at at count old (get_or old k d).source) (get_or old k d).kept
+  pub answer : (k : ℕ) (d : WatchState) → n ≤ k → k < length old → (get_or ls k d).answer ≡ went at count (places_among at count old (get_or old k d))
 
 -- the first watches alone
 module _ (old : List WatchState) (i : ℕ) (le : i ≤ length old) where
@@ -91,8 +94,8 @@ module _ (at count : ℕ) (old ls : List WatchState) (n : ℕ) (h : HaveLeft at 
     goes_same : (j : ℕ) → goes_at at count below link.source j ≡ goes_at at count old link.source j
     goes_same j = ap (is_inside at count) (ap (λ ws. place_in_root ws link.source j) below_is ∙ places_prefix old (n - 1) link.source j next_source)
 
-    pub next_left : (new : WatchState) → HasTaken count 0 link new → new.kept ≡ kept_left (goes_at at count below link.source) link.kept → HaveLeft at count old (set ls (n - 1) new) (n - 1)
-    next_left new taken kept = record {
+    pub next_left : (new : WatchState) → HasTaken count 0 link new → new.kept ≡ kept_left (goes_at at count below link.source) link.kept → new.answer ≡ went at count (places_among at count below link) → HaveLeft at count old (set ls (n - 1) new) (n - 1)
+    next_left new taken kept answer = record {
       long = length-set ls (n - 1) new ∙ h.long;
       within = le;
       rest = take-set ls (n - 1) new ∙ sym is_below ∙ below_is;
@@ -108,6 +111,14 @@ module _ (at count : ℕ) (old ls : List WatchState) (n : ℕ) (h : HaveLeft at 
             (ap (λ (w : WatchState). w.kept) (get_or-set_same ls (n - 1) new e there) ∙ kept ∙ kept_alike (goes_at at count below link.source) (goes_at at count old link.source) goes_same link.kept
             ∙ ap (λ (w : WatchState). kept_left (goes_at at count old w.source) w.kept) (any e))
         | inr ne ↦ ap (λ (w : WatchState). w.kept) (get_or-set_other ls (n - 1) k new e ne) ∙ h.kept k e (omega arith) q
+      ];
+      answer = λ k e p q. elim (cases_eq k (n - 1)) [
+        | inl same ↦
+            subst (λ j. (get_or (set ls (n - 1) new) j e).answer ≡ went at count (places_among at count old (get_or old j e))) (sym same)
+            (ap (λ (w : WatchState). w.answer) (get_or-set_same ls (n - 1) new e there) ∙ answer
+            ∙ ap (went at count) (filter_agree (λ i. goes_at at count below link.source (get_or link.kept i 0)) (λ i. goes_at at count old link.source (get_or link.kept i 0)) (λ i. goes_same (get_or link.kept i 0)) (numbers (length link.kept)))
+            ∙ ap (λ (w : WatchState). went at count (places_among at count old w)) (any e))
+        | inr ne ↦ ap (λ (w : WatchState). w.answer) (get_or-set_other ls (n - 1) k new e ne) ∙ h.answer k e (omega arith) q
       ];
     }
       where

@@ -20,6 +20,7 @@ pub mod Parts
 pub mod Picks
 pub mod Placing
 pub mod Ranking
+pub mod Removing
 pub mod Rising
 pub mod Room
 pub mod Searching

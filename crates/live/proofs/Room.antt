@@ -4,12 +4,17 @@ use Rattle.std.proofs.Math.Seq.{map-set_same}
 use Rattle.std.proofs.lemmas.Bool.{cases_eq}
 use Rattle.std.proofs.lemmas.List.{get_or-map, get_or-set_other, get_or-set_same, get_or_default}
 use Rattle.std.proofs.Math.Nat.{le-min, le_trans, min-le_left, min-le_right}
+use Rattle.live.specs.Answers.{noted_for, room_followed}
+use Rattle.live.specs.Edits.{room_of}
 use Rattle.live.specs.Chains.{AreInside, AreNoted, AreSame, HaveRoom, IsSame, going_of}
 use Rattle.live.specs.Keeping.{AreKept}
 use Rattle.live.specs.Putting.{least_room, no_bound, set_aside}
 use Rattle.live.specs.States.{WatchState}
 use Rattle.live.specs.Watching.{goes_from, placed, root_turn}
+use Rattle.row_edits.specs.declared.edit.RowEdit.{RowEdit}
+use Rattle.row_edits.specs.declared.edit.RowEdit.TheVariants.{Insert, Remove, Change}
 use Rattle.row_edits.specs.declared.event.Event.{Event}
+use Rattle.row_edits.specs.declared.event.Event.TheVariants as event
 use Rattle.live.proofs.Standing.{same_each, same_set}
 
 min_first : (a b n : ℕ) → n ≤ min a b → n ≤ a
@@ -182,3 +187,10 @@ taken_room o n old new long h =
     omega arith) in
     let c = aside_le o (least_room old) in
     omega arith
+
+-- what an edit takes beside what was set aside for it when it was noted
+pub edit_room : (e : RowEdit) (o : Option Event) (old new : List WatchState) → o ≡ noted_for e → length new ≡ length old
+    → ((k : ℕ) (d : WatchState) → k < length old → (get_or old k d).room ≤ (get_or new k d).room + room_of e) → set_aside o (least_room old) ≤ least_room new + room_followed e
+edit_room (Insert at count) o old new is long h = taken_room o count old new long h
+edit_room (Remove at count) o old new is long h = taken_room o 0 old new long h
+edit_room (Change at) o old new is long h = let a = followed_room (event.Change at) o old new is long h in omega arith

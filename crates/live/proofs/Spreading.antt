@@ -1,6 +1,6 @@
 -- Copies of a row that come side by side: what is kept before them and after them.
-use Rattle.std.proofs.Common.{◌≡◌, ◌≢◌, ◌⊎◌, ℕ, zero, suc, ◌+◌, ◌-◌, ◌<◌, ◌≤◌, ◌^◌, Bool, true, false, List, [], ◌∷◌, ◌++◌, length, get_or, map, take, drop, replicate, Option, Some, None, refl, ap, sym, subst, ◌∙◌, arith, inl, inr}
-use Rattle.std.specs.List.{All, AllPairs}
+use Rattle.std.proofs.Common.{◌≡◌, ◌≢◌, ◌⊎◌, ◌==◌, ℕ, zero, suc, ◌+◌, ◌-◌, ◌<◌, ◌≤◌, ◌^◌, Bool, true, false, List, [], ◌∷◌, ◌++◌, length, get_or, map, take, drop, replicate, Option, Some, None, refl, ap, sym, subst, ◌∙◌, arith, inl, inr}
+use Rattle.std.specs.List.{All, AllPairs, position}
 use Rattle.std.specs.declared.cmp.Ordering.{Ordering}
 use Rattle.std.specs.declared.cmp.Ordering.TheVariants.{Less, Equal, Greater}
 use Rattle.std.specs.Ordering.{nat_cmp, ordering_then, ordering_reverse}
@@ -20,7 +20,7 @@ use Rattle.live.specs.declared.op.WatchOp.{WatchOp}
 use Rattle.live.proofs.Members.{in_append, in_left, in_right}
 use Rattle.live.proofs.Ops.{op_total, positions_few}
 use Rattle.live.proofs.Picks.{ArePicked, ascends_across, ascends_joined, ascends_left, ascends_map, ascends_right, in_map, map_in, picked_same}
-use Rattle.live.proofs.Placing.{front_less, in_back, other_way, pairs_from_ascends, picked_positions}
+use Rattle.live.proofs.Placing.{front_less, in_back, other_way, pairs_from_ascends, picked_positions, position_absent, position_middle}
 use Rattle.live.proofs.Turning.{positions_in}
 
 -- places moved up
@@ -47,6 +47,10 @@ up_around at n k = elim (cases_lt k at) [
 came_up : (at n size i : ℕ) → at ≤ size → i < size + n → IsAround at n i → (k : ℕ) × (k < size) × (moved_up at n k ≡ i)
 came_up at n size i le p (inl q) = (i, omega arith, up_below at n i q)
 came_up at n size i le p (inr q) = (i - n, omega arith, up_above at n (i - n) (omega arith) ∙ (let e : i - n + n ≡ i = omega arith in e))
+
+-- an element of the first part
+take_in : (p : ℕ) (xs : List ℕ) (z : ℕ) → IsIn z (take p xs) → IsIn z xs
+take_in p xs z h = subst (IsIn z) (take-append-drop p xs) (in_left (take p xs) (drop p xs) z h)
 
 -- the numbers of a run
 run_in : (first n i : ℕ) → IsIn i (run first n) → (first ≤ i) × (i < first + n)
@@ -269,6 +273,19 @@ module _ (schema : List Attribute) (op : WatchOp) (rows before : List (List Datu
         let a = ap length others ∙ length-map (positions schema op before) (moved_up at n) in
         let b = positions_few schema op before in
         omega arith
+
+    not_there : IsIn at kept → ⊥
+    not_there h = elim ((around.inside at h).2) [ inl q ↦ absurd (omega arith) | inr q ↦ absurd (omega arith) ]
+
+    pub left_out_place : position (λ k. k == at) kept ≡ None
+    left_out_place = position_absent at kept not_there
+
+    pub put_place : (p : ℕ) → p ≤ length kept → position (λ k. k == at) (take p kept ++ (run at n ++ drop p kept)) ≡ Some p
+    put_place p within = of_run n some ∙ ap Some (length-take-le p kept within)
+      where
+        of_run : (m : ℕ) → 0 < m → position (λ k. k == at) (take p kept ++ (run at m ++ drop p kept)) ≡ Some (length (take p kept))
+        of_run zero more = absurd (omega arith)
+        of_run (suc m) more = position_middle at (take p kept) (run (at + 1) m ++ drop p kept) (λ h. not_there (take_in p kept at h))
 
     pub left_out : passes schema op (get_or rows at []) ≡ false → kept ≡ positions schema op rows
     left_out fails =

@@ -105,11 +105,12 @@ same_after o v w a b = record {
   op = b.op ∙ a.op;
   kept = b.kept ∙ a.kept;
   turn = b.turn ∙ a.turn;
+  answer = b.answer ∙ a.answer;
   followed = b.followed ∙ a.followed;
 }
 
 pub same_each : (old : List WatchState) → AreSame old old
-same_each old = record { long = refl; each = λ k d p. record { number = refl; source = refl; op = refl; kept = refl; turn = refl; followed = refl } }
+same_each old = record { long = refl; each = λ k d p. record { number = refl; source = refl; op = refl; kept = refl; turn = refl; answer = refl; followed = refl } }
 
 pub same_set : (old ls : List WatchState) → AreSame old ls → (i : ℕ) → i < length old → (new : WatchState) → ((d : WatchState) → IsSame (get_or ls i d) new) → AreSame old (set ls i new)
 same_set old ls h i p new same = record {

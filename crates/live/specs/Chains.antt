@@ -5,6 +5,7 @@ use Rattle.mk_value.specs.Data.{Datum}
 use Rattle.mk_value.specs.Limits.{max_rows}
 use Rattle.relations.specs.Rows.{rows_at}
 use Rattle.live.specs.States.{WatchState}
+use Rattle.live.specs.Turns.{answer_of}
 use Rattle.live.specs.Watching.{IsAsked, IsTurn, own, placed, positions}
 use Rattle.live.specs.declared.turn.Turn.{Turn}
 use Rattle.live.specs.declared.turn.Turn.TheVariants.{Still}
@@ -109,13 +110,15 @@ pub record AreDue (schema : List Attribute) (watches : List WatchState) (root : 
 abbrev pub raised : ℕ → ℕ
 raised n = min (n + 1) (2 ^ 64 - 1)
 
--- a watch is what it was but for what it keeps and tells: it took at most one position more, and followed one event more
+-- a watch is what it was but for what it keeps and tells: it took at most one position more, and followed one event more, and its answer is its
+-- turn
 pub record IsRaised (old new : WatchState) : Type 0 where
   pub number : new.number ≡ old.number
   pub source : new.source ≡ old.source
   pub op : new.op ≡ old.op
   pub room : old.room ≤ new.room + 1
   pub followed : new.followed ≡ raised old.followed
+  pub answer : new.answer ≡ answer_of 1 new.turn
 
 -- each watch has followed the event, and tells its own turn: what the turn of its source did to it
 pub record AreTold (root : Turn) (old new : List WatchState) : Type 0 where
@@ -131,6 +134,7 @@ pub record IsSame (old new : WatchState) : Type 0 where
   pub op : new.op ≡ old.op
   pub kept : new.kept ≡ old.kept
   pub turn : new.turn ≡ old.turn
+  pub answer : new.answer ≡ old.answer
   pub followed : new.followed ≡ old.followed
 
 pub record AreSame (old new : List WatchState) : Type 0 where

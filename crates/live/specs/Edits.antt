@@ -8,7 +8,7 @@ use Rattle.row_edits.specs.declared.edit.RowEdit.{RowEdit}
 use Rattle.row_edits.specs.declared.edit.RowEdit.TheVariants.{Insert, Remove, Change}
 use Rattle.live.specs.Chains.{AreNow, raised, turn_of}
 use Rattle.live.specs.Costs.{after_cost, before_cost}
-use Rattle.live.specs.Leaving.{goes_at, kept_left}
+use Rattle.live.specs.Leaving.{goes_at, kept_left, places_among, went}
 use Rattle.row_edits.specs.Runs.{moved_up, spread}
 use Rattle.live.specs.States.{WatchState}
 use Rattle.live.specs.Watching.{comes_to, positions}
@@ -93,8 +93,10 @@ HaveRoomFor count watches = (k : ℕ) (d : WatchState) → k < length watches �
 abbrev pub AreFew : List WatchState → Type 0
 AreFew watches = (k : ℕ) (d : WatchState) → k < length watches → length (slice_index_or watches k d).kept ≤ max_rows
 
--- each watch has left out the rows that went, and gave the others the places that they have now
+-- each watch has left out the rows that went, and gave the others the places that they have now; and has answered by the places at which its
+-- rows stood that went
 pub record AreLeft (at count : ℕ) (old new : List WatchState) : Type 0 where
   pub taken : HaveTaken count 0 old new
   pub kept : (k : ℕ) (d : WatchState) → k < length old
       → (slice_index_or new k d).kept ≡ kept_left (goes_at at count old (slice_index_or old k d).source) (slice_index_or old k d).kept
+  pub answer : (k : ℕ) (d : WatchState) → k < length old → (slice_index_or new k d).answer ≡ went at count (places_among at count old (slice_index_or old k d))

@@ -1,11 +1,13 @@
 -- Rows of which some go, wherever they stand, and the positions of those that stay.
-use Rattle.std.specs.Prelude.{◌==◌, ℕ, Bool, not, if◌then◌else◌, List, length, map, filter, Option}
+use Rattle.std.specs.Prelude.{◌≡◌, ◌<◌, ◌+◌, ◌-◌, ◌==◌, ℕ, Bool, not, if◌then◌else◌, List, length, map, filter, slice_index_or, Option}
 use Rattle.mk_value.specs.Data.{Datum}
-use Rattle.relations.specs.Positions.{numbers}
+use Rattle.relations.specs.Positions.{numbers, passing}
 use Rattle.relations.specs.Rows.{rows_at}
 use Rattle.live.specs.Chains.{place_in_root}
 use Rattle.row_edits.specs.Runs.{is_outside}
 use Rattle.live.specs.States.{WatchState}
+use Rattle.live.specs.declared.answer.Answer.{Answer}
+use Rattle.live.specs.declared.answer.Answer.TheVariants.{Nothing, Remove, RemoveAmong}
 
 -- the places that stay, of so many
 abbrev pub staying : (ℕ → Bool) → ℕ → List ℕ
@@ -30,6 +32,23 @@ is_inside at count k = not (is_outside at count k)
 -- a row of a source goes where it stands in the root among so many from a place on
 abbrev pub goes_at : ℕ → ℕ → List WatchState → Option ℕ → ℕ → Bool
 goes_at at count watches over i = is_inside at count (place_in_root watches over i)
+
+-- the places in a watch of its rows that stand in the root among so many from a place on
+abbrev pub places_among : ℕ → ℕ → List WatchState → WatchState → List ℕ
+places_among at count watches w = passing (goes_at at count watches w.source) 0 w.kept
+
+-- the answer where the rows at these places went, which ascend: they stood one behind the other where the last is as far from the first as
+-- they are many
+abbrev pub went : ℕ → ℕ → List ℕ → Answer
+went at count places =
+    if length places == 0 then Nothing
+    else (if slice_index_or places (length places - 1) 0 + 1 == slice_index_or places 0 0 + length places then Remove (slice_index_or places 0 0) (length places) else RemoveAmong at count)
+
+-- such places, as far as they are known: how many they are, and where the first and the last of them stand
+pub record AreGone (places : List ℕ) (first end count : ℕ) : Type 0 where
+  pub counted : count ≡ length places
+  pub first_is : first ≡ slice_index_or places 0 0
+  pub end_is : 0 < length places → end ≡ slice_index_or places (length places - 1) 0 + 1
 
 -- what stands for the place of a row that goes: no table has so many rows
 abbrev pub no_rank : ℕ

@@ -1,3 +1,4 @@
+pub mod Answers
 pub mod Chains
 pub mod Costs
 pub mod Edits
@@ -11,4 +12,5 @@ pub mod Placing
 pub mod Putting
 pub mod States
 pub mod Telling
+pub mod Turns
 pub mod Watching

@@ -69,6 +69,7 @@ closed_source j w = record {
   room = w.room;
   going = w.going;
   turn = w.turn;
+  answer = w.answer;
   followed = w.followed;
 }
 

@@ -1,26 +1,39 @@
 //! An edit of the root, followed by all watches in one step: copies of a row come side by side, rows go side by side, or one row changes.
-ghost use Rattle.std.specs.Prelude.{◌≡◌, ◌+◌, ◌-◌, ◌*◌, ◌^◌, ◌<◌, ◌≤◌, [], ℕ, List, All, true, false, length, slice_index_or, sum_by, Some};
+ghost use Rattle.std.specs.Prelude.{◌≡◌, ◌+◌, ◌-◌, ◌*◌, ◌^◌, ◌<◌, ◌≤◌, [], ℕ, List, All, true, false, length, map, slice_index_or, sum_by, None, Some};
 ghost use Rattle.std.specs.Option.{ForSome};
 ghost use Rattle.mk_value.specs.Data.{Datum};
 ghost use Rattle.relations.specs.Rows.{rows_at};
-ghost use Rattle.row_edits.specs.Edits.{IsInRange, edited};
 ghost use Rattle.row_edits.specs.Events.{count_of};
-ghost use Rattle.live.specs.Chains.{AreInside, AreLinked, AreNow, seen};
+ghost use Rattle.live.specs.Answers.{AreEditDue, HaveAnswered, follow_cost, noted_for, room_followed};
+ghost use Rattle.live.specs.Chains.{AreInside, AreLinked, AreNoted, AreNow, HaveRoom, seen};
 ghost use Rattle.live.specs.Costs.{after_cost};
-ghost use Rattle.live.specs.Edits.{AreFew, AreLeft, AreSpreadDue, HasTaken, HaveRoomFor, HaveTaken, IsSpread, IsSpreadDue, came_to, edit_cost, room_of};
-ghost use Rattle.live.specs.Leaving.{goes_at, kept_left};
+ghost use Rattle.live.specs.Edits.{AreFew, AreLeft, AreSpreadDue, HasTaken, HaveRoomFor, HaveTaken, IsSpread, IsSpreadDue, came_to, room_of};
+ghost use Rattle.live.specs.Leaving.{goes_at, kept_left, places_among, went};
 ghost use Rattle.live.specs.States.{WatchState};
-ghost use Rattle.live.specs.Watching.{IsAsked, comes_to, is_sorting, positions};
+ghost use Rattle.live.specs.Turns.{answer_of, still_watch};
+ghost use Rattle.live.specs.Watching.{IsAsked, comes_to, goes_from, is_sorting, placed, positions, root_turn, told};
 
-use crate::chain::{Seen, after_all, before_all, root_place};
+use crate::chain::{Seen, after_all, root_place};
 use crate::probe::Probe;
 use crate::ranks::write_ranks;
+use crate::removed::answer_to_removal;
 use crate::turn::Turn;
 use crate::watch::Watch;
 use mk_value::Steps;
 use row_edits::RowEdit;
 use std::marker::PhantomData;
 use std::sync::ledger::Ledger;
+
+/// How many positions more a watch takes for an edit at most: one for each row that comes or changes, and none for rows that go.
+pub fn room_of(edit: RowEdit) -> usize
+    ensures { result ≡ room_of edit }
+{
+    match edit {
+        RowEdit::Insert { count, .. } => count,
+        RowEdit::Remove { .. } => 0,
+        RowEdit::Change { .. } => 1,
+    }
+}
 
 /// Where the first of the rows that came stands in a source: as in the root, or as a watch has it.
 fn came_to(at: usize, below: &[Watch], source: Option<usize>) -> Option<usize>
@@ -52,6 +65,8 @@ fn spread<L: Ledger, P: Probe<L>>(
     ensures spread { (row : List Datum) (before : List (List Datum)) → watch.old.kept ≡ positions (P.schema rows.now) watch.old.op before
         → IsSpread (came_to at below.now watch.old.source) count row before (seen (P.rows rows.now) below.now watch.old.source)
         → IsSpread (comes_to watch.new.turn) count row (rows_at before watch.old.kept) (rows_at (seen (P.rows rows.now) below.now watch.old.source) watch.new.kept) }
+    ensures told { watch.new.turn ≡ told false None (placed watch.new.kept (came_to at below.now watch.old.source)) }
+    ensures answer { watch.new.answer ≡ answer_of count watch.new.turn }
     ensures taken { HasTaken count count watch.old watch.new }
     ensures least { steps.old ≤ steps.new }
     ensures cost { is_sorting watch.old.op ≡ true → 2 ^ (steps.new - steps.old) ≤ 2 * length (seen (P.rows rows.now) below.now watch.old.source) + 1 }
@@ -80,6 +95,8 @@ pub(crate) fn spread_all<L: Ledger, P: Probe<L>>(
     requires some { 0 < count }
     requires room { HaveRoomFor count watches.old }
     ensures now { AreNow (P.schema rows.now) (P.rows rows.now) watches.new }
+    ensures told { (k : ℕ) (d : WatchState) → k < length watches.old → (slice_index_or watches.new k d).turn ≡ told false None (placed (slice_index_or watches.new k d).kept (came_to at watches.new (slice_index_or watches.old k d).source)) }
+    ensures answer { (k : ℕ) (d : WatchState) → k < length watches.old → (slice_index_or watches.new k d).answer ≡ answer_of count (slice_index_or watches.new k d).turn }
     ensures taken { HaveTaken count count watches.old watches.new }
     ensures cost { steps.new ≤ steps.old + sum_by (after_cost (P.rows rows.now) watches.new) watches.new }
 {
@@ -195,10 +212,12 @@ fn leave(below: &[Watch], watch: &mut Watch, at: usize, count: usize, aside: &mu
     requires some { 0 < count }
     requires small { at + count < 2 ^ 32 }
     ensures kept { watch.new.kept ≡ kept_left (goes_at at count below.now watch.old.source) watch.old.kept }
+    ensures answer { watch.new.answer ≡ went at count (places_among at count below.now watch.old) }
     ensures taken { HasTaken count 0 watch.old watch.new }
 {
+    let answer = answer_to_removal(below, watch, at, count);
     leave_rows(below, watch, at, count, aside);
-    watch.count(count);
+    watch.count(count, answer);
 }
 
 /// All watches follow the removal of rows of the root, so many from a place on: each before its source, whose old positions it wants.
@@ -217,34 +236,37 @@ pub(crate) fn leave_all(watches: &mut [Watch], at: usize, count: usize, aside: &
     }
 }
 
-/// All watches follow an edit of the root.
-pub(crate) fn follow_all<L: Ledger, P: Probe<L>, Q: Probe<L>>(
-    before: &P,
-    after: &Q,
+/// All watches answer nothing, to an edit of no rows.
+fn answer_nothing(watches: &mut [Watch])
+    ensures { watches.new ≡ map still_watch watches.old }
+{
+    for watch in watches.iter_mut() {
+        watch.answer_nothing();
+    }
+}
+
+/// All watches follow an edit of the root, of which they have noted the row that changes.
+pub(crate) fn follow_all<L: Ledger, P: Probe<L>>(
+    rows: &P,
     watches: &mut [Watch],
     aside: &mut Vec<u32>,
     edit: RowEdit,
     steps: &mut Steps<L>,
 )
-    requires schema { Q.schema after.now ≡ P.schema before.now }
-    requires now { AreNow (P.schema before.now) (P.rows before.now) watches.old }
-    requires range { IsInRange edit (length (P.rows before.now)) }
-    requires made { (row : List Datum) × (Q.rows after.now ≡ edited row edit (P.rows before.now)) }
-    requires room { HaveRoomFor (room_of edit) watches.old }
-    ensures now { AreNow (P.schema before.now) (Q.rows after.now) watches.new }
+    requires due { AreEditDue (P.schema rows.now) watches.old edit (P.rows rows.now) }
+    requires ready { ForSome (noted_for edit) (λ e. AreNoted (goes_from (root_turn e)) watches.old × HaveRoom watches.old) }
+    requires room { HaveRoomFor (room_followed edit) watches.old }
+    ensures now { AreNow (P.schema rows.now) (P.rows rows.now) watches.new }
+    ensures answered { HaveAnswered edit watches.old watches.new }
     ensures taken { HaveTaken (count_of edit) (room_of edit) watches.old watches.new }
-    ensures cost { steps.new ≤ steps.old + edit_cost edit (P.rows before.now) (Q.rows after.now) watches.old watches.new }
+    ensures cost { steps.new ≤ steps.old + follow_cost edit (P.rows rows.now) watches.new }
 {
-    let _size = before.size();
-    let _new_size = after.size();
+    let _size = rows.size();
     match edit {
-        RowEdit::Insert { count: 0, .. } => {}
-        RowEdit::Insert { at, count } => spread_all(after, watches, at, count, steps),
-        RowEdit::Remove { count: 0, .. } => {}
+        RowEdit::Insert { count: 0, .. } => answer_nothing(watches),
+        RowEdit::Insert { at, count } => spread_all(rows, watches, at, count, steps),
+        RowEdit::Remove { count: 0, .. } => answer_nothing(watches),
         RowEdit::Remove { at, count } => leave_all(watches, at, count, aside),
-        RowEdit::Change { at } => {
-            before_all(before, watches, Some(at), steps);
-            after_all(after, watches, Turn::Changes(at), steps);
-        }
+        RowEdit::Change { at } => after_all(rows, watches, Turn::Changes(at), steps),
     }
 }

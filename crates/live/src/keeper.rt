@@ -206,6 +206,7 @@ fn put_run<L: Ledger, P: Probe<L>>(
     requires room { vec_len kept.old + count ≤ vec_capacity kept.old }
     ensures now { kept.new.items ≡ positions (P.schema rows.now) op.now (P.rows rows.now) }
     ensures put { kept.new.items ≡ with_run result at count kept.old.items }
+    ensures value { result ≡ position (λ k. k == at) kept.new.items }
     ensures there { ForSome result (λ p. p ≤ length kept.old.items) }
     ensures capacity { vec_capacity kept.new ≡ vec_capacity kept.old }
     ensures len { vec_len kept.new ≤ vec_len kept.old + count }
@@ -318,6 +319,7 @@ impl Keeper {
         ensures now { self.new.kept.items ≡ positions (P.schema rows.now) self.old.op (P.rows rows.now) }
         ensures spread { (row : List Datum) (before : List (List Datum)) → self.old.kept.items ≡ positions (P.schema rows.now) self.old.op before → IsSpread (Some at) count row before (P.rows rows.now)
             → IsSpread result count row (rows_at before self.old.kept.items) (rows_at (P.rows rows.now) self.new.kept.items) }
+        ensures value { result ≡ placed self.new.kept.items (Some at) }
         ensures op { self.new.op ≡ self.old.op }
         ensures capacity { vec_capacity self.new.kept ≡ vec_capacity self.old.kept }
         ensures len { vec_len self.new.kept ≤ vec_len self.old.kept + count }

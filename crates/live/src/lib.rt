@@ -11,6 +11,7 @@
 //! knows nothing of names of watches, commands or files.
 #![tactic(auto)]
 
+mod answer;
 mod chain;
 mod edited;
 mod error;
@@ -23,10 +24,13 @@ mod picked;
 mod probe;
 mod putting;
 mod ranks;
+mod removed;
 mod turn;
 mod watch;
 mod watches;
 
+pub use answer::Answer;
+pub use edited::room_of;
 pub use error::WatchError;
 pub use keeper::{Keeper, close, leave, open, renumber, told};
 pub use laws::{

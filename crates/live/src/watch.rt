@@ -7,9 +7,12 @@ ghost use Rattle.live.specs.Edits.{HasTaken, IsSpread, IsSpreadDue};
 ghost use Rattle.row_edits.specs.Runs.{kept_outside};
 ghost use Rattle.live.specs.Leaving.{has_rank};
 ghost use Rattle.live.specs.Putting.{closed_source};
-ghost use Rattle.live.specs.Watching.{IsAsked, IsDue, MeansAs, comes_to, goes_from, is_sorting, own, placed, positions};
+ghost use Rattle.live.specs.Turns.{answer_of, still_watch};
+ghost use Rattle.live.specs.Watching.{IsAsked, IsDue, MeansAs, comes_to, goes_from, is_sorting, own, placed, positions, told};
+ghost use Rattle.live.specs.declared.answer.Answer.TheVariants.{Nothing};
 ghost use Rattle.live.specs.declared.turn.Turn.TheVariants.{Still};
 
+use crate::answer::Answer;
 use crate::keeper::{Keeper, told};
 use crate::op::WatchOp;
 use crate::probe::Probe;
@@ -29,6 +32,7 @@ pub(crate) struct Watch {
     /// It asks rows what the operator asks, with each property once.
     keeper: Keeper,
     turn: Turn,
+    answer: Answer,
     followed: u64,
 }
 
@@ -52,6 +56,7 @@ impl Model for Watch {
       room = vec_capacity w.keeper.kept - vec_len w.keeper.kept;
       going = w.keeper.going;
       turn = w.turn;
+      answer = w.answer;
       followed = w.followed;
     } };
 
@@ -75,6 +80,7 @@ impl Watch {
         ensures op { result.op ≡ op }
         ensures kept { result.kept ≡ kept.items }
         ensures turn { result.turn ≡ Still }
+        ensures answer { result.answer ≡ Nothing }
         ensures followed { result.followed ≡ 0 }
     {
         let keeper = Keeper {
@@ -88,6 +94,7 @@ impl Watch {
             op,
             keeper,
             turn: Turn::Still,
+            answer: Answer::Nothing,
             followed: 0,
         }
     }
@@ -139,6 +146,13 @@ impl Watch {
         ensures { result ≡ self.now.turn }
     {
         self.turn
+    }
+
+    /// What it answered to the last event or edit.
+    pub fn answer(&self) -> Answer
+        ensures { result ≡ self.now.answer }
+    {
+        self.answer
     }
 
     /// How many events it has followed.
@@ -203,6 +217,7 @@ impl Watch {
         ensures test { is_sorting self.old.op ≡ false → steps.new ≤ steps.old + 1 }
     {
         self.turn = self.keeper.after(rows, turn, steps);
+        self.answer = Answer::of_turn(1, self.turn);
         self.followed = self.followed.saturating_add(1);
     }
 
@@ -222,6 +237,8 @@ impl Watch {
         ensures now { self.new.kept ≡ positions (P.schema rows.now) self.old.op (P.rows rows.now) }
         ensures spread { (row : List Datum) (before : List (List Datum)) → self.old.kept ≡ positions (P.schema rows.now) self.old.op before → IsSpread at count row before (P.rows rows.now)
             → IsSpread (comes_to self.new.turn) count row (rows_at before self.old.kept) (rows_at (P.rows rows.now) self.new.kept) }
+        ensures told { self.new.turn ≡ told false None (placed self.new.kept at) }
+        ensures answer { self.new.answer ≡ answer_of count self.new.turn }
         ensures taken { HasTaken count count self.old self.new }
         ensures least { steps.old ≤ steps.new }
         ensures cost { is_sorting self.old.op ≡ true → 2 ^ (steps.new - steps.old) ≤ 2 * length (P.rows rows.now) + 1 }
@@ -232,6 +249,7 @@ impl Watch {
             Some(at) => self.keeper.spread(rows, at, count, steps),
         };
         self.turn = told(false, None, to);
+        self.answer = Answer::of_turn(count, self.turn);
         self.followed = self.followed.saturating_add(count as u64);
     }
 
@@ -253,12 +271,21 @@ impl Watch {
         keep_ranked(&mut self.keeper.kept, ranks);
     }
 
-    /// Counts events that it has followed.
-    pub fn count(&mut self, events: usize)
+    /// Counts events that it has followed, and keeps what it answered to them.
+    pub fn count(&mut self, events: usize, answer: Answer)
         requires { 0 < events }
         ensures kept { self.new.kept ≡ self.old.kept }
+        ensures answer { self.new.answer ≡ answer }
         ensures taken { HasTaken events 0 self.old self.new }
     {
+        self.answer = answer;
         self.followed = self.followed.saturating_add(events as u64);
+    }
+
+    /// Answers nothing, to an edit of no rows.
+    pub fn answer_nothing(&mut self)
+        ensures { self.new ≡ still_watch self.old }
+    {
+        self.answer = Answer::Nothing;
     }
 }

@@ -7,6 +7,7 @@ ghost use Rattle.mk_value.specs.Heading.{Attribute};
 ghost use Rattle.mk_value.specs.Limits.{max_rows};
 ghost use Rattle.row_edits.specs.Edits.{IsInRange, edited};
 ghost use Rattle.row_edits.specs.Events.{count_of};
+ghost use Rattle.live.specs.Answers.{AreEditDue, HaveAnswered, follow_cost, note_cost, noted_for, room_followed, room_noted};
 ghost use Rattle.live.specs.Chains.{AreDue, AreNow, AreSame, AreTold, depth, place_in_root};
 ghost use Rattle.live.specs.Costs.{after_cost, before_cost};
 ghost use Rattle.live.specs.Edits.{HaveFollowed, edit_cost, room_of};
@@ -16,6 +17,7 @@ ghost use Rattle.live.specs.States.{WatchState};
 ghost use Rattle.live.specs.Telling.{told_by};
 ghost use Rattle.live.specs.Watching.{root_turn};
 
+use crate::answer::Answer;
 use crate::chain::{after_all, before_all, depth_of, root_place};
 use crate::edited::follow_all;
 use crate::error::WatchError;
@@ -214,8 +216,7 @@ impl Watches {
         tell_all(&self.list, out);
     }
 
-    /// Follows one edit of the root in one step, whatever its count: rows that come cost as much as one, and rows that go no test and no
-    /// comparison. Room is wanted for the rows that come, and for one that changes. It takes no memory.
+    /// Notes an edit of the root and follows it, where both the rows before and those after it can be seen.
     pub fn follow<L: Ledger, P: Probe<L>, Q: Probe<L>>(
         &mut self,
         before: &P,
@@ -234,7 +235,52 @@ impl Watches {
         ensures spare { spare self.old ≤ spare self.new + room_of edit }
         ensures cost { steps.new ≤ steps.old + edit_cost edit (P.rows before.now) (Q.rows after.now) self.old.watches self.new.watches }
     {
-        follow_all(before, after, &mut self.list, &mut self.aside, edit, steps);
+        self.note_edit(before, edit, steps);
+        self.follow_edit(after, edit, steps);
+    }
+
+    /// Notes an edit of the root before it happens: of a row that changes where it stands, and of rows that come or go nothing. It takes no
+    /// memory.
+    pub fn note_edit<L: Ledger, P: Probe<L>>(
+        &mut self,
+        rows: &P,
+        edit: RowEdit,
+        steps: &mut Steps<L>,
+    )
+        requires now { AreNow (P.schema rows.now) (P.rows rows.now) self.old.watches }
+        requires range { IsInRange edit (length (P.rows rows.now)) }
+        requires reserved { room_noted edit ≤ spare self.old }
+        ensures same { AreSame self.old.watches self.new.watches }
+        ensures now { AreNow (P.schema rows.now) (P.rows rows.now) self.new.watches }
+        ensures noted { self.new.noted ≡ noted_for edit }
+        ensures spare { spare self.old ≤ spare self.new + room_noted edit }
+        ensures cost { steps.new ≤ steps.old + note_cost edit (P.rows rows.now) self.old.watches }
+    {
+        match edit {
+            RowEdit::Insert { .. } | RowEdit::Remove { .. } => self.noted = None,
+            RowEdit::Change { at } => self.before(rows, &Event::Change(at), steps),
+        }
+    }
+
+    /// Follows the edit of the root that was noted last, after it happened, in one step whatever its count: rows that come cost as much as one,
+    /// and rows that go no test and no comparison. Each watch keeps what it answers. Room is wanted for the rows that come. It takes no memory.
+    pub fn follow_edit<L: Ledger, P: Probe<L>>(
+        &mut self,
+        rows: &P,
+        edit: RowEdit,
+        steps: &mut Steps<L>,
+    )
+        requires due { AreEditDue (P.schema rows.now) self.old.watches edit (P.rows rows.now) }
+        requires noted { self.old.noted ≡ noted_for edit }
+        requires reserved { room_followed edit ≤ spare self.old }
+        ensures now { AreNow (P.schema rows.now) (P.rows rows.now) self.new.watches }
+        ensures answered { HaveAnswered edit self.old.watches self.new.watches }
+        ensures followed { HaveFollowed (count_of edit) self.old.watches self.new.watches }
+        ensures noted { self.new.noted ≡ None }
+        ensures spare { spare self.old ≤ spare self.new + room_followed edit }
+        ensures cost { steps.new ≤ steps.old + follow_cost edit (P.rows rows.now) self.new.watches }
+    {
+        follow_all(rows, &mut self.list, &mut self.aside, edit, steps);
         self.noted = None;
     }
 
@@ -275,6 +321,14 @@ impl Watches {
         ensures { (d : WatchState) → result.now ≡ (slice_index_or self.now.watches place d).op }
     {
         self.list[place].op()
+    }
+
+    /// What the rows of a watch did by the last event or edit that it followed, and nothing where it has followed none.
+    pub fn answer(&self, watch: u32) -> Answer
+        requires { place_of self.now.watches watch < length self.now.watches }
+        ensures { (d : WatchState) → result ≡ (watch_of self.now.watches watch d).answer }
+    {
+        self.list[find(&self.list, watch)].answer()
     }
 
     /// How many events a watch has followed since it was put.

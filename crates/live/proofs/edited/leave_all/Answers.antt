@@ -61,4 +61,4 @@ loop-left-preserved c =
     let is_link = part_first c.loop-left.watches below rest (c.loop-left.left - 1) d e.value e.front_len in
     let all_is = part_set c.loop-left.watches below rest (c.loop-left.left - 1) new e.value e.front_len in
     subst (λ ws. HaveLeft c.args.at c.args.count c.args.watches.now ws (c.loop-left.left - 1)) (sym all_is)
-    (next_left c.args.at c.args.count c.args.watches.now c.loop-left.watches c.loop-left.left h c.loop-left-test.true below is_below c.requires.inside (get_or rest 0 d) d is_link new c.leave.ensures.taken c.leave.ensures.kept)
+    (next_left c.args.at c.args.count c.args.watches.now c.loop-left.watches c.loop-left.left h c.loop-left-test.true below is_below c.requires.inside (get_or rest 0 d) d is_link new c.leave.ensures.taken c.leave.ensures.kept c.leave.ensures.answer)

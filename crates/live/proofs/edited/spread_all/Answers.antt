@@ -1,12 +1,12 @@
-use Rattle.std.proofs.Common.{◌≡◌, ◌≤◌, ◌+◌, length, get_or, take, arith, ap, sym, subst, ◌∙◌}
+use Rattle.std.proofs.Common.{◌≡◌, ◌≤◌, ◌+◌, false, length, get_or, take, None, arith, ap, sym, subst, ◌∙◌}
 use Rattle.std.proofs.lemmas.List.{get_or_default, take_all}
 use Rattle.std.specs.List.{sum_by}
 use Rattle.relations.specs.Rows.{rows_at}
 use Rattle.live.specs.Chains.{AreLinked, seen}
 use Rattle.live.specs.Costs.{after_cost}
-use Rattle.live.specs.Edits.{AreSpreadDue, HasTaken, IsSpread}
+use Rattle.live.specs.Edits.{AreSpreadDue, HasTaken, IsSpread, came_to}
 use Rattle.live.specs.States.{WatchState}
-use Rattle.live.specs.Watching.{comes_to, positions}
+use Rattle.live.specs.Watching.{comes_to, placed, positions, told}
 use Rattle.live.proofs.Coming.{HaveCome, come_more, come_none, come_taken, next_asked, next_due, next_made, next_now, next_room, next_source}
 use Rattle.live.proofs.Onward.{AreOnward, cost_more, onward_cost, onward_linked, onward_now}
 use Rattle.live.proofs.Parts.{part_below, part_first, part_set}
@@ -77,10 +77,12 @@ loop-i-preserved g c =
     (next_now schema rows at count old few due ls i h p x below is_below (get_or rest 0 d) (is_link due x)) (next_made schema rows at count old few due ls i h p x below is_below (get_or rest 0 d) (is_link due x)) in
     subst (λ bs. IsSpread (comes_to new.turn) count due.row (rows_at (seen due.before old (get_or old i x).source) (get_or old i x).kept) (rows_at (seen rows bs (get_or old i x).source) new.kept)) is_below
     (subst (λ (l : WatchState). IsSpread (comes_to new.turn) count due.row (rows_at (seen due.before old (get_or old i x).source) l.kept) (rows_at (seen rows below l.source) new.kept)) (is_link due x) one) in
+    let f_told : (due : AreSpreadDue schema old at count rows) (x : WatchState) → new.turn ≡ told false None (placed new.kept (came_to at (take i ls) (get_or old i x).source)) =
+    λ due x. f.told ∙ ap (λ (l : WatchState). told false None (placed new.kept (came_to at below l.source))) (is_link due x) ∙ ap (λ bs. told false None (placed new.kept (came_to at bs (get_or old i x).source))) is_below in
     record {
       come = λ due.
           subst (λ all. HaveCome schema rows at count due.row due.before old all (i + 1)) (sym all_is)
-          (come_more schema rows at count old few due ls i (c.loop-i.invariant.come due) p new (f_taken due) (f_now due) (f_made due));
+          (come_more schema rows at count old few due ls i (c.loop-i.invariant.come due) p new (f_taken due) (f_now due) (f_made due) (f_told due) f.answer);
       cost =
           subst (λ all. c.spread.new.steps ≤ c.args.steps.now + sum_by (after_cost rows all) (take (i + 1) all)) (sym all_is)
           (cost_more schema rows old few mine.now.sources ls i (c.loop-i.invariant.come mine).onward p new (λ x. (f_taken mine x).followed.source) (λ x. (f_taken mine x).followed.op) (f_now mine) c.args.steps.now c.loop-i.steps c.spread.new.steps c.loop-i.invariant.cost
@@ -98,6 +100,18 @@ returns-clause-now g c =
     let i_is : c.loop-i.i ≡ length old = omega arith in
     onward_now schema due.before (g.P.Probe.rows c.args.rows.now) old c.size-size.ensures.few due.now c.loop-i.watches
     (subst (AreOnward schema (g.P.Probe.rows c.args.rows.now) old c.loop-i.watches) i_is h.onward)
+
+pub returns-clause-told : goal.returns-clause-told
+returns-clause-told g c k d p =
+    let h = c.loop-i.invariant.come c.requires.due in
+    let t = c.loop-i-test.false in
+    h.told k d (omega arith)
+
+pub returns-clause-answer : goal.returns-clause-answer
+returns-clause-answer g c k d p =
+    let h = c.loop-i.invariant.come c.requires.due in
+    let t = c.loop-i-test.false in
+    h.answer k d (omega arith)
 
 pub returns-clause-taken : goal.returns-clause-taken
 returns-clause-taken g c =

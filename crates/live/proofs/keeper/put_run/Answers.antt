@@ -1,6 +1,7 @@
-use Rattle.std.proofs.Common.{◌+◌, ◌-◌, ◌*◌, ◌^◌, ◌≤◌, length, Some, arith, ap, sym, subst, ◌∙◌}
+use Rattle.std.proofs.Common.{◌+◌, ◌-◌, ◌*◌, ◌^◌, ◌≤◌, ◌==◌, length, Some, arith, ap, sym, subst, ◌∙◌}
+use Rattle.std.specs.List.{position}
 use Rattle.row_edits.specs.Runs.{with_run}
-use Rattle.live.proofs.Spreading.{kept_few, kept_in, kept_order, left_out, run_put}
+use Rattle.live.proofs.Spreading.{kept_few, kept_in, kept_order, left_out, left_out_place, put_place, run_put}
 use Rattle.live.proofs.keeper.put_run.Goals as goal
 
 pub returns-then-not-has-clause-now : goal.returns-then-not-has-clause-now
@@ -8,6 +9,20 @@ returns-then-not-has-clause-now g c =
     let o = c.requires.others in
     left_out (g.P.Probe.schema c.args.rows.now) c.args.op.now (g.P.Probe.rows c.args.rows.now) o.before o.row c.args.at c.args.count o.within o.made c.requires.some c.size-size.ensures.few
     c.args.kept.now.items o.others (sym c.has.ensures.value ∙ c.if-not-has.true)
+
+pub returns-then-not-has-clause-value : goal.returns-then-not-has-clause-value
+returns-then-not-has-clause-value g c =
+    let o = c.requires.others in
+    sym (left_out_place (g.P.Probe.schema c.args.rows.now) c.args.op.now (g.P.Probe.rows c.args.rows.now) o.before o.row c.args.at c.args.count o.within o.made c.requires.some c.size-size.ensures.few
+    c.args.kept.now.items o.others)
+
+pub returns-clause-value : goal.returns-clause-value
+returns-clause-value g c =
+    let o = c.requires.others in
+    let e = c.place-place.ensures in
+    sym (ap (position (λ k. k == c.args.at)) (c.insert_run.ensures.items ∙ ap (with_run (Some c.place-place.result) c.args.at c.args.count) (sym c.deref.ensures.value))
+    ∙ put_place (g.P.Probe.schema c.args.rows.now) c.args.op.now (g.P.Probe.rows c.args.rows.now) o.before o.row c.args.at c.args.count o.within o.made c.requires.some c.size-size.ensures.few
+    c.deref.result.now (c.deref.ensures.value ∙ o.others) c.place-place.result e.within)
 
 pub place-place-requires-clause-within : goal.place-place-requires-clause-within
 place-place-requires-clause-within g c =

@@ -13,6 +13,9 @@ raise-requires g c =
     small (g.P.Probe.schema c.args.rows.now) c.args.self.now.op (g.P.Probe.rows c.args.rows.now) due.before due.row c.args.at c.args.count (due.made.within c.args.at refl) due.made.made c.requires.some c.size-size.ensures.few
     c.deref_mut.result.now (c.deref_mut.ensures.value ∙ due.now)
 
+pub returns-clause-value : goal.returns-clause-value
+returns-clause-value g c = c.put_run.ensures.value
+
 pub returns-clause-spread : goal.returns-clause-spread
 returns-clause-spread g c row before now made =
     let old : List ℕ = c.args.self.now.kept.items in

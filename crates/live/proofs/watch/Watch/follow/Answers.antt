@@ -13,4 +13,5 @@ returns-clause-raised g c =
           let d = c.requires.room in
           omega arith;
       followed = c.saturating_add-self-inside.ensures;
+      answer = c.of_turn-self-inside.ensures;
     })

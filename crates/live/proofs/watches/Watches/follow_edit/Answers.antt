@@ -1,18 +1,19 @@
 use Rattle.std.proofs.Common.{◌≡◌, ◌≤◌, ◌+◌, ◌++◌, List, length, get_or, take, drop, None, ap, arith, sym, subst, ◌∙◌}
+use Rattle.live.specs.Answers.{room_followed}
 use Rattle.live.specs.Edits.{room_of}
 use Rattle.live.specs.Keeping.{AreKept}
 use Rattle.live.specs.Putting.{least_room, set_aside}
 use Rattle.live.specs.States.{Watching, WatchState}
-use Rattle.live.proofs.Room.{room_for, taken_room}
+use Rattle.live.proofs.Room.{edit_room, room_for}
 use Rattle.live.proofs.AtOnce.{now_inside}
 use Rattle.live.proofs.Turning.{written}
-use Rattle.live.proofs.watches.Watches.follow.Goals as goal
+use Rattle.live.proofs.watches.Watches.follow_edit.Goals as goal
 
 pub follow_all-requires-clause-room : goal.follow_all-requires-clause-room
 follow_all-requires-clause-room g c k d p =
     let lent : c.deref_mut.result.now ≡ c.args.self.now.watches = c.deref_mut.ensures.value ∙ ap (λ (s : Watching). s.watches) c.self.view_is in
     let same = ap length lent in
-    subst (λ (ws : List WatchState). room_of c.args.edit ≤ (get_or ws k d).room) (sym lent) (room_for c.args.self.now.noted (room_of c.args.edit) c.args.self.now.watches c.requires.reserved k d (omega arith))
+    subst (λ (ws : List WatchState). room_followed c.args.edit ≤ (get_or ws k d).room) (sym lent) (room_for c.args.self.now.noted (room_followed c.args.edit) c.args.self.now.watches c.requires.reserved k d (omega arith))
 
 pub invariant_of-self : goal.invariant_of-self
 invariant_of-self g c =
@@ -22,7 +23,7 @@ invariant_of-self g c =
     let back : take c.self.inside.list.len (new ++ drop (length new) c.self.inside.list.items) ≡ new =
     written c.self.inside.list.len new c.self.inside.list.items (sym long) (taken.long ∙ ap length c.deref_mut.ensures.value ∙ sym long) in
     subst (λ ws. AreKept ws None) (sym back) (record {
-      inside = now_inside (g.P.Probe.schema c.args.before.now) (g.Q.Probe.rows c.args.after.now) new c.follow_all.ensures.now;
+      inside = now_inside (g.P.Probe.schema c.args.rows.now) (g.P.Probe.rows c.args.rows.now) new c.follow_all.ensures.now;
       ready = λ e is. cc;
     })
 
@@ -36,8 +37,8 @@ returns-clause-spare g c =
     let old = c.args.self.now.watches in
     let lent : c.deref_mut.result.now ≡ old = c.deref_mut.ensures.value ∙ ap (λ (s : Watching). s.watches) c.self.view_is in
     let same = ap length lent in
-    subst (λ n. set_aside c.args.self.now.noted (least_room old) ≤ n + room_of c.args.edit) (sym (ap least_room back))
-    (taken_room c.args.self.now.noted (room_of c.args.edit) old new (taken.long ∙ same)
+    subst (λ n. set_aside c.args.self.now.noted (least_room old) ≤ n + room_followed c.args.edit) (sym (ap least_room back))
+    (edit_room c.args.edit c.args.self.now.noted old new c.requires.noted (taken.long ∙ same)
     (λ k d p.
     let each = taken.each k d (omega arith) in
     subst (λ (ws : List WatchState). (get_or ws k d).room ≤ (get_or new k d).room + room_of c.args.edit) lent each.room))
