@@ -7,6 +7,7 @@ use Rattle.mk_value.specs.Data.{Datum}
 use Rattle.mk_value.specs.Heading.{Attribute}
 use Rattle.mk_value.specs.Limits.{max_rows}
 use Rattle.relations.specs.Rows.{rows_at}
+use Rattle.places.specs.Numbers.{chunks_for}
 use Rattle.live.specs.Chains.{seen}
 use Rattle.live.specs.Edits.{AreSpreadDue, HasTaken, HaveRoomFor, HaveTaken, IsSpread, IsSpreadDue, came_to}
 use Rattle.live.specs.States.{WatchState}
@@ -20,7 +21,7 @@ use Rattle.live.proofs.Seeing.{seen_at, seen_prefix}
 -- the first i of the watches have followed, and the others are as they were
 pub record HaveCome (schema : List Attribute) (rows : List (List Datum)) (at count : ℕ) (row : List Datum) (before : List (List Datum)) (old : List WatchState) (ls : List WatchState) (i : ℕ) : Type 0 where
   pub onward : AreOnward schema rows old ls i
-  pub taken : (k : ℕ) (d : WatchState) → k < i → HasTaken count count (get_or old k d) (get_or ls k d)
+  pub taken : (k : ℕ) (d : WatchState) → k < i → HasTaken count (chunks_for count) (get_or old k d) (get_or ls k d)
   pub made : (k : ℕ) (d : WatchState) → k < i → IsSpread (comes_to (get_or ls k d).turn) count row (seen before old (Some k)) (seen rows ls (Some k))
   pub told : (k : ℕ) (d : WatchState) → k < i → (get_or ls k d).turn ≡ told false None (placed (get_or ls k d).kept (came_to at ls (get_or old k d).source))
   pub answer : (k : ℕ) (d : WatchState) → k < i → (get_or ls k d).answer ≡ answer_of count (get_or ls k d).turn
@@ -51,7 +52,7 @@ module _ (schema : List Attribute) (rows : List (List Datum)) (at count : ℕ) (
 
   -- one watch more
   module _ (p : i < length old) (new : WatchState)
-      (f_taken : (d : WatchState) → HasTaken count count (get_or old i d) new)
+      (f_taken : (d : WatchState) → HasTaken count (chunks_for count) (get_or old i d) new)
       (f_now : (d : WatchState) → new.kept ≡ positions schema (get_or old i d).op (seen rows (take i ls) (get_or old i d).source))
       (f_made : (d : WatchState) → IsSpread (comes_to new.turn) count due.row (rows_at (seen due.before old (get_or old i d).source) (get_or old i d).kept) (rows_at (seen rows (take i ls) (get_or old i d).source) new.kept))
       (f_told : (d : WatchState) → new.turn ≡ told false None (placed new.kept (came_to at (take i ls) (get_or old i d).source)))
@@ -86,10 +87,10 @@ module _ (schema : List Attribute) (rows : List (List Datum)) (at count : ℕ) (
     come_more = record {
       onward = onward_more schema rows old few due.now.sources ls i h.onward p new f_source f_op f_now;
       taken = λ k d q. elim (cases_lt k i) [
-        | inl lt ↦ subst (HasTaken count count (get_or old k d)) (sym (is_other k d (omega arith))) (h.taken k d lt)
+        | inl lt ↦ subst (HasTaken count (chunks_for count) (get_or old k d)) (sym (is_other k d (omega arith))) (h.taken k d lt)
         | inr ge ↦
             let e : i ≡ k = omega arith in
-            subst (λ j. HasTaken count count (get_or old j d) (get_or all j d)) e (subst (HasTaken count count (get_or old i d)) (sym (is_here d)) (f_taken d))
+            subst (λ j. HasTaken count (chunks_for count) (get_or old j d) (get_or all j d)) e (subst (HasTaken count (chunks_for count) (get_or old i d)) (sym (is_here d)) (f_taken d))
       ];
       made = λ k d q. elim (cases_lt k i) [
         | inl lt ↦
@@ -124,7 +125,7 @@ module _ (schema : List Attribute) (rows : List (List Datum)) (at count : ℕ) (
     }
 
 -- all have followed
-pub come_taken : (schema : List Attribute) (rows : List (List Datum)) (at count : ℕ) (row : List Datum) (before : List (List Datum)) (old ls : List WatchState) → HaveCome schema rows at count row before old ls (length old) → HaveTaken count count old ls
+pub come_taken : (schema : List Attribute) (rows : List (List Datum)) (at count : ℕ) (row : List Datum) (before : List (List Datum)) (old ls : List WatchState) → HaveCome schema rows at count row before old ls (length old) → HaveTaken count (chunks_for count) old ls
 come_taken schema rows at count row before old ls h = record { long = h.onward.long; each = h.taken }
 
 -- what the next watch needs in order to follow
@@ -139,8 +140,8 @@ module _ (schema : List Attribute) (rows : List (List Datum)) (at count : ℕ) (
   pub next_source : ForSome link.source (λ s. s < i)
   next_source = subst (λ (l : WatchState). ForSome l.source (λ s. s < i)) (sym is_link) src_below
 
-  pub next_room : HaveRoomFor count old → count ≤ link.room
-  next_room room = subst (λ (l : WatchState). count ≤ l.room) (sym is_link) (room i d p)
+  pub next_room : HaveRoomFor (chunks_for count) old → chunks_for count ≤ link.room
+  next_room room = subst (λ (l : WatchState). chunks_for count ≤ l.room) (sym is_link) (room i d p)
 
   pub next_asked : IsAsked schema link.op
   next_asked = subst (λ (l : WatchState). IsAsked schema l.op) (sym is_link) (due.now.asked i d p)

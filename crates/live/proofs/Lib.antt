@@ -14,6 +14,7 @@ pub mod Leading
 pub mod Leaving
 pub mod Members
 pub mod Noting
+pub mod Numbering
 pub mod Onward
 pub mod Ops
 pub mod Parts

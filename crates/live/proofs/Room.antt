@@ -6,6 +6,7 @@ use Rattle.std.proofs.lemmas.List.{get_or-map, get_or-set_other, get_or-set_same
 use Rattle.std.proofs.Math.Nat.{le-min, le_trans, min-le_left, min-le_right}
 use Rattle.live.specs.Answers.{noted_for, room_followed}
 use Rattle.live.specs.Edits.{room_of}
+use Rattle.places.specs.Numbers.{chunks_for}
 use Rattle.live.specs.Chains.{AreInside, AreNoted, AreSame, HaveRoom, IsSame, going_of}
 use Rattle.live.specs.Keeping.{AreKept}
 use Rattle.live.specs.Putting.{least_room, no_bound, set_aside}
@@ -191,6 +192,6 @@ taken_room o n old new long h =
 -- what an edit takes beside what was set aside for it when it was noted
 pub edit_room : (e : RowEdit) (o : Option Event) (old new : List WatchState) → o ≡ noted_for e → length new ≡ length old
     → ((k : ℕ) (d : WatchState) → k < length old → (get_or old k d).room ≤ (get_or new k d).room + room_of e) → set_aside o (least_room old) ≤ least_room new + room_followed e
-edit_room (Insert at count) o old new is long h = taken_room o count old new long h
+edit_room (Insert at count) o old new is long h = taken_room o (chunks_for count) old new long h
 edit_room (Remove at count) o old new is long h = taken_room o 0 old new long h
 edit_room (Change at) o old new is long h = let a = followed_room (event.Change at) o old new is long h in omega arith

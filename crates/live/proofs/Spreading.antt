@@ -254,6 +254,12 @@ module _ (schema : List Attribute) (op : WatchOp) (rows before : List (List Datu
       let a = subst (λ xs. All (λ k. k < length before) xs) (sym is) (positions_in schema op before) i d q in
       omega arith
 
+  pub within_new : (kept : List ℕ) → kept ≡ positions schema op before → (size : ℕ) → size ≡ length rows → All (λ k. k + n < size) kept
+  within_new kept is size same i d q =
+      let l = long in
+      let a = subst (λ xs. All (λ k. k < length before) xs) (sym is) (positions_in schema op before) i d q in
+      omega arith
+
   module _ (kept : List ℕ) (others : kept ≡ map (moved_up at n) (positions schema op before)) where
     around : AreAround test cmp [] rows at n kept
     around =

@@ -8,7 +8,6 @@ use Rattle.std.proofs.lemmas.Bool.{cases_lt}
 use Rattle.std.proofs.lemmas.Bool.Decides.{nat_tests}
 use Rattle.std.proofs.lemmas.List.Edits.{length-remove}
 use Rattle.live.specs.declared.turn.Turn.{Turn}
-use Rattle.live.specs.declared.turn.Turn.TheVariants.{Changes}
 use Rattle.live.specs.declared.op.WatchOp.{WatchOp}
 use Rattle.std.specs.List.{AllPairs, position}
 use Rattle.std.specs.declared.cmp.Ordering.TheVariants.{Less}
@@ -68,7 +67,7 @@ module _ (schema : List Attribute) (op : WatchOp) (rows : List (List Datum)) (ke
   pub entered_order : AllPairs (λ i j. place_cmp (order schema op) [] rows i j ≡ Less) kept
   entered_order = pairs_from_ascends (place_cmp (order schema op) [] rows) kept entered.ascends
 
-  pub entered_few : length kept ≤ length rows
+  pub entered_few : length kept + 1 ≤ length rows
   entered_few =
       let a = ap length is ∙ length-map (positions schema op (remove rows row)) (opened row) in
       let b = positions_few schema op (remove rows row) in
@@ -134,9 +133,31 @@ module _ (schema : List Attribute) (op : WatchOp) (kept : List ℕ) (turn : Turn
       let f = length-within (comes_to turn) rows in
       omega arith
 
-  pub due_apart : (ks : List ℕ) → ks ≡ without going kept → (p : ℕ) → turn ≡ Changes p → All (λ k. k ≢ p) ks
+  pub due_apart : (ks : List ℕ) → ks ≡ without going kept → (p : ℕ) → goes_from turn ≡ Some p → All (λ k. k ≢ p) ks
   due_apart ks e p same =
-      subst (λ xs. All (λ k. k ≢ p) xs) (sym (e ∙ left ∙ ap (λ t. without (placed (positions schema op h.before) (goes_from t)) (positions schema op h.before)) same)) (others_apart schema op h.before p)
+      subst (λ xs. All (λ k. k ≢ p) xs) (sym (e ∙ left ∙ ap (λ o. without (placed (positions schema op h.before) o) (positions schema op h.before)) same)) (others_apart schema op h.before p)
+
+  before_few : length h.before ≤ length rows + 1
+  before_few =
+      let b = length-without (goes_from turn) h.before in
+      let c = ap length h.made.rest in
+      let f = length-within (comes_to turn) rows in
+      omega arith
+
+  pub due_went : ForSome (goes_from turn) (λ p. p < 2 ^ 32)
+  due_went p e = let a = h.made.went p e in let b = before_few in omega arith
+
+  pub due_came : (size : ℕ) → size ≡ length rows → ForSome (comes_to turn) (λ p. p < size)
+  due_came size is p e = let a = h.made.came p e in omega arith
+
+  -- the numbers once the row that goes is out are those of the rows without the one that comes
+  pub due_within : (ks : List ℕ) → ks ≡ without going kept → (size : ℕ) → size ≡ length rows → ForSome (comes_to turn) (λ p. All (λ k. k + 1 < size) (map (closed_by (goes_from turn)) ks))
+  due_within ks e size is p some i d q =
+      let others : List (List Datum) = without (comes_to turn) rows in
+      let same : map (closed_by (goes_from turn)) ks ≡ positions schema op others = ap (map (closed_by (goes_from turn))) (e ∙ left) ∙ gone schema op h.before rows turn h.made in
+      let inside = subst (λ (xs : List ℕ). All (λ k. k < length others) xs) (sym same) (positions_in schema op others) i d q in
+      let few : length others + 1 ≡ length rows = ap (λ o. length (without o rows) + 1) some ∙ length-remove rows p (h.made.came p some) in
+      omega arith
 
   pub due_renumbered : (ks : List ℕ) → ks ≡ without going kept → map (opened_by (comes_to turn)) (map (closed_by (goes_from turn)) ks) ≡ map (opened_by (comes_to turn)) (positions schema op (without (comes_to turn) rows))
   due_renumbered ks e = ap (λ xs. map (opened_by (comes_to turn)) (map (closed_by (goes_from turn)) xs)) (e ∙ left) ∙ ap (map (opened_by (comes_to turn))) (gone schema op h.before rows turn h.made)

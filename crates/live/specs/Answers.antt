@@ -2,6 +2,7 @@
 use Rattle.std.specs.Prelude.{◌≡◌, ◌<◌, ℕ, zero, suc, false, true, List, length, slice_index_or, sum_by, Option, Some, None}
 use Rattle.mk_value.specs.Data.{Datum}
 use Rattle.mk_value.specs.Heading.{Attribute}
+use Rattle.places.specs.Numbers.{chunks_for}
 use Rattle.row_edits.specs.Edits.{IsInRange, brings, edited}
 use Rattle.row_edits.specs.declared.edit.RowEdit.{RowEdit}
 use Rattle.row_edits.specs.declared.edit.RowEdit.TheVariants as edit
@@ -46,14 +47,14 @@ noted_for (edit.Insert at count) = None
 noted_for (edit.Remove at count) = None
 noted_for (edit.Change at) = Some (event.Change at)
 
--- how many positions more a watch sets aside for an edit when it is noted, and takes of what is left when it is followed
+-- how many chunks a watch sets aside for an edit when it is noted, and takes of what is left when it is followed
 abbrev pub room_noted : RowEdit → ℕ
 room_noted (edit.Insert at count) = 0
 room_noted (edit.Remove at count) = 0
 room_noted (edit.Change at) = 1
 
 abbrev pub room_followed : RowEdit → ℕ
-room_followed (edit.Insert at count) = count
+room_followed (edit.Insert at count) = chunks_for count
 room_followed (edit.Remove at count) = 0
 room_followed (edit.Change at) = 0
 

@@ -96,7 +96,7 @@ AreNoted goes watches =
     (k : ℕ) (d : WatchState) → k < length watches
     → (slice_index_or watches k d).going ≡ placed (slice_index_or watches k d).kept (going_of goes watches (slice_index_or watches k d).source)
 
--- each watch has room for one position more
+-- each watch has a chunk aside
 abbrev pub HaveRoom : List WatchState → Type 0
 HaveRoom watches = (k : ℕ) (d : WatchState) → k < length watches → 0 < (slice_index_or watches k d).room
 
@@ -110,7 +110,7 @@ pub record AreDue (schema : List Attribute) (watches : List WatchState) (root : 
 abbrev pub raised : ℕ → ℕ
 raised n = min (n + 1) (2 ^ 64 - 1)
 
--- a watch is what it was but for what it keeps and tells: it took at most one position more, and followed one event more, and its answer is its
+-- a watch is what it was but for what it keeps and tells: it took at most one chunk of those aside, and followed one event more, and its answer is its
 -- turn
 pub record IsRaised (old new : WatchState) : Type 0 where
   pub number : new.number ≡ old.number

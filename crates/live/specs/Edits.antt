@@ -9,6 +9,7 @@ use Rattle.row_edits.specs.declared.edit.RowEdit.TheVariants.{Insert, Remove, Ch
 use Rattle.live.specs.Chains.{AreNow, raised, turn_of}
 use Rattle.live.specs.Costs.{after_cost, before_cost}
 use Rattle.live.specs.Leaving.{goes_at, kept_left, places_among, went}
+use Rattle.places.specs.Numbers.{chunks_for}
 use Rattle.row_edits.specs.Runs.{moved_up, spread}
 use Rattle.live.specs.States.{WatchState}
 use Rattle.live.specs.Watching.{comes_to, positions}
@@ -31,13 +32,13 @@ pub record HaveFollowed (n : ℕ) (old new : List WatchState) : Type 0 where
   pub long : length new ≡ length old
   pub each : (k : ℕ) (d : WatchState) → k < length old → HasFollowed n (slice_index_or old k d) (slice_index_or new k d)
 
--- how many positions more a watch takes for an edit at most: one for each row that comes or changes, and none for rows that go
+-- how many chunks a watch takes for an edit at most: some for rows that come, one for a row that changes, and none for rows that go
 abbrev pub room_of : RowEdit → ℕ
-room_of (Insert at count) = count
+room_of (Insert at count) = chunks_for count
 room_of (Remove at count) = 0
 room_of (Change at) = 1
 
--- a watch has followed so many events more, and took at most so many positions more
+-- a watch has followed so many events more, and took at most so many chunks of those aside
 pub record HasTaken (n more : ℕ) (old new : WatchState) : Type 0 where
   pub followed : HasFollowed n old new
   pub room : old.room ≤ new.room + more

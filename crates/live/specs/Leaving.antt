@@ -3,6 +3,7 @@ use Rattle.std.specs.Prelude.{◌≡◌, ◌<◌, ◌+◌, ◌-◌, ◌==◌, �
 use Rattle.mk_value.specs.Data.{Datum}
 use Rattle.relations.specs.Positions.{numbers, passing}
 use Rattle.relations.specs.Rows.{rows_at}
+pub use Rattle.places.specs.Numbers.{has_rank, no_rank}
 use Rattle.live.specs.Chains.{place_in_root}
 use Rattle.row_edits.specs.Runs.{is_outside}
 use Rattle.live.specs.States.{WatchState}
@@ -49,13 +50,6 @@ pub record AreGone (places : List ℕ) (first end count : ℕ) : Type 0 where
   pub counted : count ≡ length places
   pub first_is : first ≡ slice_index_or places 0 0
   pub end_is : 0 < length places → end ≡ slice_index_or places (length places - 1) 0 + 1
-
--- what stands for the place of a row that goes: no table has so many rows
-abbrev pub no_rank : ℕ
-no_rank = 4294967295
-
-abbrev pub has_rank : ℕ → Bool
-has_rank k = not (k == no_rank)
 
 -- the place that a row has then, or that it goes
 abbrev pub rank_of : (ℕ → Bool) → ℕ → ℕ

@@ -37,7 +37,7 @@ abbrev pub AnswersPut : {T : Type 0} → Option WatchError → Result T WatchErr
 AnswersPut (Some e) result = result ≡ Err e
 AnswersPut None result = IfErr result (λ e. e ≡ watch_error.Memory)
 
--- how many positions more each watch takes without memory; without watches no number bounds that
+-- how many chunks of positions lie aside for each watch; without watches no number bounds that
 abbrev pub no_bound : ℕ
 no_bound = 18446744073709551616
 
@@ -49,7 +49,7 @@ abbrev pub set_aside : Option Event → ℕ → ℕ
 set_aside None n = n
 set_aside (Some e) n = n - 1
 
--- how many events can be followed without memory: one position more a watch for each, and for the one that is noted one is set aside
+-- how many events can be followed without memory: one chunk of each watch for each, and for the one that is noted one is set aside
 abbrev pub spare : Watching → ℕ
 spare ws = set_aside ws.noted (least_room ws.watches)
 

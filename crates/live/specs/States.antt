@@ -6,7 +6,7 @@ use Rattle.live.specs.declared.turn.Turn.{Turn}
 use Rattle.live.specs.declared.op.WatchOp.{WatchOp}
 
 -- a watch: its number; the place of its source among the watches, or none where that is the root; what it shows; the positions that
--- it keeps, in the rows of its source; how many positions more it takes without memory; where the row stood in it that was to go by the
+-- it keeps, in the rows of its source; how many chunks of positions lie aside for it; where the row stood in it that was to go by the
 -- event that was noted last; its turn, which is what `after` last did to it, or `follow_edit` where rows came or one changed, while rows that
 -- `follow_edit` takes out leave it as it was; what it answered to the last event or edit; and how many events it has followed
 pub record WatchState : Type 0 where

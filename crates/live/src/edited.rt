@@ -3,6 +3,7 @@ ghost use Rattle.std.specs.Prelude.{◌≡◌, ◌+◌, ◌-◌, ◌*◌, ◌^�
 ghost use Rattle.std.specs.Option.{ForSome};
 ghost use Rattle.mk_value.specs.Data.{Datum};
 ghost use Rattle.relations.specs.Rows.{rows_at};
+ghost use Rattle.places.specs.Numbers.{chunks_for};
 ghost use Rattle.row_edits.specs.Events.{count_of};
 ghost use Rattle.live.specs.Answers.{AreEditDue, HaveAnswered, follow_cost, noted_for, room_followed};
 ghost use Rattle.live.specs.Chains.{AreInside, AreLinked, AreNoted, AreNow, HaveRoom, seen};
@@ -20,16 +21,17 @@ use crate::removed::answer_to_removal;
 use crate::turn::Turn;
 use crate::watch::Watch;
 use mk_value::Steps;
+use places::chunks_for;
 use row_edits::RowEdit;
 use std::marker::PhantomData;
 use std::sync::ledger::Ledger;
 
-/// How many positions more a watch takes for an edit at most: one for each row that comes or changes, and none for rows that go.
+/// How many chunks a watch takes for an edit at most: some for rows that come, one for a row that changes, and none for rows that go.
 pub fn room_of(edit: RowEdit) -> usize
     ensures { result ≡ room_of edit }
 {
     match edit {
-        RowEdit::Insert { count, .. } => count,
+        RowEdit::Insert { count, .. } => chunks_for(count),
         RowEdit::Remove { .. } => 0,
         RowEdit::Change { .. } => 1,
     }
@@ -59,7 +61,7 @@ fn spread<L: Ledger, P: Probe<L>>(
     requires linked { AreLinked (P.rows rows.now) below.now }
     requires source { ForSome watch.old.source (λ s. s < length below.now) }
     requires some { 0 < count }
-    requires room { count ≤ watch.old.room }
+    requires room { chunks_for count ≤ watch.old.room }
     requires due { IsSpreadDue (P.schema rows.now) watch.old.op watch.old.kept (came_to at below.now watch.old.source) count (seen (P.rows rows.now) below.now watch.old.source) }
     ensures now { watch.new.kept ≡ positions (P.schema rows.now) watch.old.op (seen (P.rows rows.now) below.now watch.old.source) }
     ensures spread { (row : List Datum) (before : List (List Datum)) → watch.old.kept ≡ positions (P.schema rows.now) watch.old.op before
@@ -67,7 +69,7 @@ fn spread<L: Ledger, P: Probe<L>>(
         → IsSpread (comes_to watch.new.turn) count row (rows_at before watch.old.kept) (rows_at (seen (P.rows rows.now) below.now watch.old.source) watch.new.kept) }
     ensures told { watch.new.turn ≡ told false None (placed watch.new.kept (came_to at below.now watch.old.source)) }
     ensures answer { watch.new.answer ≡ answer_of count watch.new.turn }
-    ensures taken { HasTaken count count watch.old watch.new }
+    ensures taken { HasTaken count (chunks_for count) watch.old watch.new }
     ensures least { steps.old ≤ steps.new }
     ensures cost { is_sorting watch.old.op ≡ true → 2 ^ (steps.new - steps.old) ≤ 2 * length (seen (P.rows rows.now) below.now watch.old.source) + 1 }
     ensures test { is_sorting watch.old.op ≡ false → steps.new ≤ steps.old + 1 }
@@ -93,11 +95,11 @@ pub(crate) fn spread_all<L: Ledger, P: Probe<L>>(
 )
     requires due { AreSpreadDue (P.schema rows.now) watches.old at count (P.rows rows.now) }
     requires some { 0 < count }
-    requires room { HaveRoomFor count watches.old }
+    requires room { HaveRoomFor (chunks_for count) watches.old }
     ensures now { AreNow (P.schema rows.now) (P.rows rows.now) watches.new }
     ensures told { (k : ℕ) (d : WatchState) → k < length watches.old → (slice_index_or watches.new k d).turn ≡ told false None (placed (slice_index_or watches.new k d).kept (came_to at watches.new (slice_index_or watches.old k d).source)) }
     ensures answer { (k : ℕ) (d : WatchState) → k < length watches.old → (slice_index_or watches.new k d).answer ≡ answer_of count (slice_index_or watches.new k d).turn }
-    ensures taken { HaveTaken count count watches.old watches.new }
+    ensures taken { HaveTaken count (chunks_for count) watches.old watches.new }
     ensures cost { steps.new ≤ steps.old + sum_by (after_cost (P.rows rows.now) watches.new) watches.new }
 {
     let _size = rows.size();

@@ -1,14 +1,14 @@
 //! One watch over the rows of its source: where its rows stand, and what one turn of the source does to that.
-ghost use Rattle.std.specs.Prelude.{◌≡◌, ◌≢◌, ◌+◌, ◌-◌, ◌*◌, ◌^◌, ◌<◌, ◌≤◌, ◌==◌, [], ℕ, true, false, Bool, List, Some, All, length, map, remove, position, slice_index, slice_index_or, vec_len};
+ghost use Rattle.std.specs.Prelude.{◌≡◌, ◌≢◌, ◌+◌, ◌-◌, ◌*◌, ◌^◌, ◌<◌, ◌≤◌, ◌==◌, [], ℕ, true, false, Bool, List, Some, All, length, map, remove, position, slice_index, slice_index_or};
 ghost use Rattle.std.specs.List.{AllPairs};
 ghost use Rattle.std.specs.Option.{ForSome};
-ghost use Rattle.std.specs.Vec.{vec_capacity};
+ghost use Rattle.places.specs.Numbers.{chunks_for};
 ghost use Rattle.std.specs.Ordering.{is_lt};
 ghost use Rattle.std.specs.declared.cmp.Ordering.TheVariants.{Less};
 ghost use Rattle.mk_value.specs.Data.{Datum};
 ghost use Rattle.relations.specs.Rows.{rows_at};
 ghost use Rattle.live.specs.Edits.{AreOthersThan, IsSpread, IsSpreadDue};
-ghost use Rattle.row_edits.specs.Runs.{with_run};
+ghost use Rattle.row_edits.specs.Runs.{moved_up, with_run};
 ghost use Rattle.live.specs.Placing.{closed, opened, closed_by, opened_by, without};
 ghost use Rattle.live.specs.Watching.{IsAsked, IsDue, comes_to, goes_from, is_sorting, own, passes, placed, position_cmp, positions, stays, told};
 
@@ -16,7 +16,7 @@ use crate::op::WatchOp;
 use crate::probe::Probe;
 use crate::turn::Turn;
 use mk_value::Steps;
-use row_edits::{insert_run, raise};
+use places::Places;
 use std::sync::ledger::Ledger;
 
 /// Whether the watch has a row.
@@ -60,26 +60,26 @@ fn stands_before<L: Ledger, P: Probe<L>>(
 fn place<L: Ledger, P: Probe<L>>(
     rows: &P,
     op: &WatchOp,
-    kept: &[u32],
+    kept: &Places,
     row: usize,
     steps: &mut Steps<L>,
 ) -> usize
     requires asked { IsAsked (P.schema rows.now) op.now }
     requires there { row < length (P.rows rows.now) }
-    requires within { All (λ k. k < length (P.rows rows.now)) kept.now }
-    requires order { AllPairs (λ i j. position_cmp (P.schema rows.now) op.now (P.rows rows.now) i j ≡ Less) kept.now }
-    ensures within { result ≤ length kept.now }
-    ensures below { (k : ℕ) → k < result → position_cmp (P.schema rows.now) op.now (P.rows rows.now) (slice_index kept.now k) row ≡ Less }
-    ensures above { (k : ℕ) → result ≤ k → k < length kept.now → position_cmp (P.schema rows.now) op.now (P.rows rows.now) (slice_index kept.now k) row ≢ Less }
+    requires within { All (λ k. k < length (P.rows rows.now)) kept.now.list }
+    requires order { AllPairs (λ i j. position_cmp (P.schema rows.now) op.now (P.rows rows.now) i j ≡ Less) kept.now.list }
+    ensures within { result ≤ length kept.now.list }
+    ensures below { (k : ℕ) → k < result → position_cmp (P.schema rows.now) op.now (P.rows rows.now) (slice_index kept.now.list k) row ≡ Less }
+    ensures above { (k : ℕ) → result ≤ k → k < length kept.now.list → position_cmp (P.schema rows.now) op.now (P.rows rows.now) (slice_index kept.now.list k) row ≢ Less }
     ensures least { steps.old ≤ steps.new }
-    ensures cost { 2 ^ (steps.new - steps.old) ≤ 2 * length kept.now + 1 }
+    ensures cost { 2 ^ (steps.new - steps.old) ≤ 2 * length kept.now.list + 1 }
     ensures free { is_sorting op.now ≡ false → steps.new ≡ steps.old }
 {
     let mut low = 0;
     let mut high = kept.len();
     while low < high {
         let middle = low + (high - low) / 2;
-        if stands_before(rows, op, kept[middle] as usize, row, steps) {
+        if stands_before(rows, op, kept.get(middle) as usize, row, steps) {
             low = middle + 1;
         } else {
             high = middle;
@@ -92,69 +92,77 @@ fn place<L: Ledger, P: Probe<L>>(
 fn find<L: Ledger, P: Probe<L>>(
     rows: &P,
     op: &WatchOp,
-    kept: &[u32],
+    kept: &Places,
     row: usize,
     steps: &mut Steps<L>,
 ) -> Option<usize>
     requires asked { IsAsked (P.schema rows.now) op.now }
     requires there { row < length (P.rows rows.now) }
-    requires now { kept.now ≡ positions (P.schema rows.now) op.now (P.rows rows.now) }
-    ensures value { result ≡ position (λ k. k == row) kept.now }
+    requires now { kept.now.list ≡ positions (P.schema rows.now) op.now (P.rows rows.now) }
+    ensures value { result ≡ position (λ k. k == row) kept.now.list }
     ensures least { steps.old ≤ steps.new }
     ensures cost { 2 ^ (steps.new - steps.old) ≤ 2 * length (P.rows rows.now) + 1 }
     ensures free { is_sorting op.now ≡ false → steps.new ≡ steps.old }
 {
     let at = place(rows, op, kept, row, steps);
-    if at < kept.len() && kept[at] as usize == row {
+    if at < kept.len() && kept.get(at) as usize == row {
         return Some(at);
     }
     None
 }
 
 /// Takes the row at a place out, if one is named.
-pub fn leave(kept: &mut Vec<u32>, at: Option<usize>)
-    requires { ForSome at (λ i. i < length kept.old.items) }
-    ensures items { kept.new.items ≡ without at kept.old.items }
-    ensures len { vec_len kept.new ≤ vec_len kept.old }
-    ensures capacity { vec_capacity kept.new ≡ vec_capacity kept.old }
+fn take_out(kept: &mut Places, at: Option<usize>)
+    requires { ForSome at (λ i. i < length kept.old.list) }
+    ensures list { kept.new.list ≡ without at kept.old.list }
+    ensures spare { kept.old.spare ≤ kept.new.spare }
 {
     if let Some(at) = at {
-        let _ = kept.remove(at);
+        kept.remove(at);
     }
 }
 
-/// Moves the positions past p down.
-pub fn close(kept: &mut [u32], p: usize)
-    ensures { kept.new ≡ map (closed p) kept.old }
+/// Moves the positions from p on up, if there are any: a row that came last in a source of so many moves none.
+fn open_at(kept: &mut Places, p: usize, size: usize)
+    requires within { All (λ k. k + 1 < size) kept.old.list }
+    requires small { p < size }
+    requires few { size < 2 ^ 32 }
+    ensures list { kept.new.list ≡ map (opened p) kept.old.list }
+    ensures spare { kept.new.spare ≡ kept.old.spare }
 {
-    for k in kept.iter_mut() {
-        *k = if p < *k as usize { *k - 1 } else { *k };
+    if p + 1 < size {
+        kept.raise(p as u32, 1);
     }
 }
 
-/// Moves the positions from p on up.
-pub fn open(kept: &mut [u32], p: usize)
-    requires { All (λ k. k + 1 < 2 ^ 32) kept.old }
-    ensures { kept.new ≡ map (opened p) kept.old }
+/// Moves the positions past p down, which is none of them.
+fn close_at(kept: &mut Places, p: usize)
+    requires apart { All (λ k. k ≢ p) kept.old.list }
+    requires small { p < 2 ^ 32 }
+    ensures list { kept.new.list ≡ map (closed p) kept.old.list }
+    ensures spare { kept.new.spare ≡ kept.old.spare }
 {
-    for k in kept.iter_mut() {
-        *k = if (*k as usize) < p { *k } else { *k + 1 };
-    }
+    kept.lower(p as u32, 1);
 }
 
-/// Gives the kept positions the numbers that they have after a turn of the source. Where a row changes there is nothing to do.
-pub fn renumber(kept: &mut [u32], turn: Turn)
-    requires small { All (λ k. k + 1 < 2 ^ 32) kept.old }
-    requires apart { (p : ℕ) → turn ≡ Turn.Changes p → All (λ k. k ≢ p) kept.old }
-    ensures { kept.new ≡ map (opened_by (comes_to turn)) (map (closed_by (goes_from turn)) kept.old) }
+/// Gives the kept positions the numbers that they have after a turn of the source, which has so many rows then. Where a row changes there is
+/// nothing to do.
+fn move_numbers(kept: &mut Places, turn: Turn, size: usize)
+    requires few { size < 2 ^ 32 }
+    requires went { ForSome (goes_from turn) (λ p. p < 2 ^ 32) }
+    requires came { ForSome (comes_to turn) (λ p. p < size) }
+    requires apart { ForSome (goes_from turn) (λ p. All (λ k. k ≢ p) kept.old.list) }
+    requires within { ForSome (comes_to turn) (λ p. All (λ k. k + 1 < size) (map (closed_by (goes_from turn)) kept.old.list)) }
+    ensures list { kept.new.list ≡ map (opened_by (comes_to turn)) (map (closed_by (goes_from turn)) kept.old.list) }
+    ensures spare { kept.new.spare ≡ kept.old.spare }
 {
     match turn {
         Turn::Still | Turn::Changes(_) => {}
-        Turn::Comes(p) => open(kept, p),
-        Turn::Goes(p) => close(kept, p),
+        Turn::Comes(p) => open_at(kept, p, size),
+        Turn::Goes(p) => close_at(kept, p),
         Turn::Moves(p, q) => {
-            close(kept, p);
-            open(kept, q);
+            close_at(kept, p);
+            open_at(kept, q, size);
         }
     }
 }
@@ -163,18 +171,17 @@ pub fn renumber(kept: &mut [u32], turn: Turn)
 fn enter<L: Ledger, P: Probe<L>>(
     rows: &P,
     op: &WatchOp,
-    kept: &mut Vec<u32>,
+    kept: &mut Places,
     row: usize,
     steps: &mut Steps<L>,
 ) -> Option<usize>
     requires asked { IsAsked (P.schema rows.now) op.now }
     requires there { row < length (P.rows rows.now) }
-    requires others { kept.old.items ≡ map (opened row) (positions (P.schema rows.now) op.now (remove (P.rows rows.now) row)) }
-    requires room { vec_len kept.old < vec_capacity kept.old }
-    ensures now { kept.new.items ≡ positions (P.schema rows.now) op.now (P.rows rows.now) }
-    ensures value { result ≡ position (λ k. k == row) kept.new.items }
-    ensures capacity { vec_capacity kept.new ≡ vec_capacity kept.old }
-    ensures len { vec_len kept.new ≤ vec_len kept.old + 1 }
+    requires others { kept.old.list ≡ map (opened row) (positions (P.schema rows.now) op.now (remove (P.rows rows.now) row)) }
+    requires room { 0 < kept.old.spare }
+    ensures now { kept.new.list ≡ positions (P.schema rows.now) op.now (P.rows rows.now) }
+    ensures value { result ≡ position (λ k. k == row) kept.new.list }
+    ensures spare { kept.old.spare ≤ kept.new.spare + 1 }
     ensures least { steps.old ≤ steps.new }
     ensures cost { is_sorting op.now ≡ true → 2 ^ (steps.new - steps.old) ≤ 2 * length (P.rows rows.now) + 1 }
     ensures test { is_sorting op.now ≡ false → steps.new ≤ steps.old + 1 }
@@ -184,10 +191,21 @@ fn enter<L: Ledger, P: Probe<L>>(
         return None;
     }
     let at = place(rows, op, kept, row, steps);
-    if kept.insert(at, row as u32).is_err() {
-        unreachable!();
-    }
+    kept.insert(at, row as u32);
     Some(at)
+}
+
+/// Moves the positions from a place on up by a count, if there are any: rows that came last in a source of so many move none.
+fn open_run(kept: &mut Places, at: usize, count: usize, size: usize)
+    requires within { All (λ k. k + count < size) kept.old.list }
+    requires there { at + count ≤ size }
+    requires few { size < 2 ^ 32 }
+    ensures list { kept.new.list ≡ map (moved_up at count) kept.old.list }
+    ensures spare { kept.new.spare ≡ kept.old.spare }
+{
+    if at + count < size {
+        kept.raise(at as u32, count as u32);
+    }
 }
 
 /// Puts copies of a row, so many from a place of the source on, in where they are to stand, if the watch has them. Answers where the first
@@ -195,21 +213,20 @@ fn enter<L: Ledger, P: Probe<L>>(
 fn put_run<L: Ledger, P: Probe<L>>(
     rows: &P,
     op: &WatchOp,
-    kept: &mut Vec<u32>,
+    kept: &mut Places,
     at: usize,
     count: usize,
     steps: &mut Steps<L>,
 ) -> Option<usize>
     requires asked { IsAsked (P.schema rows.now) op.now }
     requires some { 0 < count }
-    requires others { AreOthersThan (P.schema rows.now) op.now at count kept.old.items (P.rows rows.now) }
-    requires room { vec_len kept.old + count ≤ vec_capacity kept.old }
-    ensures now { kept.new.items ≡ positions (P.schema rows.now) op.now (P.rows rows.now) }
-    ensures put { kept.new.items ≡ with_run result at count kept.old.items }
-    ensures value { result ≡ position (λ k. k == at) kept.new.items }
-    ensures there { ForSome result (λ p. p ≤ length kept.old.items) }
-    ensures capacity { vec_capacity kept.new ≡ vec_capacity kept.old }
-    ensures len { vec_len kept.new ≤ vec_len kept.old + count }
+    requires others { AreOthersThan (P.schema rows.now) op.now at count kept.old.list (P.rows rows.now) }
+    requires room { chunks_for count ≤ kept.old.spare }
+    ensures now { kept.new.list ≡ positions (P.schema rows.now) op.now (P.rows rows.now) }
+    ensures put { kept.new.list ≡ with_run result at count kept.old.list }
+    ensures value { result ≡ position (λ k. k == at) kept.new.list }
+    ensures there { ForSome result (λ p. p ≤ length kept.old.list) }
+    ensures spare { kept.old.spare ≤ kept.new.spare + chunks_for count }
     ensures least { steps.old ≤ steps.new }
     ensures cost { is_sorting op.now ≡ true → 2 ^ (steps.new - steps.old) ≤ 2 * length (P.rows rows.now) + 1 }
     ensures test { is_sorting op.now ≡ false → steps.new ≤ steps.old + 1 }
@@ -219,7 +236,7 @@ fn put_run<L: Ledger, P: Probe<L>>(
         return None;
     }
     let place = place(rows, op, kept, at, steps);
-    insert_run(kept, place, at as u32, count as u32);
+    kept.insert_many(place, at as u32, count as u32);
     Some(place)
 }
 
@@ -247,7 +264,7 @@ pub fn told(stays: bool, from: Option<usize>, to: Option<usize>) -> Turn
 #[derive(Drop)]
 pub struct Keeper {
     pub op: WatchOp,
-    pub kept: Vec<u32>,
+    pub kept: Places,
     pub going: Option<usize>,
 }
 
@@ -261,8 +278,8 @@ impl Keeper {
     )
         requires asked { IsAsked (P.schema rows.now) self.old.op }
         requires there { ForSome goes_from (λ p. p < length (P.rows rows.now)) }
-        requires now { self.old.kept.items ≡ positions (P.schema rows.now) self.old.op (P.rows rows.now) }
-        ensures noted { self.new.going ≡ placed self.old.kept.items goes_from }
+        requires now { self.old.kept.list ≡ positions (P.schema rows.now) self.old.op (P.rows rows.now) }
+        ensures noted { self.new.going ≡ placed self.old.kept.list goes_from }
         ensures kept { (self.new.kept ≡ self.old.kept) × (self.new.op ≡ self.old.op) }
         ensures least { steps.old ≤ steps.new }
         ensures cost { 2 ^ (steps.new - steps.old) ≤ 2 * length (P.rows rows.now) + 1 }
@@ -282,21 +299,20 @@ impl Keeper {
         steps: &mut Steps<L>,
     ) -> Turn
         requires asked { IsAsked (P.schema rows.now) self.old.op }
-        requires room { vec_len self.old.kept < vec_capacity self.old.kept }
-        requires due { IsDue (P.schema rows.now) self.old.op self.old.kept.items turn (P.rows rows.now) }
-        requires noted { self.old.going ≡ placed self.old.kept.items (goes_from turn) }
-        ensures now { self.new.kept.items ≡ positions (P.schema rows.now) self.old.op (P.rows rows.now) }
-        ensures told { result ≡ own self.old.op self.old.kept.items self.new.kept.items turn }
+        requires room { 0 < self.old.kept.spare }
+        requires due { IsDue (P.schema rows.now) self.old.op self.old.kept.list turn (P.rows rows.now) }
+        requires noted { self.old.going ≡ placed self.old.kept.list (goes_from turn) }
+        ensures now { self.new.kept.list ≡ positions (P.schema rows.now) self.old.op (P.rows rows.now) }
+        ensures told { result ≡ own self.old.op self.old.kept.list self.new.kept.list turn }
         ensures op { self.new.op ≡ self.old.op }
-        ensures capacity { vec_capacity self.new.kept ≡ vec_capacity self.old.kept }
-        ensures len { vec_len self.new.kept ≤ vec_len self.old.kept + 1 }
+        ensures spare { self.old.kept.spare ≤ self.new.kept.spare + 1 }
         ensures least { steps.old ≤ steps.new }
         ensures cost { is_sorting self.old.op ≡ true → 2 ^ (steps.new - steps.old) ≤ 2 * length (P.rows rows.now) + 1 }
         ensures test { is_sorting self.old.op ≡ false → steps.new ≤ steps.old + 1 }
     {
-        let _size = rows.size();
-        leave(&mut self.kept, self.going);
-        renumber(&mut self.kept, turn);
+        let size = rows.size();
+        take_out(&mut self.kept, self.going);
+        move_numbers(&mut self.kept, turn, size);
         let to = match turn.comes_to() {
             None => None,
             Some(row) => enter(rows, &self.op, &mut self.kept, row, steps),
@@ -314,21 +330,20 @@ impl Keeper {
     ) -> Option<usize>
         requires asked { IsAsked (P.schema rows.now) self.old.op }
         requires some { 0 < count }
-        requires room { vec_len self.old.kept + count ≤ vec_capacity self.old.kept }
-        requires due { IsSpreadDue (P.schema rows.now) self.old.op self.old.kept.items (Some at) count (P.rows rows.now) }
-        ensures now { self.new.kept.items ≡ positions (P.schema rows.now) self.old.op (P.rows rows.now) }
-        ensures spread { (row : List Datum) (before : List (List Datum)) → self.old.kept.items ≡ positions (P.schema rows.now) self.old.op before → IsSpread (Some at) count row before (P.rows rows.now)
-            → IsSpread result count row (rows_at before self.old.kept.items) (rows_at (P.rows rows.now) self.new.kept.items) }
-        ensures value { result ≡ placed self.new.kept.items (Some at) }
+        requires room { chunks_for count ≤ self.old.kept.spare }
+        requires due { IsSpreadDue (P.schema rows.now) self.old.op self.old.kept.list (Some at) count (P.rows rows.now) }
+        ensures now { self.new.kept.list ≡ positions (P.schema rows.now) self.old.op (P.rows rows.now) }
+        ensures spread { (row : List Datum) (before : List (List Datum)) → self.old.kept.list ≡ positions (P.schema rows.now) self.old.op before → IsSpread (Some at) count row before (P.rows rows.now)
+            → IsSpread result count row (rows_at before self.old.kept.list) (rows_at (P.rows rows.now) self.new.kept.list) }
+        ensures value { result ≡ placed self.new.kept.list (Some at) }
         ensures op { self.new.op ≡ self.old.op }
-        ensures capacity { vec_capacity self.new.kept ≡ vec_capacity self.old.kept }
-        ensures len { vec_len self.new.kept ≤ vec_len self.old.kept + count }
+        ensures spare { self.old.kept.spare ≤ self.new.kept.spare + chunks_for count }
         ensures least { steps.old ≤ steps.new }
         ensures cost { is_sorting self.old.op ≡ true → 2 ^ (steps.new - steps.old) ≤ 2 * length (P.rows rows.now) + 1 }
         ensures test { is_sorting self.old.op ≡ false → steps.new ≤ steps.old + 1 }
     {
-        let _size = rows.size();
-        raise(&mut self.kept, at as u32, count as u32);
+        let size = rows.size();
+        open_run(&mut self.kept, at, count, size);
         put_run(rows, &self.op, &mut self.kept, at, count, steps)
     }
 }

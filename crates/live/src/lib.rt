@@ -15,6 +15,7 @@ mod answer;
 mod chain;
 mod edited;
 mod error;
+mod flat;
 mod keeper;
 mod laws;
 mod listed;
@@ -32,7 +33,8 @@ mod watches;
 pub use answer::Answer;
 pub use edited::room_of;
 pub use error::WatchError;
-pub use keeper::{Keeper, close, leave, open, renumber, told};
+pub use flat::{close, leave, open, renumber};
+pub use keeper::{Keeper, told};
 pub use laws::{
     a_selection_answers_a_change, a_sorting_answers_a_change, a_watch_answers_a_row,
     a_watch_shows_its_rows, edits_are_events, events_are_turns, own_events_are_events,

@@ -73,7 +73,7 @@ pub(crate) fn free_number(watches: &[Watch]) -> u32
     number
 }
 
-/// Makes room for so many positions more in each watch.
+/// Lays so many chunks of positions aside for each watch.
 pub(crate) fn reserve_all(watches: &mut [Watch], more: usize) -> Result<(), Memory>
     ensures same { AreSame watches.old watches.new }
     ensures going { map (λ w. w.going) watches.new ≡ map (λ w. w.going) watches.old }

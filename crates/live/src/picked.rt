@@ -12,6 +12,7 @@ use crate::chain::root_place;
 use crate::op::WatchOp;
 use crate::watch::Watch;
 use mk_value::{Lent, Memory, Schema, TableRead, Value};
+use places::Places;
 use relations::{positions_in_range, positions_ordered};
 use std::alloc::Global;
 use std::cmp::Ordering;
@@ -67,12 +68,8 @@ impl<'a, T: TableRead> TableRead for Picked<'a, T> {
     }
 }
 
-/// The positions of the rows that a watch shows of a table, a sorting without keys by all properties that are no views.
-pub(crate) fn positions_of<T: TableRead>(
-    alloc: Global,
-    rows: &T,
-    op: &WatchOp,
-) -> Result<Vec<u32>, Memory>
+/// The positions of the rows that a watch shows of a table, in one list, a sorting without keys by all properties that are no views.
+fn flat_positions<T: TableRead>(alloc: Global, rows: &T, op: &WatchOp) -> Result<Vec<u32>, Memory>
     requires { IsAsked (T.schema rows.now) op.now }
     ensures { IfOk result (λ kept. kept.items ≡ positions (T.schema rows.now) (spelled (T.schema rows.now) op.now) (T.rows rows.now)) }
 {
@@ -81,6 +78,16 @@ pub(crate) fn positions_of<T: TableRead>(
         WatchOp::Sort(keys) => positions_ordered(alloc, rows, keys.as_slice())?,
     };
     Ok(kept.into_vec())
+}
+
+/// The same in chunks.
+fn positions_of<T: TableRead>(alloc: Global, rows: &T, op: &WatchOp) -> Result<Places, Memory>
+    requires { IsAsked (T.schema rows.now) op.now }
+    ensures { IfOk result (λ kept. kept.list ≡ positions (T.schema rows.now) (spelled (T.schema rows.now) op.now) (T.rows rows.now)) }
+{
+    let _size = rows.size();
+    let flat = flat_positions(alloc, rows, op)?;
+    Ok(Places::of(alloc, &flat)?)
 }
 
 /// Where the rows of a watch stand in the table.
@@ -109,11 +116,11 @@ pub(crate) fn seen_positions<T: TableRead>(
     over: Option<usize>,
     op: &WatchOp,
     rows: &T,
-) -> Result<Vec<u32>, Memory>
+) -> Result<Places, Memory>
     requires asked { IsAsked (T.schema rows.now) op.now }
     requires linked { AreLinked (T.rows rows.now) watches.now }
     requires there { ForSome over (λ w. w < length watches.now) }
-    ensures { IfOk result (λ kept. kept.items ≡ positions (T.schema rows.now) (spelled (T.schema rows.now) op.now) (seen (T.rows rows.now) watches.now over)) }
+    ensures { IfOk result (λ kept. kept.list ≡ positions (T.schema rows.now) (spelled (T.schema rows.now) op.now) (seen (T.rows rows.now) watches.now over)) }
 {
     let Some(over) = over else {
         return positions_of(alloc, rows, op);

@@ -2,6 +2,7 @@ ghost use Rattle.std.specs.Prelude.{◌≡◌, ◌+◌, ◌-◌, ◌*◌, ◌^�
 ghost use Rattle.std.specs.Option.{ForSome};
 ghost use Rattle.mk_value.specs.Data.{Datum};
 ghost use Rattle.relations.specs.Rows.{rows_at};
+ghost use Rattle.places.specs.Numbers.{chunks_for};
 ghost use Rattle.live.specs.Chains.{IsRaised, IsSame};
 ghost use Rattle.live.specs.Edits.{HasTaken, IsSpread, IsSpreadDue};
 ghost use Rattle.row_edits.specs.Runs.{kept_outside};
@@ -16,10 +17,9 @@ use crate::answer::Answer;
 use crate::keeper::{Keeper, told};
 use crate::op::WatchOp;
 use crate::probe::Probe;
-use crate::ranks::keep_ranked;
 use crate::turn::Turn;
 use mk_value::{Memory, Steps};
-use row_edits::remove_run;
+use places::Places;
 use std::marker::Model;
 use std::sync::ledger::Ledger;
 
@@ -37,8 +37,6 @@ pub(crate) struct Watch {
 }
 
 impl Model for Watch {
-    ghost use Rattle.std.specs.Prelude.{◌-◌, vec_len};
-    ghost use Rattle.std.specs.Vec.{vec_capacity};
     ghost use Rattle.live.specs.States.{WatchState};
 
     ghost Value = { WatchState };
@@ -52,8 +50,8 @@ impl Model for Watch {
       number = w.number;
       source = w.source;
       op = w.op;
-      kept = w.keeper.kept.items;
-      room = vec_capacity w.keeper.kept - vec_len w.keeper.kept;
+      kept = w.keeper.kept.list;
+      room = w.keeper.kept.spare;
       going = w.keeper.going;
       turn = w.turn;
       answer = w.answer;
@@ -72,13 +70,13 @@ impl Watch {
         source: Option<usize>,
         op: WatchOp,
         asked: WatchOp,
-        kept: Vec<u32>,
+        kept: Places,
     ) -> Watch
         requires { MeansAs op asked }
         ensures number { result.number ≡ number }
         ensures source { result.source ≡ source }
         ensures op { result.op ≡ op }
-        ensures kept { result.kept ≡ kept.items }
+        ensures kept { result.kept ≡ kept.list }
         ensures turn { result.turn ≡ Still }
         ensures answer { result.answer ≡ Nothing }
         ensures followed { result.followed ≡ 0 }
@@ -131,7 +129,7 @@ impl Watch {
         requires { row < length self.now.kept }
         ensures { result ≡ slice_index self.now.kept row }
     {
-        self.keeper.kept[row] as usize
+        self.keeper.kept.get(row) as usize
     }
 
     /// Where the row that is to go stands in it.
@@ -162,7 +160,7 @@ impl Watch {
         self.followed
     }
 
-    /// Makes room for so many positions more.
+    /// Lays so many chunks of positions aside.
     pub fn reserve(&mut self, more: usize) -> Result<(), Memory>
         ensures same { IsSame self.old self.new }
         ensures going { self.new.going ≡ self.old.going }
@@ -232,14 +230,14 @@ impl Watch {
     )
         requires asked { IsAsked (P.schema rows.now) self.old.op }
         requires some { 0 < count }
-        requires room { count ≤ self.old.room }
+        requires room { chunks_for count ≤ self.old.room }
         requires due { IsSpreadDue (P.schema rows.now) self.old.op self.old.kept at count (P.rows rows.now) }
         ensures now { self.new.kept ≡ positions (P.schema rows.now) self.old.op (P.rows rows.now) }
         ensures spread { (row : List Datum) (before : List (List Datum)) → self.old.kept ≡ positions (P.schema rows.now) self.old.op before → IsSpread at count row before (P.rows rows.now)
             → IsSpread (comes_to self.new.turn) count row (rows_at before self.old.kept) (rows_at (P.rows rows.now) self.new.kept) }
         ensures told { self.new.turn ≡ told false None (placed self.new.kept at) }
         ensures answer { self.new.answer ≡ answer_of count self.new.turn }
-        ensures taken { HasTaken count count self.old self.new }
+        ensures taken { HasTaken count (chunks_for count) self.old self.new }
         ensures least { steps.old ≤ steps.new }
         ensures cost { is_sorting self.old.op ≡ true → 2 ^ (steps.new - steps.old) ≤ 2 * length (P.rows rows.now) + 1 }
         ensures test { is_sorting self.old.op ≡ false → steps.new ≤ steps.old + 1 }
@@ -259,7 +257,7 @@ impl Watch {
         ensures kept { self.new.kept ≡ kept_outside at count self.old.kept }
         ensures taken { HasTaken 0 0 self.old self.new }
     {
-        remove_run(&mut self.keeper.kept, at as u32, count as u32);
+        self.keeper.kept.remove_positions(at as u32, count as u32);
     }
 
     /// Leaves out the rows of the source that have no rank, and moves the others to theirs.
@@ -268,7 +266,7 @@ impl Watch {
         ensures kept { self.new.kept ≡ filter has_rank (map (λ k. slice_index_or ranks.now k 0) self.old.kept) }
         ensures taken { HasTaken 0 0 self.old self.new }
     {
-        keep_ranked(&mut self.keeper.kept, ranks);
+        self.keeper.kept.keep_ranked(ranks);
     }
 
     /// Counts events that it has followed, and keeps what it answered to them.

@@ -151,7 +151,8 @@ impl Watches {
         self.noted = None;
     }
 
-    /// Makes room for so many events more, and beside for the ranks of rows that go from under a watch.
+    /// Lays so many chunks of positions aside for each watch: one for an event, and [`room_of`](crate::room_of) for an edit; and makes room beside
+    /// for the ranks of rows that go from under a watch.
     ///
     /// # Errors
     ///

@@ -1,17 +1,16 @@
 -- A filter as a selection: each row with a flag in front that says whether it passes, and the rows selected by it.
 use Rattle.std.proofs.Common.{◌≡◌, ◌≢◌, ◌==◌, ℕ, zero, suc, ◌+◌, ◌^◌, ◌<◌, ◌≤◌, Bool, true, false, cond, pos, List, [], ◌∷◌, ◌++◌, length, get_or, map, take, drop, Option, Some, None, All, refl, ap, sym, subst, ◌∙◌, arith, inl, inr}
-use Rattle.std.specs.List.{filter, insert, position, remove}
-use Rattle.std.specs.Option.{ForSome}
+use Rattle.std.specs.List.{filter, position, remove}
 use Rattle.std.specs.declared.cmp.Ordering.TheVariants.{Less}
 use Rattle.std.specs.Ordering.{nat_cmp}
-use Rattle.std.proofs.lemmas.List.{drop_more, get_or-map, length-map, map-append, map-id, take-map, take-append-drop}
+use Rattle.std.proofs.lemmas.List.{get_or-map, length-map, map-append, take-map}
 use Rattle.mk_value.specs.Data.{Datum, integer}
 use Rattle.mk_value.specs.Heading.{Attribute, Domain}
 use Rattle.mk_value.specs.Limits.{max_rows}
 use Rattle.relations.specs.Criteria.{Interval, is_in_range}
 use Rattle.relations.specs.Positions.{numbers, passing}
 use Rattle.relations.specs.Rows.{rows_at}
-use Rattle.relations.proofs.Ascending.{Ascends, IsIn, in_at, less_nat, nat_less}
+use Rattle.relations.proofs.Ascending.{Ascends, IsIn, less_nat, nat_less}
 use Rattle.relations.proofs.Filtering.{passing_in}
 use Rattle.live.specs.Placing.{closed_by, opened_by, without}
 use Rattle.live.specs.Watching.{IsDue, IsTurn, comes_to, goes_from, own, passes, placed, positions}
@@ -25,7 +24,7 @@ use Rattle.live.proofs.Members.{in_numbers}
 use Rattle.live.proofs.Chaining.{own_turn as own_is_turn}
 use Rattle.live.proofs.Placing.{inserted, inserted_place, pairs_from_ascends, picked_positions}
 use Rattle.live.proofs.Turning.{due_apart, due_small, due_some, due_still, entered, entered_order, left_out, left_out_place}
-use Rattle.live_counts.specs.Filtering.{FitsBy, IsEntered, IsFilterDue, IsFiltered, IsPutIn, own_turn}
+use Rattle.live_counts.specs.Filtering.{FitsBy, IsEntered, IsFilterDue, IsFiltered, own_turn}
 
 flag : Bool → Datum
 flag b = integer (pos (cond b 1 0))
@@ -143,7 +142,7 @@ module _ (test : List Datum → Bool) (kept : List ℕ) (turn : Turn) (fits : Bo
     filter_small = due_small schema op kept turn (rows_flagged test rows) going few due noted ks e
 
     pub filter_apart : (p : ℕ) → turn ≡ Changes p → All (λ k. k ≢ p) ks
-    filter_apart = due_apart schema op kept turn (rows_flagged test rows) going few due noted ks e
+    filter_apart p same = due_apart schema op kept turn (rows_flagged test rows) going few due noted ks e p (ap goes_from same)
 
     module _ (left : List ℕ) (f : left ≡ map (opened_by (comes_to turn)) (map (closed_by (goes_from turn)) ks)) where
       others : (row : ℕ) → comes_to turn ≡ Some row → left ≡ map (opened_by (Some row)) (positions schema op (remove (rows_flagged test rows) row))

@@ -1,8 +1,6 @@
 -- The runs of equal keys are the rows of the operator.
-use Rattle.std.proofs.Common.{◌≡◌, ℕ, zero, suc, ◌+◌, ◌-◌, ◌<◌, ◌≤◌, pos, Bool, true, false, cond, ltb, List, [], ◌∷◌, ◌++◌, length, get_or, map, None, All, refl, ap, sym, subst, ◌∙◌, arith, inl, inr}
-use Rattle.std.specs.List.{AllByRecursion as Each, count_by, filter}
-use Rattle.std.specs.declared.cmp.Ordering.{Ordering}
-use Rattle.std.specs.declared.cmp.Ordering.TheVariants.{Less, Equal, Greater}
+use Rattle.std.proofs.Common.{◌≡◌, ℕ, ◌+◌, ◌-◌, ◌<◌, pos, Bool, true, false, cond, ltb, List, [], ◌∷◌, ◌++◌, length, get_or, map, None, All, refl, ap, sym, subst, ◌∙◌, arith, inl, inr}
+use Rattle.std.specs.List.{count_by, filter}
 use Rattle.std.specs.Ordering.{is_eq, ordering_then}
 use Rattle.std.proofs.lemmas.List.{get_or-map, length-map}
 use Rattle.std.proofs.lemmas.List.Elements.{All-head, All-tail, recursion_from_All}
@@ -21,15 +19,14 @@ use Rattle.relations.specs.Sorting.{row_cmp}
 use Rattle.relations.specs.WholeOrder.{whole_cmp, whole_row_cmp}
 use Rattle.relations.specs.declared.criteria.Key.{Key}
 use Rattle.relations.proofs.Ascending.{Ascends, IsIn, ascends_from_pairs, in_at, place_of}
-use Rattle.relations.proofs.Equal.{rows_equal, same_row_is, same_row_symm}
+use Rattle.relations.proofs.Equal.{rows_equal, same_row_is}
 use Rattle.relations.proofs.Names.{property_at_column}
-use Rattle.relations.proofs.Numbers.{length-numbers, numbers_at, numbers_below}
+use Rattle.relations.proofs.Numbers.{length-numbers, numbers_at}
 use Rattle.derived.specs.Grouping.{counts, distinct_keys, group}
-use Rattle.grouping.specs.Index.{keys_of}
 use Rattle.grouping.proofs.Agreeing.{ArePlain, plain_values}
 use Rattle.grouping.proofs.Ascending.{in_map, in_map_back}
 use Rattle.grouping.proofs.DistinctRows.{keys_are}
-use Rattle.grouping.proofs.KeyColumns.{index_keys, keys_here, keys_plain}
+use Rattle.grouping.proofs.KeyColumns.{index_keys, keys_plain}
 use Rattle.live.specs.Watching.{positions}
 use Rattle.live.specs.declared.op.WatchOp.TheVariants.{Sort}
 use Rattle.live_counts.specs.Counting.{keys_in}

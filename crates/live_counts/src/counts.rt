@@ -11,6 +11,7 @@ use crate::flags::{lose, run_end};
 use crate::making::{keys_of, positions_by, starts_of};
 use live::{Event, Keeper, Probe, Turn, WatchOp};
 use mk_value::{Memory, Positions, Steps, TableRead};
+use places::Places;
 use std::alloc::Global;
 use std::marker::Model;
 use std::sync::ledger::Ledger;
@@ -39,18 +40,18 @@ impl Model for LiveCounts {
 
     ghost view = { λ c. record {
       op = c.keeper.op;
-      kept = c.keeper.kept.items;
+      kept = c.keeper.kept.list;
       starts = c.starts.items;
-      room = min (vec_capacity c.keeper.kept - vec_len c.keeper.kept) (vec_capacity c.starts - vec_len c.starts);
+      room = min c.keeper.kept.spare (vec_capacity c.starts - vec_len c.starts);
       going = c.keeper.going;
       noted = c.noted;
     } };
 
     ghost invariant = { λ c. AreKept (record {
       op = c.keeper.op;
-      kept = c.keeper.kept.items;
+      kept = c.keeper.kept.list;
       starts = c.starts.items;
-      room = min (vec_capacity c.keeper.kept - vec_len c.keeper.kept) (vec_capacity c.starts - vec_len c.starts);
+      room = min c.keeper.kept.spare (vec_capacity c.starts - vec_len c.starts);
       going = c.keeper.going;
       noted = c.noted;
     }) };
@@ -71,9 +72,10 @@ impl LiveCounts {
     {
         let _size = rows.size();
         let keys = keys_of(alloc, rows.schema(), &keys)?;
-        let kept = positions_by(alloc, rows, &keys)?;
+        let flat = positions_by(alloc, rows, &keys)?;
         let op = WatchOp::Sort(keys);
-        let starts = starts_of(alloc, rows, &op, &kept)?;
+        let starts = starts_of(alloc, rows, &op, &flat)?;
+        let kept = Places::of(alloc, &flat)?;
         let going = None;
         Ok(LiveCounts {
             keeper: Keeper { op, kept, going },
@@ -148,7 +150,7 @@ impl LiveCounts {
         requires { i < length self.now.starts }
         ensures { result ≡ slice_index self.now.kept (slice_index self.now.starts i) }
     {
-        self.keeper.kept[self.starts[i] as usize] as usize
+        self.keeper.kept.get(self.starts[i] as usize) as usize
     }
 
     /// How many rows have the key of this number.

@@ -5,6 +5,7 @@ use Rattle.relations.proofs.Numbers.{numbers_more}
 use Rattle.live.specs.Chains.{place_in_root}
 use Rattle.live.specs.Numbers.{place_of}
 use Rattle.live.specs.States.{WatchState}
+use Rattle.live.specs.declared.answer.Answer.TheVariants.{Nothing}
 use Rattle.live.specs.declared.turn.Turn.TheVariants.{Still}
 use Rattle.live.specs.declared.op.WatchOp.TheVariants.{Sort}
 use Rattle.live.proofs.Leading.{lead_to, row_stands}
@@ -13,7 +14,7 @@ use Rattle.followers.proofs.putting.watch_positions.Goals as goal
 
 -- any watch
 some_watch : WatchState
-some_watch = record { number = 0; source = None; op = Sort []; kept = []; room = 0; going = None; turn = Still; followed = 0 }
+some_watch = record { number = 0; source = None; op = Sort []; kept = []; room = 0; going = None; turn = Still; answer = Nothing; followed = 0 }
 
 pub overflow_cast-at : goal.overflow_cast-at
 overflow_cast-at g c =

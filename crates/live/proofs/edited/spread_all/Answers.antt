@@ -2,6 +2,7 @@ use Rattle.std.proofs.Common.{◌≡◌, ◌≤◌, ◌+◌, false, length, get_
 use Rattle.std.proofs.lemmas.List.{get_or_default, take_all}
 use Rattle.std.specs.List.{sum_by}
 use Rattle.relations.specs.Rows.{rows_at}
+use Rattle.places.specs.Numbers.{chunks_for}
 use Rattle.live.specs.Chains.{AreLinked, seen}
 use Rattle.live.specs.Costs.{after_cost}
 use Rattle.live.specs.Edits.{AreSpreadDue, HasTaken, IsSpread, came_to}
@@ -66,7 +67,7 @@ loop-i-preserved g c =
     let all_is = part_set ls below rest i new e.value e.front_len in
     let mine = c.requires.due in
     let is_link : (due : AreSpreadDue schema old at count rows) (x : WatchState) → get_or rest 0 d ≡ get_or old i x = λ due x. part_first ls below rest i d e.value e.front_len ∙ (c.loop-i.invariant.come due).onward.rest i d (omega arith) p ∙ get_or_default old i d x p in
-    let f_taken : (due : AreSpreadDue schema old at count rows) (x : WatchState) → HasTaken count count (get_or old i x) new = λ due x. subst (λ (l : WatchState). HasTaken count count l new) (is_link due x) f.taken in
+    let f_taken : (due : AreSpreadDue schema old at count rows) (x : WatchState) → HasTaken count (chunks_for count) (get_or old i x) new = λ due x. subst (λ (l : WatchState). HasTaken count (chunks_for count) l new) (is_link due x) f.taken in
     let f_now : (due : AreSpreadDue schema old at count rows) (x : WatchState) → new.kept ≡ positions schema (get_or old i x).op (seen rows (take i ls) (get_or old i x).source) =
     λ due x. f.now ∙ ap (λ (l : WatchState). positions schema l.op (seen rows below l.source)) (is_link due x) ∙ ap (λ bs. positions schema (get_or old i x).op (seen rows bs (get_or old i x).source)) is_below in
     let f_made : (due : AreSpreadDue schema old at count rows) (x : WatchState) → IsSpread (comes_to new.turn) count due.row (rows_at (seen due.before old (get_or old i x).source) (get_or old i x).kept) (rows_at (seen rows (take i ls) (get_or old i x).source) new.kept) =

@@ -1,4 +1,5 @@
-use Rattle.std.proofs.Common.{[], ◌+◌, ◌-◌, ◌/◌, ℕ, length, arith, ◌∙◌, sym}
+use Rattle.std.proofs.Common.{[], ◌+◌, ◌-◌, ◌/◌, ℕ, length, ap, arith, ◌∙◌, sym}
+use Rattle.std.specs.Ordering.{is_lt}
 use Rattle.live.proofs.keeper.place.Goals as goal
 use Rattle.live.specs.Watching.{order, position_cmp}
 use Rattle.live.proofs.Ops.{op_total}
@@ -11,13 +12,13 @@ loop-low-preserved-then-stands_before g c =
     let t = c.loop-low-test.true in
     let middle : ℕ = c.loop-low.low + (c.loop-low.high - c.loop-low.low) / 2 in
     let rows = g.P.Probe.rows c.args.rows.now in
-    let s = spent c.args.steps.now c.loop-low.steps c.stands_before.new.steps (c.loop-low.high - c.loop-low.low) (c.loop-low.high - (middle + 1)) (length c.args.kept.now)
+    let s = spent c.args.steps.now c.loop-low.steps c.stands_before.new.steps (c.loop-low.high - c.loop-low.low) (c.loop-low.high - (middle + 1)) (length c.args.kept.now.list)
     i.least c.stands_before.ensures.least c.stands_before.ensures.one (omega arith) (omega arith) i.left i.cost in
     record {
       ordered = omega arith;
       within = omega arith;
-      below = below_more (position_cmp (g.P.Probe.schema c.args.rows.now) c.args.op.now rows) (place_total (order (g.P.Probe.schema c.args.rows.now) c.args.op.now) (op_total (g.P.Probe.schema c.args.rows.now) c.args.op.now) [] rows) c.args.kept.now c.requires.order middle c.args.row (omega arith)
-          (sym c.stands_before.ensures.value ∙ c.if-stands_before.true);
+      below = below_more (position_cmp (g.P.Probe.schema c.args.rows.now) c.args.op.now rows) (place_total (order (g.P.Probe.schema c.args.rows.now) c.args.op.now) (op_total (g.P.Probe.schema c.args.rows.now) c.args.op.now) [] rows) c.args.kept.now.list c.requires.order middle c.args.row (omega arith)
+          (ap (λ k. is_lt (position_cmp (g.P.Probe.schema c.args.rows.now) c.args.op.now rows k c.args.row)) (sym c.get.ensures) ∙ sym c.stands_before.ensures.value ∙ c.if-stands_before.true);
       above = i.above;
       least = omega (arith, c.stands_before.ensures.least);
       left = s.0;
@@ -31,14 +32,14 @@ loop-low-preserved g c =
     let t = c.loop-low-test.true in
     let middle : ℕ = c.loop-low.low + (c.loop-low.high - c.loop-low.low) / 2 in
     let rows = g.P.Probe.rows c.args.rows.now in
-    let s = spent c.args.steps.now c.loop-low.steps c.stands_before.new.steps (c.loop-low.high - c.loop-low.low) (middle - c.loop-low.low) (length c.args.kept.now)
+    let s = spent c.args.steps.now c.loop-low.steps c.stands_before.new.steps (c.loop-low.high - c.loop-low.low) (middle - c.loop-low.low) (length c.args.kept.now.list)
     i.least c.stands_before.ensures.least c.stands_before.ensures.one (omega arith) (omega arith) i.left i.cost in
     record {
       ordered = omega arith;
       within = omega arith;
       below = i.below;
-      above = above_more (position_cmp (g.P.Probe.schema c.args.rows.now) c.args.op.now rows) (place_total (order (g.P.Probe.schema c.args.rows.now) c.args.op.now) (op_total (g.P.Probe.schema c.args.rows.now) c.args.op.now) [] rows) c.args.kept.now c.requires.order middle c.args.row (omega arith)
-          (sym c.stands_before.ensures.value ∙ c.if-stands_before.false);
+      above = above_more (position_cmp (g.P.Probe.schema c.args.rows.now) c.args.op.now rows) (place_total (order (g.P.Probe.schema c.args.rows.now) c.args.op.now) (op_total (g.P.Probe.schema c.args.rows.now) c.args.op.now) [] rows) c.args.kept.now.list c.requires.order middle c.args.row (omega arith)
+          (ap (λ k. is_lt (position_cmp (g.P.Probe.schema c.args.rows.now) c.args.op.now rows k c.args.row)) (sym c.get.ensures) ∙ sym c.stands_before.ensures.value ∙ c.if-stands_before.false);
       least = omega (arith, c.stands_before.ensures.least);
       left = s.0;
       cost = s.1;

@@ -20,7 +20,7 @@ flag_that_comes-flag-requires-clause-within g c =
 pub put_flag-requires-clause-order : goal.put_flag-requires-clause-order
 put_flag-requires-clause-order g c =
     let same = ties (g.P.Probe.schema c.args.rows.now) c.args.op.now (g.P.Probe.rows c.args.rows.now) in
-    subst (λ (ks : List ℕ). (i j d : ℕ) → i < j → j < length ks → get_or ks i d < get_or ks j d) (sym c.requires.others) (raised_order (flags same (without c.args.to c.args.kept.now)))
+    subst (λ (ks : List ℕ). (i j d : ℕ) → i < j → j < length ks → get_or ks i d < get_or ks j d) (sym c.requires.others) (raised_order (flags same (without c.args.to c.args.kept.now.list)))
 
 pub put_flag-requires-clause-small : goal.put_flag-requires-clause-small
 put_flag-requires-clause-small g c =
@@ -28,7 +28,7 @@ put_flag-requires-clause-small g c =
     let rows = g.P.Probe.rows c.args.rows.now in
     let op = c.args.op.now in
     let same = ties schema op rows in
-    let kept : List ℕ = c.args.kept.now in
+    let kept : List ℕ = c.args.kept.now.list in
     let to = c.in-Some.to in
     let there : to < length kept = c.requires.there to c.in-Some.is in
     let fs : List Bool = flags same (without c.args.to kept) in
@@ -46,7 +46,7 @@ put_flag-requires-clause-flag_small g c =
     let rows = g.P.Probe.rows c.args.rows.now in
     let op = c.args.op.now in
     let same = ties schema op rows in
-    let kept : List ℕ = c.args.kept.now in
+    let kept : List ℕ = c.args.kept.now.list in
     let there : c.in-Some.to < length kept = c.requires.there c.in-Some.to c.in-Some.is in
     let fs : List Bool = flags same kept in
     let long = length-flags same None kept in
@@ -63,7 +63,7 @@ returns-clause-starts g c =
     let rows = g.P.Probe.rows c.args.rows.now in
     let op = c.args.op.now in
     let same = ties schema op rows in
-    let kept : List ℕ = c.args.kept.now in
+    let kept : List ℕ = c.args.kept.now.list in
     let to = c.in-Some.to in
     let there : to < length kept = c.requires.there to c.in-Some.is in
     let others : c.args.starts.now.items ≡ raised (flags same (remove kept to)) = c.requires.others ∙ ap (λ o. raised (flags same (without o kept))) c.in-Some.is in

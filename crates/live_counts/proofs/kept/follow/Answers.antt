@@ -1,11 +1,9 @@
-use Rattle.std.proofs.Common.{◌≡◌, ◌==◌, [], ℕ, Bool, List, length, map, take, drop, ◌++◌, true, false, Option, Some, refl, ap, sym, subst, ◌∙◌}
-use Rattle.std.specs.List.{position}
+use Rattle.std.proofs.Common.{◌≡◌, [], ℕ, List, length, map, take, drop, ◌++◌, ap, sym, subst, ◌∙◌}
 use Rattle.std.proofs.lemmas.List.{length-map}
-use Rattle.live.specs.Placing.{closed_by, opened_by, without}
+use Rattle.live.specs.Placing.{closed_by, opened_by}
 use Rattle.live.specs.Watching.{comes_to, goes_from, placed, stays, told}
 use Rattle.live.specs.declared.op.WatchOp.TheVariants.{Range}
 use Rattle.live.specs.declared.turn.Turn.{Turn}
-use Rattle.live.specs.declared.turn.Turn.TheVariants.{Changes}
 use Rattle.live.proofs.Turning.{written}
 use Rattle.live_counts.specs.Filtering.{IsEntered}
 use Rattle.live_counts.proofs.Flagged.{filter_apart, filter_now, filter_place, filter_small, kept_order, left_order, left_small}

@@ -8,9 +8,7 @@ returns-clause-raised g c =
       source = refl;
       op = refl;
       room =
-          let a = c.after-self-inside.ensures.capacity in
-          let b = c.after-self-inside.ensures.len in
-          let d = c.requires.room in
+          let a = c.after-self-inside.ensures.spare in
           omega arith;
       followed = c.saturating_add-self-inside.ensures;
       answer = c.of_turn-self-inside.ensures;

@@ -1,4 +1,4 @@
-use Rattle.std.proofs.Common.{◌+◌, ◌-◌, ◌^◌, min, arith, ap, ◌∙◌, vec_capacity, vec_len}
+use Rattle.std.proofs.Common.{◌+◌, ◌-◌, ◌^◌, min, arith, ap, ◌∙◌}
 use Rattle.live.specs.declared.watch.Watch.TheInside.{Inside}
 use Rattle.live.proofs.Rising.{raised_on}
 use Rattle.live.proofs.watch.Watch.spread.Goals.{in-None, in-Some}
@@ -15,15 +15,7 @@ returns-clause-taken g c =
             (c.saturating_add-self-inside.ensures ∙ ap (λ f. min (f + c.args.count) (2 ^ 64 - 1)) (elim c.match-at.branch [ in-None w ↦ ap (λ (s : Inside). s.followed) w.self-inside-is | in-Some w ↦ ap (λ (s : Inside). s.followed) w.self-inside-is ]));
       };
       room = elim c.match-at.branch [
-        | in-None w ↦
-            let a = ap (λ (s : Inside). vec_capacity s.keeper.kept) w.self-inside-is in
-            let b = ap (λ (s : Inside). vec_len s.keeper.kept) w.self-inside-is in
-            omega arith
-        | in-Some w ↦
-            let a = ap (λ (s : Inside). vec_capacity s.keeper.kept) w.self-inside-is in
-            let b = ap (λ (s : Inside). vec_len s.keeper.kept) w.self-inside-is in
-            let d = w.spread-to.ensures.capacity in
-            let e = w.spread-to.ensures.len in
-            omega arith
+        | in-None w ↦ let a = ap (λ (s : Inside). s.keeper.kept.spare) w.self-inside-is in omega arith
+        | in-Some w ↦ let a = ap (λ (s : Inside). s.keeper.kept.spare) w.self-inside-is in let e = w.spread-to.ensures.spare in omega arith
       ];
     })

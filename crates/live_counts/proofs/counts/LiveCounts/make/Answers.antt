@@ -36,7 +36,7 @@ starts_of-requires-clause-within g c =
     let schema = g.T.TableRead.schema c.args.rows.now in
     let rows = g.T.TableRead.rows c.args.rows.now in
     let keys = c.in_ok-keys.keys in
-    let lent : c.deref.result.now ≡ order_of (row_cmp schema keys) [] rows = c.deref.ensures.value ∙ c.in_ok-kept.ensures in
+    let lent : c.deref.result.now ≡ order_of (row_cmp schema keys) [] rows = c.deref.ensures.value ∙ c.in_ok-flat.ensures in
     subst (λ (ks : List ℕ). All (λ i. i < length rows) ks) (sym lent) (order_in (row_cmp schema keys) [] rows)
 
 pub starts_of-requires-clause-few : goal.starts_of-requires-clause-few
@@ -44,8 +44,18 @@ starts_of-requires-clause-few g c =
     let schema = g.T.TableRead.schema c.args.rows.now in
     let rows = g.T.TableRead.rows c.args.rows.now in
     let keys = c.in_ok-keys.keys in
-    let lent : c.deref.result.now ≡ order_of (row_cmp schema keys) [] rows = c.deref.ensures.value ∙ c.in_ok-kept.ensures in
+    let lent : c.deref.result.now ≡ order_of (row_cmp schema keys) [] rows = c.deref.ensures.value ∙ c.in_ok-flat.ensures in
     let size = ap length lent in
+    let all = order_few (row_cmp schema keys) [] rows in
+    let few = c.size-size.ensures.whole.few in
+    omega arith
+
+pub of-requires : goal.of-requires
+of-requires g c =
+    let rows = g.T.TableRead.rows c.args.rows.now in
+    let schema = g.T.TableRead.schema c.args.rows.now in
+    let keys = c.in_ok-keys.keys in
+    let size = ap length (c.deref-2.ensures.value ∙ c.in_ok-flat.ensures) in
     let all = order_few (row_cmp schema keys) [] rows in
     let few = c.size-size.ensures.whole.few in
     omega arith
@@ -57,15 +67,15 @@ invariant_of-result g c =
     let keys = c.in_ok-keys.keys in
     let same = ties schema (Sort keys) rows in
     let fs : List Bool = flags same c.deref.result.now in
-    let lent : c.deref.result.now ≡ order_of (row_cmp schema keys) [] rows = c.deref.ensures.value ∙ c.in_ok-kept.ensures in
+    let lent : c.deref.result.now ≡ order_of (row_cmp schema keys) [] rows = c.deref.ensures.value ∙ c.in_ok-flat.ensures in
     let size = ap length lent in
-    let kept = ap length c.in_ok-kept.ensures in
+    let kept = ap length (c.in_ok-kept.ensures ∙ c.deref-2.ensures.value ∙ c.in_ok-flat.ensures) in
     let all = order_few (row_cmp schema keys) [] rows in
     let few = c.size-size.ensures.whole.few in
     let long = length-flags same None c.deref.result.now in
     record {
       sorting = refl;
-      in_range = subst (λ (ks : List ℕ). All (λ s. s < length c.in_ok-kept.kept.items) ks) (sym c.in_ok-starts.ensures) (λ k d p. let q = raised_in fs k d p in omega arith);
+      in_range = subst (λ (ks : List ℕ). All (λ s. s < length c.in_ok-kept.kept.list) ks) (sym c.in_ok-starts.ensures) (λ k d p. let q = raised_in fs k d p in omega arith);
       in_order = subst (λ (ks : List ℕ). (a b d : ℕ) → a < b → b < length ks → get_or ks a d < get_or ks b d) (sym c.in_ok-starts.ensures) (raised_order fs);
       small = omega arith;
       ready = λ e is. cc;
@@ -81,6 +91,6 @@ returns-clause-counts g c =
     record {
       small = c.size-size.ensures.whole.few;
       asked = asked;
-      kept = c.in_ok-kept.ensures;
-      starts_are = c.in_ok-starts.ensures ∙ ap (starts (ties schema (Sort keys) rows)) c.deref.ensures.value;
+      kept = c.in_ok-kept.ensures ∙ c.deref-2.ensures.value ∙ c.in_ok-flat.ensures;
+      starts_are = c.in_ok-starts.ensures ∙ ap (starts (ties schema (Sort keys) rows)) (c.deref.ensures.value ∙ sym (c.in_ok-kept.ensures ∙ c.deref-2.ensures.value));
     }

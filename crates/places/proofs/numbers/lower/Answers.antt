@@ -1,0 +1,17 @@
+use Rattle.std.proofs.Common.{◌≡◌, ◌<◌, ℕ, length, get_or, set, arith, ap, ◌∙◌}
+use Rattle.std.proofs.lemmas.Bool.Decides.{nat_tests}
+use Rattle.std.proofs.lemmas.List.{get_or_default}
+use Rattle.std.proofs.lemmas.List.Edits.{map_over_more}
+use Rattle.row_edits.specs.Runs.{moved_down}
+use Rattle.places.proofs.numbers.lower.Goals as goal
+use Rattle.places.proofs.numbers.lower.Goals.{then-k-at, else-k-at}
+
+pub loop-k-preserved : goal.loop-k-preserved
+loop-k-preserved c =
+    let i = c.loop-k.k-index in
+    let x : ℕ = get_or c.loop-k.kept i 0 in
+    let same : c.if-k-at.k ≡ moved_down c.args.at c.args.count x = elim c.if-k-at.branch [ then-k-at w ↦ grind (arith, nat_tests) | else-k-at w ↦ grind (arith, nat_tests) ] in
+    let t = c.loop-k-test.true in
+    let long = c.loop-k.auto.kept in
+    let within : i < length c.loop-k.kept = omega arith in
+    ap (set c.loop-k.kept i) same ∙ map_over_more (moved_down c.args.at c.args.count) c.args.kept.now c.loop-k.kept i x t c.loop-k.invariant (get_or_default c.loop-k.kept i 0 x within)
