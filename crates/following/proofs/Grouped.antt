@@ -15,6 +15,7 @@ use Rattle.live.specs.Putting.{closed_source, spelled, without_watch}
 use Rattle.live.specs.States.{WatchState}
 use Rattle.live.specs.declared.op.WatchOp.{WatchOp}
 use Rattle.live.specs.declared.op.WatchOp.TheVariants.{Sort}
+use Rattle.live.specs.declared.answer.Answer.TheVariants.{Nothing}
 use Rattle.live.specs.declared.turn.Turn.TheVariants.{Still}
 use Rattle.live.proofs.Leading.{row_stands}
 use Rattle.live.proofs.Seeing.{seen_size}
@@ -29,7 +30,7 @@ use Rattle.following.proofs.Showing.{seen_at_place}
 
 -- any watch
 abbrev pub any_watch : WatchState
-any_watch = record { number = 0; source = None; op = Sort []; kept = []; room = 0; going = None; turn = Still; followed = 0 }
+any_watch = record { number = 0; source = None; op = Sort []; kept = []; room = 0; going = None; turn = Still; answer = Nothing; followed = 0 }
 
 abbrev pub IsNamed : Kept → Type 0
 IsNamed k = AreNamed k.names k.watching.watches

@@ -31,10 +31,10 @@ module _ (old : List WatchState) where
   abbrev still : List WatchState
   still = map still_watch old
 
-  still_long : length still ≡ length old
+  pub still_long : length still ≡ length old
   still_long = length-map old still_watch
 
-  still_is : (k : ℕ) (d : WatchState) → k < length old → get_or still k d ≡ still_watch (get_or old k d)
+  pub still_is : (k : ℕ) (d : WatchState) → k < length old → get_or still k d ≡ still_watch (get_or old k d)
   still_is k d p = get_or-map still_watch old k d d p
 
   pub now_still : (schema : List Attribute) (rows : List (List Datum)) → AreNow schema rows old → AreNow schema rows still
@@ -55,6 +55,15 @@ module _ (old : List WatchState) where
         (h.now k d q ∙ ap (positions schema (get_or old k d).op)
         (sym (seen_same rows old still l (λ j e r. ap (λ (w : WatchState). w.source) (still_is j e r)) (λ j e r. ap (λ (w : WatchState). w.kept) (still_is j e r)) (get_or old k d).source)));
   }
+
+-- an edit of no rows
+pub removed_none : (row : List Datum) (before rows : List (List Datum)) (e : RowEdit) (at count : ℕ) → e ≡ Remove at count → count ≡ 0 → rows ≡ edited row e before → rows ≡ before
+removed_none row before rows e at count is none made =
+    made ∙ ap (λ f. edited row f before) is ∙ ap (λ n. take at before ++ drop (at + n) before) none ∙ ap (λ k. take at before ++ drop k before) (let z : at + 0 ≡ at = omega arith in z) ∙ take-append-drop at before
+
+pub inserted_none : (row : List Datum) (before rows : List (List Datum)) (e : RowEdit) (at count : ℕ) → e ≡ Insert at count → count ≡ 0 → rows ≡ edited row e before → rows ≡ before
+inserted_none row before rows e at count is none made =
+    made ∙ ap (λ f. edited row f before) is ∙ ap (λ n. take at before ++ (replicate n row ++ drop at before)) none ∙ take-append-drop at before
 
 -- what the rows after an edit are, where its sort is known
 module _ (schema : List Attribute) (before rows : List (List Datum)) (row : List Datum) (edit : RowEdit) (old : List WatchState) (h : AreNow schema before old) (range : IsInRange edit (length before)) (made : rows ≡ edited row edit before) where

@@ -134,7 +134,7 @@ module _ (schema : List Attribute) (before rows : List (List Datum)) (at count :
       let q : k < length old = omega arith in
       h.sources k s d q (sym ((left.taken.each k d q).followed.source) ∙ e)
 
-  seen_left : (fuel : ℕ) (over : Option ℕ) (d : WatchState) → ForSome over (λ s. (s < length old) × (s < fuel)) → seen rows new over ≡ rows_left (goes_at at count old over) (seen before old over)
+  pub seen_left : (fuel : ℕ) (over : Option ℕ) (d : WatchState) → ForSome over (λ s. (s < length old) × (s < fuel)) → seen rows new over ≡ rows_left (goes_at at count old over) (seen before old over)
   seen_left fuel None d below = made ∙ rows_span at count before le
   seen_left zero (Some s) d below = absurd (let p = (below s refl).1 in omega arith)
   seen_left (suc fuel) (Some s) d below =

@@ -6,6 +6,7 @@ pub mod Chaining
 pub mod Coming
 pub mod Counting
 pub mod Digits
+pub mod Doing
 pub mod Edits
 pub mod Following
 pub mod Gone

@@ -1,5 +1,5 @@
 -- What a watch answers to an edit of the root that is followed in one step: what its own rows did.
-use Rattle.std.specs.Prelude.{◌≡◌, ◌<◌, ℕ, zero, suc, false, true, List, length, slice_index_or, sum_by, Option, Some, None}
+use Rattle.std.specs.Prelude.{Bool, List, None, Option, Some, drop, false, length, slice_index_or, suc, sum_by, take, true, zero, ℕ, ◌++◌, ◌+◌, ◌<◌, ◌≡◌, ◌≤◌}
 use Rattle.mk_value.specs.Data.{Datum}
 use Rattle.mk_value.specs.Heading.{Attribute}
 use Rattle.places.specs.Numbers.{chunks_for}
@@ -8,17 +8,17 @@ use Rattle.row_edits.specs.declared.edit.RowEdit.{RowEdit}
 use Rattle.row_edits.specs.declared.edit.RowEdit.TheVariants as edit
 use Rattle.row_edits.specs.declared.event.Event.{Event}
 use Rattle.row_edits.specs.declared.event.Event.TheVariants as event
-use Rattle.live.specs.Chains.{AreNow, turn_of}
+use Rattle.live.specs.Chains.{AreNow, seen, turn_of}
 use Rattle.live.specs.Costs.{after_cost, before_cost}
-use Rattle.live.specs.Edits.{came_to}
-use Rattle.live.specs.Leaving.{places_among, went}
+use Rattle.live.specs.Edits.{IsSpread, came_to}
+use Rattle.live.specs.Leaving.{goes_at, places_among, rows_left, went}
 use Rattle.live.specs.States.{WatchState}
 use Rattle.live.specs.Turns.{answer_of}
-use Rattle.live.specs.Watching.{own, placed, told}
+use Rattle.live.specs.Watching.{IsTurn, own, placed, told}
 use Rattle.live.specs.declared.answer.Answer.{Answer}
-use Rattle.live.specs.declared.answer.Answer.TheVariants.{Nothing}
+use Rattle.live.specs.declared.answer.Answer.TheVariants.{Nothing, Insert, Remove, RemoveAmong, Change, Move}
 use Rattle.live.specs.declared.turn.Turn.{Turn}
-use Rattle.live.specs.declared.turn.Turn.TheVariants.{Changes}
+use Rattle.live.specs.declared.turn.Turn.TheVariants.{Changes, Moves}
 
 -- the turn of a watch for a row of which copies came in its source, if they did: it is where the first of them stands
 abbrev pub turn_to : RowEdit → List WatchState → WatchState → WatchState → Turn
@@ -77,3 +77,25 @@ follow_cost (edit.Insert at zero) rows watches = 0
 follow_cost (edit.Insert at (suc more)) rows watches = sum_by (after_cost rows watches) watches
 follow_cost (edit.Remove at count) rows watches = 0
 follow_cost (edit.Change at) rows watches = sum_by (after_cost rows watches) watches
+
+-- the rows of a source that go with an edit of the root, by their places in it
+abbrev pub gone_by : RowEdit → List WatchState → Option ℕ → ℕ → Bool
+gone_by (edit.Insert at count) watches over i = false
+gone_by (edit.Remove at count) watches over i = goes_at at count watches over i
+gone_by (edit.Change at) watches over i = false
+
+-- What an answer says of the rows of a watch, from old rows to new ones: copies of a row came, rows went side by side, those went that stood at some
+-- places, or a row went and one came.
+abbrev pub HasDone : Answer → (ℕ → Bool) → List (List Datum) → List (List Datum) → Type 0
+HasDone Nothing gone old new = new ≡ old
+HasDone (Insert p n) gone old new = (row : List Datum) × (0 < n) × IsSpread (Some p) n row old new
+HasDone (Remove p n) gone old new = (0 < n) × (p + n ≤ length old) × (new ≡ take p old ++ drop (p + n) old)
+HasDone (RemoveAmong at n) gone old new = new ≡ rows_left gone old
+HasDone (Change p) gone old new = IsTurn (Changes p) old new
+HasDone (Move p q) gone old new = IsTurn (Moves p q) old new
+
+-- each watch's answer is what its rows did
+abbrev pub HaveDone : RowEdit → List (List Datum) → List (List Datum) → List WatchState → List WatchState → Type 0
+HaveDone e before after old new =
+    (k : ℕ) (d : WatchState) → k < length old
+    → HasDone (slice_index_or new k d).answer (gone_by e old (Some k)) (seen before old (Some k)) (seen after new (Some k))

@@ -1,10 +1,10 @@
 //! Watches over watches: rows seen through the positions that they keep, and one event noted and followed by all, each after its source.
-ghost use Rattle.std.specs.Prelude.{◌≡◌, ◌+◌, ◌-◌, ◌*◌, ◌^◌, ◌<◌, ◌≤◌, [], true, false, length, map, slice_index_or, sum_by, None};
+ghost use Rattle.std.specs.Prelude.{◌≡◌, ◌+◌, ◌-◌, ◌*◌, ◌^◌, ◌<◌, ◌≤◌, [], ℕ, true, false, length, map, slice_index_or, sum_by, None, Some};
 ghost use Rattle.std.specs.Option.{ForSome};
 ghost use Rattle.live.specs.Chains.{AreDue, AreInOrder, AreInside, AreLinked, AreNoted, AreNow, AreSame, AreTold, HaveRoom, IsRaised, IsSame, depth, going_of, place_in_root, seen, turn_of};
 ghost use Rattle.live.specs.States.{WatchState};
 ghost use Rattle.live.specs.Costs.{after_cost, before_cost};
-ghost use Rattle.live.specs.Watching.{IsAsked, IsDue, goes_from, is_sorting, own, placed, positions};
+ghost use Rattle.live.specs.Watching.{IsAsked, IsDue, IsTurn, goes_from, is_sorting, own, placed, positions};
 
 use crate::op::{Criteria, Keys};
 use crate::probe::Probe;
@@ -146,6 +146,8 @@ pub(crate) fn after_all<L: Ledger, P: Probe<L>>(
     requires room { HaveRoom watches.old }
     ensures now { AreNow (P.schema rows.now) (P.rows rows.now) watches.new }
     ensures told { AreTold root watches.old watches.new }
+    ensures made { (due : AreDue (P.schema rows.now) watches.old root (P.rows rows.now)) (k : ℕ) (d : WatchState) → k < length watches.old
+        → IsTurn (slice_index_or watches.new k d).turn (seen due.before watches.old (Some k)) (seen (P.rows rows.now) watches.new (Some k)) }
     ensures cost { steps.new ≤ steps.old + sum_by (after_cost (P.rows rows.now) watches.new) watches.new }
 {
     let _size = rows.size();

@@ -5,7 +5,7 @@ ghost use Rattle.mk_value.specs.Data.{Datum};
 ghost use Rattle.relations.specs.Rows.{rows_at};
 ghost use Rattle.places.specs.Numbers.{chunks_for};
 ghost use Rattle.row_edits.specs.Events.{count_of};
-ghost use Rattle.live.specs.Answers.{AreEditDue, HaveAnswered, follow_cost, noted_for, room_followed};
+ghost use Rattle.live.specs.Answers.{AreEditDue, HaveAnswered, HaveDone, follow_cost, noted_for, room_followed};
 ghost use Rattle.live.specs.Chains.{AreInside, AreLinked, AreNoted, AreNow, HaveRoom, seen};
 ghost use Rattle.live.specs.Costs.{after_cost};
 ghost use Rattle.live.specs.Edits.{AreFew, AreLeft, AreSpreadDue, HasTaken, HaveRoomFor, HaveTaken, IsSpread, IsSpreadDue, came_to, room_of};
@@ -99,6 +99,8 @@ pub(crate) fn spread_all<L: Ledger, P: Probe<L>>(
     ensures now { AreNow (P.schema rows.now) (P.rows rows.now) watches.new }
     ensures told { (k : ℕ) (d : WatchState) → k < length watches.old → (slice_index_or watches.new k d).turn ≡ told false None (placed (slice_index_or watches.new k d).kept (came_to at watches.new (slice_index_or watches.old k d).source)) }
     ensures answer { (k : ℕ) (d : WatchState) → k < length watches.old → (slice_index_or watches.new k d).answer ≡ answer_of count (slice_index_or watches.new k d).turn }
+    ensures made { (due : AreSpreadDue (P.schema rows.now) watches.old at count (P.rows rows.now)) (k : ℕ) (d : WatchState) → k < length watches.old
+        → IsSpread (comes_to (slice_index_or watches.new k d).turn) count due.row (seen due.before watches.old (Some k)) (seen (P.rows rows.now) watches.new (Some k)) }
     ensures taken { HaveTaken count (chunks_for count) watches.old watches.new }
     ensures cost { steps.new ≤ steps.old + sum_by (after_cost (P.rows rows.now) watches.new) watches.new }
 {
@@ -260,6 +262,7 @@ pub(crate) fn follow_all<L: Ledger, P: Probe<L>>(
     requires room { HaveRoomFor (room_followed edit) watches.old }
     ensures now { AreNow (P.schema rows.now) (P.rows rows.now) watches.new }
     ensures answered { HaveAnswered edit watches.old watches.new }
+    ensures done { (due : AreEditDue (P.schema rows.now) watches.old edit (P.rows rows.now)) → HaveDone edit due.before (P.rows rows.now) watches.old watches.new }
     ensures taken { HaveTaken (count_of edit) (room_of edit) watches.old watches.new }
     ensures cost { steps.new ≤ steps.old + follow_cost edit (P.rows rows.now) watches.new }
 {

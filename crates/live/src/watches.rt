@@ -7,7 +7,7 @@ ghost use Rattle.mk_value.specs.Heading.{Attribute};
 ghost use Rattle.mk_value.specs.Limits.{max_rows};
 ghost use Rattle.row_edits.specs.Edits.{IsInRange, edited};
 ghost use Rattle.row_edits.specs.Events.{count_of};
-ghost use Rattle.live.specs.Answers.{AreEditDue, HaveAnswered, follow_cost, note_cost, noted_for, room_followed, room_noted};
+ghost use Rattle.live.specs.Answers.{AreEditDue, HaveAnswered, HaveDone, follow_cost, note_cost, noted_for, room_followed, room_noted};
 ghost use Rattle.live.specs.Chains.{AreDue, AreNow, AreSame, AreTold, depth, place_in_root};
 ghost use Rattle.live.specs.Costs.{after_cost, before_cost};
 ghost use Rattle.live.specs.Edits.{HaveFollowed, edit_cost, room_of};
@@ -276,6 +276,7 @@ impl Watches {
         requires reserved { room_followed edit ≤ spare self.old }
         ensures now { AreNow (P.schema rows.now) (P.rows rows.now) self.new.watches }
         ensures answered { HaveAnswered edit self.old.watches self.new.watches }
+        ensures done { (due : AreEditDue (P.schema rows.now) self.old.watches edit (P.rows rows.now)) → HaveDone edit due.before (P.rows rows.now) self.old.watches self.new.watches }
         ensures followed { HaveFollowed (count_of edit) self.old.watches self.new.watches }
         ensures noted { self.new.noted ≡ None }
         ensures spare { spare self.old ≤ spare self.new + room_followed edit }

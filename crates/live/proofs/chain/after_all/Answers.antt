@@ -105,6 +105,12 @@ returns-clause-told g c =
     followed_told schema (g.P.Probe.rows c.args.rows.now) c.args.root due.before old c.loop-i.watches
     (subst (AreFollowed schema (g.P.Probe.rows c.args.rows.now) c.args.root due.before old c.loop-i.watches) i_is h)
 
+pub returns-clause-made : goal.returns-clause-made
+returns-clause-made g c due k d p =
+    let h = c.loop-i.invariant.followed due in
+    let t = c.loop-i-test.false in
+    h.made k d (omega arith)
+
 pub returns-clause-cost : goal.returns-clause-cost
 returns-clause-cost g c =
     let h = c.loop-i.invariant.followed c.requires.due in

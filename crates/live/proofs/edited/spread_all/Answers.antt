@@ -114,6 +114,12 @@ returns-clause-answer g c k d p =
     let t = c.loop-i-test.false in
     h.answer k d (omega arith)
 
+pub returns-clause-made : goal.returns-clause-made
+returns-clause-made g c due k d p =
+    let h = c.loop-i.invariant.come due in
+    let t = c.loop-i-test.false in
+    h.made k d (omega arith)
+
 pub returns-clause-taken : goal.returns-clause-taken
 returns-clause-taken g c =
     let schema = g.P.Probe.schema c.args.rows.now in
