@@ -1,7 +1,7 @@
 -- What it is to open an aside file.
-use Rattle.std.specs.Prelude.{◌≡◌, ◌≢◌, ℕ, ◌<◌, ◌≤◌, ◌⊎◌, false, List, [], ◌∷◌, ◌++◌, replicate, Result, Ok, Err}
+use Rattle.std.specs.Prelude.{◌≡◌, ◌≢◌, ℕ, ◌+◌, ◌<◌, ◌≤◌, ◌⊎◌, false, List, [], ◌∷◌, ◌++◌, replicate, Result, Ok, Err}
 use Rattle.host_io.specs.Disk.{IsSettled}
-use Rattle.host_io.specs.Outside.{Outside}
+use Rattle.host_io.specs.Outside.{Outside, moment}
 use Rattle.host_io.specs.Calls.{Looks}
 use Rattle.host_io.specs.Ranges.{bytes_in}
 use Rattle.commit_marks.specs.declared.mark.Mark.{Mark}
@@ -22,6 +22,15 @@ first_mark = record { version = 1; number = 0; place = 192; len = 64; end = 256 
 -- a new aside file: its header, its first mark in an open slot, a slot of zeros, and the record of its base
 abbrev pub new_bytes : BaseRecord → List ℕ
 new_bytes kept = header ++ ((open_byte ∷ body_bytes first_mark) ++ (replicate 64 0 ++ base_bytes kept))
+
+-- the moments in which a file is opened: an empty one is made by a write and a sync, any other is only looked at
+abbrev pub opening_moments : List ℕ → ℕ
+opening_moments [] = 2
+opening_moments (byte ∷ bytes) = 0
+
+-- the number of the moment from which on the log of a file is open
+abbrev pub opened_at : Outside → ℕ
+opened_at old = moment old + opening_moments old.now.disk.seen
 
 -- What reading the marks of a log gives.
 abbrev pub GivesLogMarks : List ℕ → Result Marks AsideError → Type 0

@@ -1,12 +1,13 @@
 // Opening a log: the tests that an aside file passes, in their order, and what makes a new one.
-ghost use Rattle.std.specs.Prelude.{◌≡◌, ◌≢◌, ◌↔◌, IsTrue, ◌^◌, ◌<◌, ◌≤◌, ◌++◌, length, replicate, IfOk, IsErrOf, MatchOption};
+ghost use Rattle.std.specs.Prelude.{◌≡◌, ◌≢◌, ◌↔◌, IsTrue, ◌^◌, ◌<◌, ◌+◌, ◌≤◌, ◌++◌, [], length, replicate, IfOk, IsErrOf, MatchOption, OnOk};
 ghost use Rattle.host_io.specs.Disk.{IsSettled};
+ghost use Rattle.host_io.specs.Outside.{Goes, moment};
 ghost use Rattle.host_io.specs.Calls.{CountsDisk, CountsFaults, Looks};
 ghost use Rattle.host_io.specs.Ranges.{PutsAndSyncs};
 ghost use Rattle.commit_marks.specs.Marks.{header};
 ghost use Rattle.aside_disk.specs.declared.error.BaseRecord.{BaseRecord};
 ghost use Rattle.aside_disk.specs.Logical.{IsBased, IsLogMark, base_bytes};
-ghost use Rattle.aside_disk.specs.Opening.{GivesLogMarks, Opens, ReadsLog, Walks, new_bytes};
+ghost use Rattle.aside_disk.specs.Opening.{GivesLogMarks, Opens, ReadsLog, Walks, new_bytes, opened_at};
 ghost use Rattle.aside_disk.specs.Told.{IsWell};
 ghost use Rattle.aside_disk.specs.Walking.{IsWalk};
 
@@ -163,6 +164,7 @@ fn new_bytes(given: &BaseRecord) -> [u8; 256]
 fn make_log<D: Disk>(disk: &mut D, given: &BaseRecord) -> Result<(), Failed>
     ensures counts { CountsDisk (D.outside disk.old) (D.outside disk.new) result }
     ensures makes { D.tells → PutsAndSyncs 0 (new_bytes given.now) (D.outside disk.old) (D.outside disk.new) result }
+    ensures since { D.tells → OnOk result (moment (D.outside disk.new) ≡ moment (D.outside disk.old) + 2) }
 {
     disk.write_at(0, &new_bytes(given))?;
     disk.sync()
@@ -181,6 +183,13 @@ pub fn open_log<D: Disk>(disk: &mut D, given: BaseRecord) -> Result<Log, AsideEr
     ensures counts { CountsFaults (IsErrOf result AsideError.Failed) (D.outside disk.old) (D.outside disk.new) }
     ensures well { IfOk result (λ log. IsWell log) }
     ensures opens { D.tells → Opens given (D.outside disk.old) (D.outside disk.new) result }
+
+    // Nothing is said or taken. A file that is not empty is only looked at, whatever comes, and an empty one is made in two moments.
+    ensures said { D.tells → (D.outside disk.new).now.said ≡ (D.outside disk.old).now.said }
+    ensures input { D.tells → (D.outside disk.new).input ≡ (D.outside disk.old).input }
+    ensures moments { D.tells → Goes (λ at. at.said ≡ (D.outside disk.old).now.said) (D.outside disk.old) (D.outside disk.new) }
+    ensures untouched { D.tells → (D.outside disk.old).now.disk.seen ≢ [] → Looks (D.outside disk.old) (D.outside disk.new) }
+    ensures since { D.tells → IfOk result (λ log. moment (D.outside disk.new) ≡ opened_at (D.outside disk.old)) }
 {
     if disk.len()? > 0 {
         return read_log(disk, &given);
