@@ -7,16 +7,19 @@ use Rattle.aside_disk.specs.Tie.{ShowsLeft}
 use Rattle.aside_disk.specs.Standing.{IsOver}
 
 module _ {name since began number name' since' began' number' : ℕ} {base base' : List ℕ} (same : source_of name since began number base ≡ source_of name' since' began' number' base') where
-  same_since : since ≡ since'
+  pub same_name : name ≡ name'
+  same_name = ap (λ (l : List ℕ). slice_index l 0) same
+
+  pub same_since : since ≡ since'
   same_since = ap (λ (l : List ℕ). slice_index l 1) same
 
-  same_began : began ≡ began'
+  pub same_began : began ≡ began'
   same_began = ap (λ (l : List ℕ). slice_index l 2) same
 
-  same_number : number ≡ number'
+  pub same_number : number ≡ number'
   same_number = ap (λ (l : List ℕ). slice_index l 3) same
 
-  same_base : base ≡ base'
+  pub same_base : base ≡ base'
   same_base = ap (λ (l : List ℕ). drop 4 l) same
 
 pub images_stand : {tells : Type 0} {name : ℕ} (other since began number : ℕ) (base : List ℕ) {lower : Outside} {seen : Seen} {own : ℕ} → tells → IsOver tells name lower seen own → seen.source ≡ source_of other since began number base

@@ -41,6 +41,14 @@ module _ (found : Found) (name : List ℕ) (text : Option (Bor (List ℕ))) (is 
       go None = refl
       go (Some s) = refl
 
+  -- whether one was found
+  pub is_found : is_some (first_of name (rows_of found)) ≡ is_some text
+  is_found = ap is_some by_row ∙ go text
+    where
+      go : (t : Option (Bor (List ℕ))) → is_some (option_map (λ s. s.now) t) ≡ is_some t
+      go None = refl
+      go (Some s) = refl
+
   pub not_found : is_some text ≡ false → first_of name (rows_of found) ≡ None
   not_found none = none_found (go text none)
     where

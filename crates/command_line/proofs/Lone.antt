@@ -8,7 +8,7 @@ use Rattle.clap.specs.Kinds.{Kinds, or_else}
 use Rattle.clap.specs.Lexer.{long_of, short_of}
 use Rattle.clap.specs.Simple.{Shape, built, entered, matches_of}
 use Rattle.clap.specs.Walk.{Held, Rule, Step, Walk, after_step, arg_by_index, finished, idle, nothing_held, settled, to_positional, value, walk_from, walked, word_met}
-use Rattle.command_line.specs.Asking.{Asks, IsServed}
+use Rattle.command_line.specs.Asking.{Asks, IsServed, name_of}
 use Rattle.command_line.specs.Command.{the_command}
 use Rattle.command_line.specs.Words.{AsksFor}
 use Rattle.command_line.specs.declared.job.Job.{Job}
@@ -82,6 +82,7 @@ module _ (first : ℕ) (rest : List ℕ) (plain : first ≢ 45) where
       };
       done = ap Some (sym served.task);
     };
+    aside = record { named = ap name_of served.alone; alone = λ given. absurd (false≢true given) };
   })
 
   pub lone_asks_for : (program : List ℕ) (job : Job) → IsServed (first ∷ rest) job → AsksFor (program ∷ (first ∷ rest) ∷ []) job

@@ -30,4 +30,5 @@ one_job rows one other asks asks-2 = record {
   mode = asks.options.used.used ∙ sym asks-2.options.used.used;
   cap = one_cap _ one.cap other.cap (omega (arith, asks.cap.most)) (omega (arith, asks-2.cap.most)) asks.cap.means asks-2.cap.means;
   task = one_task rows _ _ one.task other.task asks.options.done asks-2.options.done;
+  aside = asks.aside.named ∙ sym asks-2.aside.named;
 }

@@ -1,11 +1,12 @@
 -- What the options and the file ask for that were found in words: the tests that the words have to pass, and the job.
-use Rattle.std.specs.Prelude.{◌≡◌, ◌≢◌, ℕ, ◌≤◌, ◌<◌, ◌^◌, ◌||◌, Bool, true, false, if◌then◌else◌, List, [], Option, Some, None, codes, decimal, find, option_and_then}
+use Rattle.std.specs.Prelude.{◌≡◌, ◌≢◌, ℕ, ◌≤◌, ◌<◌, ◌^◌, ◌||◌, Bool, true, false, if◌then◌else◌, List, [], Option, Some, None, codes, decimal, find, is_some, option_and_then, option_map}
 use Rattle.std.specs.Str.{bytes_eq}
 use Rattle.clap.specs.Matches.{found_of}
 use Rattle.clap.specs.Walk.{Row, first_of, rows_of}
 use Rattle.clap.specs.declared.parser.matches.ArgMatches.{ArgMatches}
 use Rattle.clap.specs.declared.parser.matches.ValueSource.{ValueSource}
 use Rattle.clap.specs.declared.parser.matches.ValueSource.TheVariants.{CommandLine, DefaultValue}
+use Rattle.mk_value.specs.Buffer.{Buffer}
 use Rattle.command_line.specs.declared.job.Job.{Job}
 use Rattle.command_line.specs.declared.job.Task.{Task}
 use Rattle.command_line.specs.declared.job.Task.TheVariants.{Serve, Check, Sample, Save, Load}
@@ -109,11 +110,25 @@ pub record IsUse (rows : List Row) (mode : Mode) (task : Task) : Type 0 where
   pub used : IsMode rows mode
   pub done : IsTask rows task
 
+-- something is given besides `--aside`, `--cap`, `--extend` and the file
+abbrev pub goes_without_base : List Row → Bool
+goes_without_base rows = is_given (codes "read") rows || (is_flagged rows || (is_some (first_of (codes "sample") rows) || is_some (first_of (codes "count") rows)))
+
+-- the base that is named, be its name empty or not
+abbrev pub name_of : Option Buffer → Option (List ℕ)
+name_of aside = option_map (λ name. name.bytes) aside
+
+-- `--aside` goes with `--cap` and `--extend` alone
+pub record IsAside (rows : List Row) (aside : Option Buffer) : Type 0 where
+  pub named : name_of aside ≡ first_of (codes "aside") rows
+  pub alone : is_some (first_of (codes "aside") rows) ≡ true → goes_without_base rows ≡ false
+
 -- what was found asks for this job
 pub record Asks (rows : List Row) (job : Job) : Type 0 where
   pub file : IsFile rows job.file.bytes
   pub cap : IsCap rows job.cap
   pub options : IsUse rows job.mode job.task
+  pub aside : IsAside rows job.aside
 
 -- two jobs ask for one thing; their texts may have other room
 pub record IsSameJob (one other : Job) : Type 0 where
@@ -121,6 +136,7 @@ pub record IsSameJob (one other : Job) : Type 0 where
   pub mode : one.mode ≡ other.mode
   pub cap : one.cap ≡ other.cap
   pub task : one.task ≡ other.task
+  pub aside : name_of one.aside ≡ name_of other.aside
 
 -- lines are answered over a store in this file, and nothing else is asked for
 pub record IsServed (name : List ℕ) (job : Job) : Type 0 where
@@ -128,3 +144,4 @@ pub record IsServed (name : List ℕ) (job : Job) : Type 0 where
   pub mode : job.mode ≡ Write
   pub cap : job.cap ≡ most_cap
   pub task : job.task ≡ Serve
+  pub alone : job.aside ≡ None

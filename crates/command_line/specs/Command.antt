@@ -18,7 +18,7 @@ required_rule name = record (new_rule name) { required = true; action = Some Set
 
 abbrev pub rules : List Rule
 rules = option_rule (codes "cap") ∷ flag_rule (codes "extend") ∷ flag_rule (codes "read") ∷ flag_rule (codes "check")
-    ∷ option_rule (codes "sample") ∷ option_rule (codes "count") ∷ flag_rule (codes "save") ∷ flag_rule (codes "load") ∷ required_rule (codes "file") ∷ []
+    ∷ option_rule (codes "sample") ∷ option_rule (codes "count") ∷ flag_rule (codes "save") ∷ flag_rule (codes "load") ∷ option_rule (codes "aside") ∷ required_rule (codes "file") ∷ []
 
 -- no subcommand, no short option, and nothing that excludes or requires another
 unfoldable pub the_command : App

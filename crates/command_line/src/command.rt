@@ -22,6 +22,8 @@ pub(crate) const SAVE: &str = "save";
 
 pub(crate) const LOAD: &str = "load";
 
+pub(crate) const ASIDE: &str = "aside";
+
 pub(crate) const FILE: &str = "file";
 
 /// The one command that words are read as.
@@ -37,6 +39,7 @@ pub(crate) fn command<'a>(alloc: Global) -> Result<Command<'a>, AllocError>
         .arg(option(alloc, COUNT))?
         .arg(flag(alloc, SAVE))?
         .arg(flag(alloc, LOAD))?
+        .arg(option(alloc, ASIDE))?
         .arg(word(alloc, FILE))
 }
 

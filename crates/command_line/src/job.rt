@@ -6,6 +6,8 @@ use storage::Mode;
 pub struct Job {
     /// The name of the file, which is not empty.
     pub file: Text,
+    /// The name of the base that is served, where the file is an aside file.
+    pub aside: Option<Text>,
     /// How its store is used.
     pub mode: Mode,
     /// Where a commit may end at most: 208 to 2147483632.

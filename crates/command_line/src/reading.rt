@@ -1,15 +1,15 @@
-ghost use Rattle.std.specs.Prelude.{◌≡◌, ℕ, List, Err, None, IfOk, IsErr, IfSome, IfNone, codes};
+ghost use Rattle.std.specs.Prelude.{◌≡◌, ◌↔◌, ℕ, List, Err, None, true, false, IfOk, IsErr, IsTrue, IfSome, IfNone, codes, is_some};
 ghost use Rattle.clap.specs.Walk.{first_of};
-ghost use Rattle.command_line.specs.Asking.{Asks, IsCap, IsFile, IsMode, IsTask, IsUse, MeansSample, MeansTask, flagged_task, found_rows, is_flagged, is_given, looks};
+ghost use Rattle.command_line.specs.Asking.{Asks, IsCap, IsFile, IsMode, IsTask, IsUse, MeansSample, MeansTask, flagged_task, found_rows, goes_without_base, is_flagged, is_given, looks, name_of};
 ghost use Rattle.command_line.specs.Words.{AsksFor, AsksForSome, texts_of};
 
-use crate::command::{CAP, CHECK, COUNT, EXTEND, FILE, LOAD, READ, SAMPLE, SAVE, command};
+use crate::command::{ASIDE, CAP, CHECK, COUNT, EXTEND, FILE, LOAD, READ, SAMPLE, SAVE, command};
 use crate::error::WordsError;
 use crate::job::{Job, Task};
 use crate::number::number_of;
 use clap::ArgMatches;
 use clap::parser::ValueSource;
-use mk_value::Text;
+use mk_value::{Memory, Text};
 use std::alloc::Global;
 use storage::Mode;
 
@@ -50,8 +50,12 @@ fn job_of(alloc: Global, matches: &ArgMatches<'_>) -> Result<Job, WordsError>
     let Some((mode, task)) = use_of(matches) else {
         return Err(WordsError::Usage);
     };
+    if !goes_with_aside(matches) {
+        return Err(WordsError::Usage);
+    }
     Ok(Job {
         file: Text::from_str(alloc, file)?,
+        aside: aside_of(alloc, matches)?,
         mode,
         cap,
         task,
@@ -65,6 +69,40 @@ fn file_of<'a>(matches: &ArgMatches<'a>) -> Option<&'a str>
 {
     let file = matches.get_str(FILE)?;
     if file.is_empty() { None } else { Some(file) }
+}
+
+/// The name of the base, where one is given.
+fn aside_of(alloc: Global, matches: &ArgMatches<'_>) -> Result<Option<Text>, Memory>
+    ensures { IfOk result (λ aside. name_of aside ≡ first_of (codes "aside") (found_rows matches.now)) }
+{
+    match matches.get_str(ASIDE) {
+        Some(name) => Ok(Some(Text::from_str(alloc, name)?)),
+        None => Ok(None),
+    }
+}
+
+/// Whether no base is named, or all that is given goes with one.
+fn goes_with_aside(matches: &ArgMatches<'_>) -> bool
+    ensures { IsTrue result ↔ (is_some (first_of (codes "aside") (found_rows matches.now)) ≡ true → goes_without_base (found_rows matches.now) ≡ false) }
+{
+    !has_value(matches, ASIDE) || !goes_without_base(matches)
+}
+
+/// Whether something is given besides `--aside`, `--cap`, `--extend` and the file.
+fn goes_without_base(matches: &ArgMatches<'_>) -> bool
+    ensures { result ≡ goes_without_base (found_rows matches.now) }
+{
+    is_given(matches, READ)
+        || is_flagged(matches)
+        || has_value(matches, SAMPLE)
+        || has_value(matches, COUNT)
+}
+
+/// Whether an option is given with a value.
+fn has_value(matches: &ArgMatches<'_>, name: &str) -> bool
+    ensures { result ≡ is_some (first_of name.now (found_rows matches.now)) }
+{
+    matches.get_str(name).is_some()
 }
 
 /// The cap that is given, or meant.

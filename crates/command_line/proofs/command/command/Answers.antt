@@ -16,4 +16,5 @@ returns c =
     let six = c.in_ok-arg-6.ensures.shape c.option-3.ensures.local ∙ ap₂ with_rule five c.option-3.ensures.rule in
     let seven = c.in_ok-arg-7.ensures.shape c.flag-4.ensures.local ∙ ap₂ with_rule six c.flag-4.ensures.rule in
     let eight = c.in_ok-arg-8.ensures.shape c.flag-5.ensures.local ∙ ap₂ with_rule seven c.flag-5.ensures.rule in
-    IfOk-weaker c.arg-9.result _ _ (λ whole added. added.shape c.word.ensures.local ∙ ap₂ with_rule eight c.word.ensures.rule) c.arg-9.ensures
+    let nine = c.in_ok-arg-9.ensures.shape c.option-4.ensures.local ∙ ap₂ with_rule eight c.option-4.ensures.rule in
+    IfOk-weaker c.arg-10.result _ _ (λ whole added. added.shape c.word.ensures.local ∙ ap₂ with_rule nine c.word.ensures.rule) c.arg-10.ensures
