@@ -8,17 +8,19 @@ from dataclasses import dataclass, field
 
 @dataclass
 class Disk:
-    """The file as it is read, as it was at the last sync, and the ranges that were written since. A file that is not there is None."""
+    """The file as it is read, as it was at the last sync, and the ranges that were written since. A file that is not there is None. What other file a
+    run has is named beside it: each sync of no file is one of the folder."""
     name: str
     seen: bytearray = None
     synced: bytes = None
     pending: list = field(default_factory=list)
     named: bool = False
+    beside: str = None
 
     @staticmethod
-    def of(name, before):
+    def of(name, before, beside=None):
         """A file that a run finds, and that has outlasted all before; None: there is none."""
-        return Disk(name) if before is None else Disk(name, bytearray(before), bytes(before), named=True)
+        return Disk(name, beside=beside) if before is None else Disk(name, bytearray(before), bytes(before), named=True, beside=beside)
 
     def carry_out(self, call):
         word, *rest = call.words.split(" ")
@@ -32,7 +34,7 @@ class Disk:
             self.pending.append((call.place, call.moved))
         elif word == "sync" and rest[0] == self.name:
             self.synced, self.pending = bytes(self.seen), []
-        elif word == "sync" and self.seen is not None:
+        elif word == "sync" and rest[0] != self.beside and self.seen is not None:
             self.named = True
 
     def with_written(self, written):

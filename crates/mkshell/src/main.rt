@@ -1,4 +1,5 @@
-//! `mkshell FILE`: takes lines from standard input, and says the replies on standard output.
+//! `mkshell FILE`: takes lines from standard input, and says the replies on standard output. With `--aside BASE` a second file is served, and
+//! never written.
 #![tactic(auto)]
 
 ghost use Rattle.std.specs.Prelude.{◌≡◌, ◌∷◌, []};
@@ -8,9 +9,10 @@ ghost use Rattle.viewers.specs.Laws.{AreArguments, gives};
 mod host;
 mod stock;
 
+use aside_run::run_over;
 use host::RealHost;
 use mk_value::{Memory, Row};
-use shell::{Status, run};
+use shell::Status;
 use std::io::ErrorKind;
 use std::process::ExitCode;
 use std::{env, io};
@@ -68,5 +70,6 @@ fn serve(rt: &HostRuntime, words: &[&str]) -> Result<Status, Memory> {
     viewers.push(StoredViewer::new(name("twice"), Law::Twice, one_number(alloc)?, doubles))?;
     viewers.push(StoredViewer::new(name("sum"), Law::Sum, two_numbers(alloc)?, sums))?;
     let mut host = RealHost::new(*rt);
-    Ok(run(alloc, words, &viewers, &mut host))
+    let mut base = RealHost::new(*rt);
+    Ok(run_over(alloc, words, &viewers, &mut host, &mut base))
 }

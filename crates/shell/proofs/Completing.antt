@@ -1,7 +1,8 @@
 -- A run in which nothing goes wrong is done, or wanted memory.
-use Rattle.std.proofs.Common.{◌≡◌, ◌≢◌, ℕ, ◌≤◌, ◌⊎◌, false, List, [], ◌∷◌, ◌++◌, length, length-append, append-nil, refl, ap, sym, subst, ◌∙◌, inl, inr, Result, Ok, Err, arith}
-use Rattle.command_line.specs.Asking.{IsSameJob}
-use Rattle.command_line.specs.Words.{AsksFor}
+use Rattle.std.proofs.Common.{◌≡◌, ◌≢◌, ℕ, ◌≤◌, ◌⊎◌, false, List, [], ◌∷◌, ◌++◌, length, length-append, append-nil, refl, ap, sym, subst, ◌∙◌, inl, inr, Option, Some, None, Result, Ok, Err, arith}
+use Rattle.std.proofs.lemmas.Option.{none-some}
+use Rattle.command_line.specs.Asking.{IsSameJob, name_of}
+use Rattle.command_line.specs.Words.{AsksFor, AsksForPlain}
 use Rattle.command_line.specs.declared.job.Job.{Job}
 use Rattle.command_line.specs.declared.job.Task.{Task}
 use Rattle.command_line.specs.declared.job.Task.TheVariants.{Serve, Check, Sample, Save, Load}
@@ -11,6 +12,7 @@ use Rattle.host_io.proofs.Faults.{Rose-last}
 use Rattle.lines.specs.Lines.{max_budget}
 use Rattle.lines.specs.Machine.{State}
 use Rattle.lines.specs.Served.{state_of}
+use Rattle.mk_value.specs.Buffer.{Buffer}
 use Rattle.recovery.proofs.Undamaged.{no_cause}
 use Rattle.recovery.specs.Commits.{Commit}
 use Rattle.recovery.specs.Standing.{StandsFor}
@@ -38,16 +40,19 @@ use Rattle.shell.specs.Complete.{AnswersWell, AreSampleAnswered}
 use Rattle.shell.specs.Faults.{IsFault, fault_of_load}
 use Rattle.shell.specs.Ran.{GoesWell, IsSampleLine, MayOpen, MayTake, Ran, RanAs, RefusesInput}
 use Rattle.shell.specs.declared.fault.FileFault.{FileFault}
-use Rattle.shell.specs.declared.fault.FileFault.TheVariants.{Empty, NotEmpty, NotAStore, Damaged, BadStream, Full}
+use Rattle.shell.specs.declared.fault.FileFault.TheVariants.{Empty, NotEmpty, NotAStore, Damaged, BadStream, Full, BadBase, NoAside, OtherBase}
 use Rattle.shell.specs.declared.status.Status.{Status}
 use Rattle.shell.specs.declared.status.Status.TheVariants.{Done, Usage, Refused, TakeFault, SayFault, Memory, TooMuch, DiskFault}
 
 -- a file that stands for a commit has no fault
-stands_well : (mode : Mode) (file : List ℕ) (c : Commit) (fault : FileFault) → StandsFor file c → IsFault mode file fault → ⊥
+pub stands_well : (mode : Mode) (file : List ℕ) (c : Commit) (fault : FileFault) → StandsFor file c → IsFault mode file fault → ⊥
 stands_well mode file c Empty stands cause = let long = stands.3.headed.long in let none = ap length cause.1 in absurd (omega (arith, long, none))
 stands_well mode file c NotEmpty stands cause = cause
 stands_well mode file c (BadStream place) stands cause = cause
 stands_well mode file c (Full end cap) stands cause = cause
+stands_well mode file c BadBase stands cause = cause
+stands_well mode file c (NoAside place) stands cause = cause
+stands_well mode file c (OtherBase kept given) stands cause = cause
 stands_well mode file c NotAStore stands cause = elim (no_cause file c opening.NotAStore stands cause.1) [
   | inl e ↦ let f : ◌≡◌ {A = OpenError} opening.NotAStore opening.Failed = e in cc
   | inr e ↦ let f : ◌≡◌ {A = OpenError} opening.NotAStore opening.Memory = e in cc
@@ -62,6 +67,9 @@ empty_well mode file Empty none writes cause = writes cause.0
 empty_well mode file NotEmpty none writes cause = cause
 empty_well mode file (BadStream place) none writes cause = cause
 empty_well mode file (Full end cap) none writes cause = cause
+empty_well mode file BadBase none writes cause = cause
+empty_well mode file (NoAside place) none writes cause = cause
+empty_well mode file (OtherBase kept given) none writes cause = cause
 empty_well mode file NotAStore none writes cause = cause.0 none
 empty_well mode file (Damaged place) none writes cause = cause.0 none
 
@@ -113,7 +121,7 @@ opens_well laws viewers Load mode cap old new empty may (inl some) = some.0 empt
 opens_well laws viewers Load mode cap old new empty may (inr refused) = refused_well laws cap old new may refused
 
 -- the budget was not passed
-within_budget : (viewers : List Meaning) (task : Task) (mode : Mode) (cap : ℕ) (old new : Outside) → length old.input ≤ max_budget → RanAs viewers task mode cap TooMuch old new → ⊥
+pub within_budget : (viewers : List Meaning) (task : Task) (mode : Mode) (cap : ℕ) (old new : Outside) → length old.input ≤ max_budget → RanAs viewers task mode cap TooMuch old new → ⊥
 within_budget viewers Check mode cap old new short ran = ran
 within_budget viewers (Sample number edits) mode cap old new short ran = ran
 within_budget viewers Save mode cap old new short ran = ran
@@ -139,7 +147,7 @@ pub completes : StreamLaws → (viewers : List Meaning) (words : List (List ℕ)
     → (status ≡ DiskFault → Rose old.disk_faults new.disk_faults) → GoesWell words old new → (status ≡ Done) ⊎ (status ≡ Memory)
 completes laws viewers words Done old new one ran takes says disk well = inl refl
 completes laws viewers words Memory old new one ran takes says disk well = inr refl
-completes laws viewers words Usage old new one ran takes says disk well = absurd (ran.0 (well.job, well.right))
+completes laws viewers words Usage old new one ran takes says disk well = absurd (ran.0 (well.job, well.right, well.plain))
 completes laws viewers words TakeFault old new one ran takes says disk well = absurd (well.takes (takes refl))
 completes laws viewers words SayFault old new one ran takes says disk well = absurd (well.says (says refl))
 completes laws viewers words DiskFault old new one ran takes says disk well = absurd (well.disk (disk refl))
@@ -150,16 +158,20 @@ completes laws viewers words Refused old new one ran takes says disk well =
     (subst (λ (n : ℕ). MayTake ran.job.task n old.input) same.cap (subst (λ (t : Task). MayTake t well.job.cap old.input) same.task well.comes)) ran.ran)
 completes laws viewers words TooMuch old new one ran takes says disk well = absurd (within_budget viewers ran.job.task ran.job.mode ran.job.cap old new well.short ran.ran)
 
+-- words that name a base ask for no job without one
+pub names_base : (words : List (List ℕ)) (job : Job) (base : Buffer) → ((one other : Job) → AsksFor words one → AsksFor words other → IsSameJob one other) → AsksFor words job → job.aside ≡ Some base → ¬ AsksForPlain words
+names_base words job base one asks some (other, asks_too, none) = none-some base.bytes (sym (ap name_of none) ∙ sym (one job other asks asks_too).aside ∙ ap name_of some)
+
 -- what came of a job, by its status
-pub ran_job : (viewers : List Meaning) (words : List (List ℕ)) (job : Job) (status : Status) (old new : Outside) → AsksFor words job → status ≢ Usage → RanAs viewers job.task job.mode job.cap status old new → Ran viewers words status old new
-ran_job viewers words job Usage old new asks right ran = absurd (right refl)
-ran_job viewers words job Memory old new asks right ran = inr (record { job = job; asks = asks; ran = ran })
-ran_job viewers words job Done old new asks right ran = record { job = job; asks = asks; ran = ran }
-ran_job viewers words job Refused old new asks right ran = record { job = job; asks = asks; ran = ran }
-ran_job viewers words job TakeFault old new asks right ran = record { job = job; asks = asks; ran = ran }
-ran_job viewers words job SayFault old new asks right ran = record { job = job; asks = asks; ran = ran }
-ran_job viewers words job TooMuch old new asks right ran = record { job = job; asks = asks; ran = ran }
-ran_job viewers words job DiskFault old new asks right ran = record { job = job; asks = asks; ran = ran }
+pub ran_job : (viewers : List Meaning) (words : List (List ℕ)) (job : Job) (status : Status) (old new : Outside) → AsksFor words job → job.aside ≡ None → status ≢ Usage → RanAs viewers job.task job.mode job.cap status old new → Ran viewers words status old new
+ran_job viewers words job Usage old new asks plain right ran = absurd (right refl)
+ran_job viewers words job Memory old new asks plain right ran = inr (record { job = job; asks = asks; plain = plain; ran = ran })
+ran_job viewers words job Done old new asks plain right ran = record { job = job; asks = asks; plain = plain; ran = ran }
+ran_job viewers words job Refused old new asks plain right ran = record { job = job; asks = asks; plain = plain; ran = ran }
+ran_job viewers words job TakeFault old new asks plain right ran = record { job = job; asks = asks; plain = plain; ran = ran }
+ran_job viewers words job SayFault old new asks plain right ran = record { job = job; asks = asks; plain = plain; ran = ran }
+ran_job viewers words job TooMuch old new asks plain right ran = record { job = job; asks = asks; plain = plain; ran = ran }
+ran_job viewers words job DiskFault old new asks plain right ran = record { job = job; asks = asks; plain = plain; ran = ran }
 
 -- a store that was made or opened is not shut
 started_unshut : (mode : Mode) (cap : ℕ) (file : List ℕ) (state : State World) → StartsAs mode cap file state → is_shut state.world.store ≡ false

@@ -8,7 +8,7 @@ use Rattle.storage.specs.declared.mode.Mode.TheVariants.{Read}
 use Rattle.streaming.specs.declared.error.LoadFault.{LoadFault}
 use Rattle.streaming.specs.declared.error.LoadFault.TheVariants as load_fault
 use Rattle.shell.specs.declared.fault.FileFault.{FileFault}
-use Rattle.shell.specs.declared.fault.FileFault.TheVariants.{Empty, NotEmpty, NotAStore, Damaged, BadStream, Full}
+use Rattle.shell.specs.declared.fault.FileFault.TheVariants.{Empty, NotEmpty, NotAStore, Damaged, BadStream, Full, BadBase, NoAside, OtherBase}
 use Rattle.shell.specs.declared.status.Status.{Status}
 use Rattle.shell.specs.declared.status.Status.TheVariants as status
 
@@ -30,11 +30,15 @@ fault_of_load load_fault.DiskFailed = Err status.DiskFault
 fault_of_load load_fault.Memory = Err status.Memory
 
 -- The bytes of the file are why it is not opened: it is empty and only read, or it is not empty and stands for no commit. A file that is
--- not empty is refused where a store is to be made in it, and that, and a stream of which none is made, is said there alone.
+-- not empty is refused where a store is to be made in it, and that, and a stream of which none is made, is said there alone; so is what is
+-- said of a base and its aside file, where there is one.
 abbrev pub IsFault : Mode → List ℕ → FileFault → Type 0
 IsFault mode file Empty = (mode ≡ Read) × (file ≡ [])
 IsFault mode file NotEmpty = ⊥
 IsFault mode file (BadStream place) = ⊥
 IsFault mode file (Full end cap) = ⊥
+IsFault mode file BadBase = ⊥
+IsFault mode file (NoAside place) = ⊥
+IsFault mode file (OtherBase kept given) = ⊥
 IsFault mode file NotAStore = (file ≢ []) × IsNoStore file
 IsFault mode file (Damaged place) = (file ≢ []) × IsDamagedAt file place

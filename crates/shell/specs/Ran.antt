@@ -1,6 +1,6 @@
 -- What each status of a run says of the bytes taken and said, and of what a crash would have left.
-use Rattle.std.specs.Prelude.{◌≡◌, ◌≢◌, ℕ, ◌+◌, ◌<◌, ◌≤◌, List, [], length, ◌⊎◌, Ok, Err, codes}
-use Rattle.command_line.specs.Words.{AsksFor, AsksForSome}
+use Rattle.std.specs.Prelude.{◌≡◌, ◌≢◌, ℕ, ◌+◌, ◌<◌, ◌≤◌, List, [], length, ◌⊎◌, None, Ok, Err, codes}
+use Rattle.command_line.specs.Words.{AsksFor, AsksForPlain}
 use Rattle.command_line.specs.declared.job.Job.{Job}
 use Rattle.command_line.specs.declared.job.Task.{Task}
 use Rattle.command_line.specs.declared.job.Task.TheVariants.{Serve, Check, Sample, Save, Load}
@@ -250,15 +250,17 @@ RanAs viewers (Sample number edits) mode cap status old new = RanSampling viewer
 RanAs viewers Save mode cap status old new = RanSaving status old new
 RanAs viewers Load mode cap status old new = RanLoading cap status old new
 
--- the words ask for a job, and this is what came of it
+-- the words ask for a job and name no base, and this is what came of it
 pub record RanFor (viewers : List Meaning) (words : List (List ℕ)) (status : Status) (old new : Outside) : Type 0 where
   pub job : Job
   pub asks : AsksFor words job
+  pub plain : job.aside ≡ None
   pub ran : RanAs viewers job.task job.mode job.cap status old new
 
--- Where memory is wanting nothing is said, whatever the words: nothing was done, or an input had been taken of which a store is made.
+-- Words that name a base ask for nothing here. Where memory is wanting nothing is said, whatever the words: nothing was done, or an input had
+-- been taken of which a store is made.
 abbrev pub Ran : List Meaning → List (List ℕ) → Status → Outside → Outside → Type 0
-Ran viewers words Usage old new = (¬ AsksForSome words) × SaysOnly usage_line old new
+Ran viewers words Usage old new = (¬ AsksForPlain words) × SaysOnly usage_line old new
 Ran viewers words Memory old new = IsSilent old new ⊎ RanFor viewers words Memory old new
 Ran viewers words Refused old new = RanFor viewers words Refused old new
 Ran viewers words DiskFault old new = RanFor viewers words DiskFault old new
@@ -294,6 +296,7 @@ IsWritten Load mode = Unit {0}
 pub record GoesWell (words : List (List ℕ)) (old new : Outside) : Type 0 where
   pub job : Job
   pub right : AsksFor words job
+  pub plain : job.aside ≡ None
   pub opens : MayOpen job.task job.mode old.now.disk.seen
   pub comes : MayTake job.task job.cap old.input
   pub disk : ¬ Rose old.disk_faults new.disk_faults

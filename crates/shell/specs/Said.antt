@@ -5,11 +5,12 @@ use Rattle.host_io.specs.Calls.{Rose}
 use Rattle.lines.specs.Lines.{newline}
 use Rattle.lines.specs.Spoken.{IsSaying}
 use Rattle.storage.specs.declared.space.Report.{Report}
+use Rattle.aside_disk.specs.declared.error.BaseRecord.{BaseRecord}
 use Rattle.shell.specs.declared.fault.FileFault.{FileFault}
-use Rattle.shell.specs.declared.fault.FileFault.TheVariants.{Empty, NotEmpty, NotAStore, Damaged, BadStream, Full}
+use Rattle.shell.specs.declared.fault.FileFault.TheVariants.{Empty, NotEmpty, NotAStore, Damaged, BadStream, Full, BadBase, NoAside, OtherBase}
 
 abbrev pub usage_line : List ℕ
-usage_line = codes "usage mkshell [--cap N] [--extend] [--read] [--check] [--sample X --count N] [--save] [--load] FILE" ++ newline ∷ []
+usage_line = codes "usage mkshell [--cap N] [--extend] [--read] [--check] [--sample X --count N] [--save] [--load] [--aside BASE] FILE" ++ newline ∷ []
 
 -- numbers, each behind a space
 abbrev pub spaced : List ℕ → List ℕ
@@ -20,6 +21,10 @@ spaced (number ∷ numbers) = codes " " ++ (decimal number ++ spaced numbers)
 abbrev pub full_line : ℕ → ℕ → List ℕ
 full_line end cap = codes "refused full" ++ (spaced (end ∷ cap ∷ []) ++ newline ∷ [])
 
+-- an aside file of another base: what it keeps of that one, and what was given
+abbrev pub other_base_line : BaseRecord → BaseRecord → List ℕ
+other_base_line kept given = codes "refused otherbase" ++ (spaced (kept.length ∷ kept.number ∷ given.length ∷ given.number ∷ []) ++ newline ∷ [])
+
 -- why a file is not served
 abbrev pub fault_line : FileFault → List ℕ
 fault_line Empty = codes "refused empty" ++ newline ∷ []
@@ -28,6 +33,9 @@ fault_line NotAStore = codes "refused notastore" ++ newline ∷ []
 fault_line (Damaged place) = codes "refused damaged " ++ (decimal place ++ newline ∷ [])
 fault_line (BadStream place) = codes "refused badstream " ++ (decimal place ++ newline ∷ [])
 fault_line (Full end cap) = full_line end cap
+fault_line BadBase = codes "refused badbase" ++ newline ∷ []
+fault_line (NoAside place) = codes "refused aside " ++ (decimal place ++ newline ∷ [])
+fault_line (OtherBase kept given) = other_base_line kept given
 
 -- the greeting names the number of the commit that was opened
 abbrev pub greeting_line : ℕ → List ℕ

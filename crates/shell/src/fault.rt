@@ -2,6 +2,7 @@ ghost use Rattle.std.specs.Prelude.{◌≡◌, Err, Ok};
 ghost use Rattle.shell.specs.Faults.{fault_of, fault_of_load};
 
 use crate::status::Status;
+use aside_disk::BaseRecord;
 use session::StartError;
 use streaming::LoadFault;
 
@@ -20,6 +21,12 @@ pub enum FileFault {
     BadStream(u64),
     /// The store that was to be made would end here, past its cap, which comes second.
     Full(u64, u64),
+    /// The base is empty, or stands for nothing.
+    BadBase,
+    /// It is no aside file, by what stands at this byte.
+    NoAside(u64),
+    /// It is the aside file of another base: what it keeps of that one, and what it would keep of the given one.
+    OtherBase(BaseRecord, BaseRecord),
 }
 
 /// Why a file is not served, or else the status of a run in which its store was not opened.

@@ -22,6 +22,8 @@ mod status;
 
 pub use fault::FileFault;
 pub use laws::runs_are_answered;
-pub use running::run;
+pub use refusing::refuse;
+pub use rooms::Rooms;
+pub use running::{run, serve_file};
 pub use serving::serve;
 pub use status::Status;

@@ -1,9 +1,10 @@
 //! The lines that the program says by itself. Each fits the room of a reply.
 ghost use Rattle.std.specs.Prelude.{◌≡◌, ◌≤◌, ◌+◌, ◌++◌, ◌∷◌, [], codes, decimal, length};
 ghost use Rattle.lines.specs.Lines.{newline};
-ghost use Rattle.shell.specs.Said.{check_line, fault_line, full_line, greeting_line, load_line, sample_line, spaced};
+ghost use Rattle.shell.specs.Said.{check_line, fault_line, full_line, greeting_line, load_line, other_base_line, sample_line, spaced};
 
 use crate::fault::FileFault;
+use aside_disk::BaseRecord;
 use mk_value::Text;
 use storage::Report;
 
@@ -33,6 +34,9 @@ pub(crate) fn write_fault(fault: FileFault, out: &mut Text)
         FileFault::Damaged(place) => write_damage(place, out),
         FileFault::BadStream(place) => write_bad_stream(place, out),
         FileFault::Full(end, cap) => write_full(end, cap, out),
+        FileFault::BadBase => append("refused badbase\n", out),
+        FileFault::NoAside(place) => write_no_aside(place, out),
+        FileFault::OtherBase(kept, given) => write_other_base(kept, given, out),
     }
 }
 
@@ -61,6 +65,27 @@ fn write_full(end: u64, cap: u64, out: &mut Text)
     append("refused full", out);
     append_spaced(end, out);
     append_spaced(cap, out);
+    append("\n", out);
+}
+
+fn write_no_aside(place: u64, out: &mut Text)
+    requires { MAX_OWN_LINE ≤ out.old.spare }
+    ensures bytes { out.new.bytes ≡ out.old.bytes ++ fault_line (FileFault.NoAside place) }
+{
+    append("refused aside ", out);
+    append_number(place, out);
+    append("\n", out);
+}
+
+fn write_other_base(kept: BaseRecord, given: BaseRecord, out: &mut Text)
+    requires { MAX_OWN_LINE ≤ out.old.spare }
+    ensures bytes { out.new.bytes ≡ out.old.bytes ++ other_base_line kept given }
+{
+    append("refused otherbase", out);
+    append_spaced(kept.length, out);
+    append_spaced(kept.number, out);
+    append_spaced(given.length, out);
+    append_spaced(given.number, out);
     append("\n", out);
 }
 

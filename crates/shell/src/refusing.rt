@@ -11,7 +11,7 @@ use lines::say_all;
 use mk_value::Text;
 
 /// Says why a file is refused.
-pub(crate) fn refuse<H: Host>(fault: FileFault, out: &mut Text, host: &mut H) -> Status
+pub fn refuse<H: Host>(fault: FileFault, out: &mut Text, host: &mut H) -> Status
     requires { IsClear out.old }
     ensures status { result ≡ Status.Refused }
     ensures says { H.tells → SaysOnly (fault_line fault) (H.outside host.old) (H.outside host.new) }

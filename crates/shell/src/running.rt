@@ -1,5 +1,5 @@
 ghost use Rattle.std.specs.Prelude.{◌≡◌, ◌⊎◌, ◌≢◌, ◌<◌, ◌≤◌, ◌^◌, map, IfOk, OnOk};
-ghost use Rattle.command_line.specs.Words.{AsksForSome, texts_of};
+ghost use Rattle.command_line.specs.Words.{AsksForPlain, texts_of};
 ghost use Rattle.host_io.specs.Calls.{CountsDisk, CountsSay, Looks, Rose};
 ghost use Rattle.host_io.specs.Disk.{IsSettled};
 ghost use Rattle.host_io.specs.Outside.{Outside};
@@ -8,7 +8,7 @@ ghost use Rattle.lines.specs.Served.{state_of};
 ghost use Rattle.lines.specs.Spoken.{SaysAll};
 ghost use Rattle.session.specs.Disk.{IsSteady};
 ghost use Rattle.shell.specs.Ran.{GoesWell, IsServed, IsWritten, Ran, RanAs, RanFrom, RanServing};
-ghost use Rattle.shell.specs.Said.{greeting_line};
+ghost use Rattle.shell.specs.Said.{SaysOnly, greeting_line, usage_line};
 
 use crate::checking::check_file;
 use crate::fault::fault_of;
@@ -31,14 +31,14 @@ use viewers::Viewer;
 
 /// What is said where the words are no command line.
 const USAGE: &str =
-    "usage mkshell [--cap N] [--extend] [--read] [--check] [--sample X --count N] [--save] [--load] FILE\n";
+    "usage mkshell [--cap N] [--extend] [--read] [--check] [--sample X --count N] [--save] [--load] [--aside BASE] FILE\n";
 
 /// Runs the program. `words` are its own name, options and the name of a file, which is made where it is absent and may be written. The
 /// store of the file is opened, or made where the file is empty; its number is said, and the lines of the input are answered one by
 /// one; their expressions may ask the viewers, of which the first of a name is asked. With `--check` the file is looked at as a whole, and a report is said. A file that is neither empty nor a store is refused, and
 /// left as it is. With `--sample` a store is made in an empty file, the lines of a sample are answered in place of the input's, and one line is said of them; a file that is not empty is refused, and left as it is.
 /// With `--save` the stream of the file's store is said, and nothing else. With `--load` the input is taken to its end as a stream, a store is made
-/// of it in an empty file, and one line is said; a file that is not empty is refused, and left as it is.
+/// of it in an empty file, and one line is said; a file that is not empty is refused, and left as it is. Words that name a base ask for nothing here.
 ///
 /// All memory that serving takes for itself is taken before the file is attached.
 pub fn run<H: Host, V: Viewer>(alloc: Global, words: &[&str], viewers: &[V], host: &mut H) -> Status
@@ -46,8 +46,8 @@ pub fn run<H: Host, V: Viewer>(alloc: Global, words: &[&str], viewers: &[V], hos
     requires settled { H.tells → IsSettled (H.outside host.old).now.disk }
 
     ensures ran { H.tells → Ran (map V.meaning viewers.now) (texts_of words.now) result (H.outside host.old) (H.outside host.new) }
-    ensures usage { result ≡ Status.Usage → ¬ AsksForSome (texts_of words.now) }
-    ensures asks_for_none { (¬ AsksForSome (texts_of words.now)) → (result ≡ Status.Usage) ⊎ (result ≡ Status.Memory) }
+    ensures usage { result ≡ Status.Usage → ¬ AsksForPlain (texts_of words.now) }
+    ensures asks_for_none { (¬ AsksForPlain (texts_of words.now)) → (result ≡ Status.Usage) ⊎ (result ≡ Status.Memory) }
 
     // A fault is told only where one came.
     ensures take_fault { result ≡ Status.TakeFault → Rose (H.outside host.old).take_faults (H.outside host.new).take_faults }
@@ -66,13 +66,23 @@ pub fn run<H: Host, V: Viewer>(alloc: Global, words: &[&str], viewers: &[V], hos
     stream_codec::a_stream_is_whole();
     stream_codec::a_wrong_field_stays_wrong();
     match read_words(alloc, words) {
-        Ok(job) => run_job(alloc, &job, viewers, host),
-        Err(WordsError::Usage) => {
-            let _ = say_all(host, USAGE.as_bytes());
-            Status::Usage
-        }
+        Ok(job) => match job.aside {
+            None => run_job(alloc, &job, viewers, host),
+            Some(_) => say_usage(host),
+        },
+        Err(WordsError::Usage) => say_usage(host),
         Err(WordsError::Memory) => Status::Memory,
     }
+}
+
+/// Says what words are asked for.
+fn say_usage<H: Host>(host: &mut H) -> Status
+    ensures status { result ≡ Status.Usage }
+    ensures says { H.tells → SaysOnly usage_line (H.outside host.old) (H.outside host.new) }
+    ensures source { (H.outside host.new).source ≡ (H.outside host.old).source }
+{
+    let _ = say_all(host, USAGE.as_bytes());
+    Status::Usage
 }
 
 /// Does what the words ask for.
@@ -119,8 +129,8 @@ fn attach<H: Host>(job: &Job, host: &mut H) -> Result<(), Failed>
     host.attach(job.file.as_str(), job.mode != Mode::Read)
 }
 
-/// Opens the store of the file or makes one, greets, and answers the lines of the input.
-fn serve_file<H: Host, V: Viewer>(
+/// Opens the store of an attached file or makes one, greets, and answers the lines of the input. Nothing waits for a sync when it begins.
+pub fn serve_file<H: Host, V: Viewer>(
     alloc: Global,
     mode: Mode,
     cap: u64,

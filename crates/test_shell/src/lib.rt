@@ -5,6 +5,8 @@
 #![tactic(auto)]
 
 #[cfg(test)]
+mod asides;
+#[cfg(test)]
 mod commits;
 #[cfg(test)]
 mod echo;

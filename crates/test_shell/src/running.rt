@@ -32,7 +32,7 @@ const RIGHT: &[&str] = &["mkshell", "f"];
 const QUIT: &[u8] = b"quit\n";
 
 const USAGE: &[u8] =
-    b"usage mkshell [--cap N] [--extend] [--read] [--check] [--sample X --count N] [--save] [--load] FILE\n";
+    b"usage mkshell [--cap N] [--extend] [--read] [--check] [--sample X --count N] [--save] [--load] [--aside BASE] FILE\n";
 
 /// No call fails.
 const NEVER: u64 = u64::MAX;

@@ -6,7 +6,7 @@ ghost use Rattle.lines.specs.Lines.{max_budget};
 ghost use Rattle.lines.specs.Served.{state_of};
 ghost use Rattle.session.specs.Disk.{IsSteady};
 
-use host_io::{Fault, Host, MemHost};
+use host_io::{Disk, Fault, Host, MemHost};
 use lines::MAX_LINE;
 use mk_value::{Bytes, Memory, Text};
 use session::Session;
@@ -30,6 +30,20 @@ pub fn run<H: Host>(alloc: Global, words: &[&str], host: &mut H) -> Status
 {
     let viewers: [StoredViewer; 0] = [];
     shell::run(alloc, words, &viewers, host)
+}
+
+/// Runs the program, which may be asked to serve a base, where no viewer may be asked.
+pub fn run_over<H: Host, B: Disk>(
+    alloc: Global,
+    words: &[&str],
+    host: &mut H,
+    base: &mut B,
+) -> Status
+    requires { H.tells → IsSettled (H.outside host.old).now.disk }
+    requires base { B.tells → IsSettled (B.outside base.old).now.disk }
+{
+    let viewers: [StoredViewer; 0] = [];
+    aside_run::run_over(alloc, words, &viewers, host, base)
 }
 
 /// Serves lines, of so many bytes at most, in a session where no viewer may be asked.

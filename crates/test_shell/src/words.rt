@@ -119,7 +119,7 @@ static ASKED: [Asked; 31] = [
 ];
 
 /// Words behind the program's own name that ask for nothing.
-static ASK_NOTHING: [&[&str]; 75] = [
+static ASK_NOTHING: [&[&str]; 82] = [
     // No file, an empty name, and two files.
     &[],
     &["--read"],
@@ -197,6 +197,14 @@ static ASK_NOTHING: [&[&str]; 75] = [
     &["--save", "--save", "f"],
     &["--load=1", "f"],
     &["--load"],
+    // A base goes with `--cap` and `--extend` alone, is named once, and is not the file.
+    &["--aside", "b", "--read", "f"],
+    &["--aside", "b", "--check", "f"],
+    &["--aside", "b", "--save", "f"],
+    &["--aside", "b", "--load", "f"],
+    &["--aside", "b", "--sample", "1", "--count", "1", "f"],
+    &["--aside", "b", "--aside", "b", "f"],
+    &["--aside", "f"],
     // Help, the version, and options that are not there.
     &["--help", "f"],
     &["-h"],
@@ -226,6 +234,7 @@ fn holds(rt: &impl Abort, alloc: Global, own: &'static str, asked: &Asked) -> Re
     assert_eq!(rt; job.mode, mode, "{words:?}");
     assert_eq!(rt; job.cap, cap, "{words:?}");
     assert_eq!(rt; job.task, task, "{words:?}");
+    assert!(rt; job.aside.is_none(), "{words:?}");
     Ok(())
 }
 
@@ -233,6 +242,40 @@ fn holds(rt: &impl Abort, alloc: Global, own: &'static str, asked: &Asked) -> Re
 fn words_ask_for_a_job(rt: HostRuntime) -> Result<(), Fail> {
     for asked in &ASKED {
         holds(&rt, rt.alloc(), "mkshell", asked)?;
+    }
+    Ok(())
+}
+
+/// Words that name a base: the base, the file, how it is used and its cap.
+type Aside = (&'static [&'static str], &'static str, &'static str, Mode, u64);
+
+static ASIDE: [Aside; 5] = [
+    (&["--aside", "b", "f"], "b", "f", Mode::Write, MOST),
+    (&["--extend", "--aside", "b", "f"], "b", "f", Mode::Extend, MOST),
+    (&["f", "--aside=b", "--cap", "300"], "b", "f", Mode::Write, 300),
+    // Attaching a base without a name fails, and so does one that is the file.
+    (&["--aside", "", "f"], "", "f", Mode::Write, MOST),
+    (&["--aside", "f", "f"], "f", "f", Mode::Write, MOST),
+];
+
+fn names_base(rt: &impl Abort, alloc: Global, asked: &Aside) -> Result<(), Fail> {
+    let (words, base, file, mode, cap) = *asked;
+    let job = job_of(alloc, "mkshell", words)??;
+    assert_eq!(rt; job.file.as_str(), file, "{words:?}");
+    assert_eq!(rt; job.mode, mode, "{words:?}");
+    assert_eq!(rt; job.cap, cap, "{words:?}");
+    assert_eq!(rt; job.task, Task::Serve, "{words:?}");
+    match job.aside {
+        Some(name) => assert_eq!(rt; name.as_str(), base, "{words:?}"),
+        None => assert!(rt; false, "{words:?}"),
+    }
+    Ok(())
+}
+
+#[test]
+fn words_name_a_base(rt: HostRuntime) -> Result<(), Fail> {
+    for asked in &ASIDE {
+        names_base(&rt, rt.alloc(), asked)?;
     }
     Ok(())
 }
