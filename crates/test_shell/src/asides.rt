@@ -88,6 +88,15 @@ fn refuses(rt: &impl Abort, alloc: Global, base: &[u8], file: &[u8], said: &[u8]
     Ok(())
 }
 
+/// The bytes with another at this place.
+fn changed(alloc: Global, bytes: &[u8], at: usize, byte: u8) -> Result<Bytes, Memory> {
+    let mut out = Bytes::from_slice(alloc, bytes)?;
+    out.truncate(at);
+    out.push(byte)?;
+    out.push_slice(bytes.get(out.len()..).unwrap_or(b""))?;
+    Ok(out)
+}
+
 #[test]
 fn refusals_come_in_their_order(rt: HostRuntime) -> Result<(), Fail> {
     let alloc = rt.alloc();
@@ -105,8 +114,7 @@ fn refusals_come_in_their_order(rt: HostRuntime) -> Result<(), Fail> {
     let _ = run(alloc, &["mkshell", "f"], &mut other);
     refuses(&rt, alloc, other.image(), aside.as_slice(), b"refused otherbase 352 1 208 0\n")?;
     // Then the file for which the two stand: its directory says two views.
-    let mut damaged = Bytes::from_slice(alloc, aside.as_slice())?;
-    damaged.as_mut_slice()[336] = 2;
+    let damaged = changed(alloc, aside.as_slice(), 336, 2)?;
     refuses(&rt, alloc, base.as_slice(), damaged.as_slice(), b"refused damaged 438\n")
 }
 

@@ -39,7 +39,7 @@ pub fn run_over<H: Host, B: Disk>(
     host: &mut H,
     base: &mut B,
 ) -> Status
-    requires { H.tells → IsSettled (H.outside host.old).now.disk }
+    requires settled { H.tells → IsSettled (H.outside host.old).now.disk }
     requires base { B.tells → IsSettled (B.outside base.old).now.disk }
 {
     let viewers: [StoredViewer; 0] = [];
