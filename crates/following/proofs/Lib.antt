@@ -7,7 +7,9 @@ pub mod Listing
 pub mod Naming
 pub mod Numbering
 pub mod Placed
+pub mod Read
 pub mod Showing
+pub mod Sortings
 pub mod Shown
 pub mod Stepping
 pub mod Taken

@@ -16,9 +16,11 @@ ghost use Rattle.tables.specs.Tables.{StoredTable};
 ghost use Rattle.following.specs.Groups.{AreNumbered, Follows, IsPutBehind, IsPutOver, Stays, is_source};
 ghost use Rattle.following.specs.Keeping.{HasRoom, IsKeptOver, StandsAt, followed_of, shown_by};
 ghost use Rattle.following.specs.Refusals.{depths};
+ghost use Rattle.following.specs.Rows.{table_read};
 ghost use Rattle.following.specs.Watches.{Shown, is_among, op_found, place_of, shown_at, stands_over, without_place};
 
 use crate::following::Watched;
+use crate::rows::WatchRows;
 use derived::{Derived, pick};
 use followers::{check_watch, follow_line, put_watch, watch_positions};
 use live::{Out, WatchError, WatchOp, Watches};
@@ -211,6 +213,20 @@ impl Followed {
         let number = self.watches.number_at(self.place(name));
         let positions = watch_positions(alloc, &self.watches, number, rows)?;
         pick(alloc, rows.same()?, positions)
+    }
+
+    /// The rows of the first watch of the name, over those of the view, read where they stand there.
+    pub fn rows<'a>(&'a self, name: &Name, rows: &'a Shared) -> WatchRows<'a>
+        requires there { is_among (followed_of self.now).watches name.now ≡ true }
+        requires kept { IsKeptOver rows.now.schema rows.now.rows self.now }
+        ensures { table_read result ≡ shown_at (followed_of self.now).watches (place_of (followed_of self.now).watches name.now) rows.now }
+    {
+        let number = self.watches.number_at(self.place(name));
+        WatchRows {
+            watches: &self.watches,
+            number,
+            rows,
+        }
     }
 
     /// How many rows the first watch of the name has.

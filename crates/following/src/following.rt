@@ -12,12 +12,14 @@ ghost use Rattle.view_store.specs.Views.{NamedTable, table_of};
 ghost use Rattle.following.specs.Groups.{IsFirst};
 ghost use Rattle.following.specs.Keeping.{AreKept, AreKeptOver, ChangesRows, HaveRoom, IsWatchOf, Kept, StandsAt, followed, followed_of};
 ghost use Rattle.following.specs.Refusals.{depth_under, put_due};
+ghost use Rattle.following.specs.Rows.{table_read};
 ghost use Rattle.following.specs.Watches.{count, followed_by, has_over, is_among, is_watch as is_name_of_watch, is_watched as is_view_watched, op_of, rows_under, source_of, watch_table, watches_of, with_watch, without_watch};
 
 use crate::followed::Followed;
 use crate::listed::{
     at, count, find, find_view, follow_all, has_over, is_watch, is_watched, push, reserve_all,
 };
+use crate::rows::WatchRows;
 use crate::views::shared;
 use derived::Derived;
 use live::{WatchError, WatchOp, Watches};
@@ -212,6 +214,16 @@ impl Following {
     {
         let watches = &self.list[at(&self.list, name)];
         watches.table(name, shared(views, watches.view()))
+    }
+
+    /// The rows of the watch of a name, over those of its view, read where they stand there. It takes no memory.
+    pub fn rows<'a>(&'a self, name: &Name, views: &'a Root) -> WatchRows<'a>
+        requires there { is_name_of_watch (followed self.now) name.now ≡ true }
+        requires kept { AreKept views.now self.now }
+        ensures { watch_table views.now (followed self.now) name.now ≡ Some (table_read result) }
+    {
+        let watches = &self.list[at(&self.list, name)];
+        watches.rows(name, shared(views, watches.view()))
     }
 
     /// How many rows the watch of a name has. It takes no memory.

@@ -12,6 +12,8 @@ mod followed;
 mod following;
 mod laws;
 mod listed;
+mod reading;
+mod rows;
 mod views;
 
 pub use following::{Following, MAX_WATCHES, Watched};
@@ -19,4 +21,5 @@ pub use laws::{
     kept_is_in_step, kept_over_view, unwatched_lines_raise_nothing, unwatched_views_may_change,
     views_keep_watches, watches_follow_lines, watches_show_rows,
 };
+pub use rows::WatchRows;
 pub use views::view_of;

@@ -10,4 +10,5 @@ mod RowsUnder
 mod Runs
 mod Sizes
 mod Steps
+mod Watched
 pub mod Unordered

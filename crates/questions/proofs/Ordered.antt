@@ -108,7 +108,7 @@ module _ (n : Names) (viewers : List Meaning) (c : Computations) (route : Route)
 
 -- `search` of such a view
 pub search_sought : (n : Names) (viewers : List Meaning) (c : Computations) (q : Query) (t : StoredTable) (count : ℕ) (list : List Criterion) → IsInOrder n q t count
-    → search_due (asked_names n viewers c) n.watches n.mappings viewers q list ≡ sought (table_of t) count list
+    → search_due (asked_names n viewers c) n.watches n.mappings viewers q list ≡ sought (table_of t) (upwards count t.schema) list
 search_sought n viewers c q t count list is =
     let table = table_of t in
     let given : Query → Table → Result ℕ QuestionError = λ q t. unless_due (literals_due (map asked list) t.schema) (where_sorted n.watches n.mappings q list t (before_values n.watches n.mappings q list t)) in
@@ -120,7 +120,7 @@ search_sought n viewers c q t count list is =
 
 -- `locate` of such a view
 pub locate_placed : (n : Names) (viewers : List Meaning) (c : Computations) (q : Query) (t : StoredTable) (count : ℕ) (list : List Criterion) → IsInOrder n q t count
-    → locate_due (asked_names n viewers c) n.watches n.mappings viewers q list ≡ placed (table_of t) count list
+    → locate_due (asked_names n viewers c) n.watches n.mappings viewers q list ≡ placed (table_of t) (upwards count t.schema) list
 locate_placed n viewers c q t count list is =
     let table = table_of t in
     let given : Query → Table → Result Located QuestionError = λ q t. unless_due (literals_due (map asked list) t.schema) (where_sorted n.watches n.mappings q list t (located n.watches n.mappings q list t)) in
@@ -134,12 +134,12 @@ locate_placed n viewers c q t count list is =
     }) else Err Unsorted)) keys
 
 -- what is placed, by what was found of it
-pub placed_is : (t : StoredTable) (keys : ℕ) (list : List Criterion) (position count : ℕ) → literals_due (map asked list) t.schema ≡ None → begin list (upwards keys t.schema) ≡ true
-    → position ≡ rows_before t.schema (upwards keys t.schema) (values_of t.schema list) t.rows → count ≡ count_by (is_in_range t.schema (values_of t.schema list)) t.rows
-    → placed (table_of t) keys list ≡ Ok (record { position = position; count = count })
+pub placed_is : (t : Table) (keys : List Key) (list : List Criterion) (position count : ℕ) → literals_due (map asked list) t.schema ≡ None → begin list keys ≡ true
+    → position ≡ rows_before t.schema keys (values_of t.schema list) t.rows → count ≡ count_by (is_in_range t.schema (values_of t.schema list)) t.rows
+    → placed t keys list ≡ Ok (record { position = position; count = count })
 placed_is t keys list position count due first place_is count_is =
-    let all : Located = record { position = rows_before t.schema (upwards keys t.schema) (values_of t.schema list) t.rows; count = count_by (is_in_range t.schema (values_of t.schema list)) t.rows } in
-    ap (λ (d : Option DerivedError). unless_due d (if begin list (upwards keys t.schema) then Ok all else Err Unsorted)) due
+    let all : Located = record { position = rows_before t.schema keys (values_of t.schema list) t.rows; count = count_by (is_in_range t.schema (values_of t.schema list)) t.rows } in
+    ap (λ (d : Option DerivedError). unless_due d (if begin list keys then Ok all else Err Unsorted)) due
     ∙ ap (λ (b : Bool). if b then Ok all else Err Unsorted) first
     ∙ ap (λ (n : ℕ). Ok (record all { position = n })) (sym place_is)
     ∙ ap (λ (n : ℕ). Ok (record { position = position; count = n })) (sym count_is)

@@ -1,20 +1,24 @@
 //! Names that stand for tables: those of views, of snapshots and of watches.
-ghost use Rattle.std.specs.Prelude.{◌≡◌, ◌⊎◌, [], find, IfErr, IfOk, MatchOption, Some, None, Ok, Err, true};
+ghost use Rattle.std.specs.Prelude.{◌≡◌, ◌⊎◌, [], find, IfErr, IfOk, IfSome, MatchOption, Some, None, Ok, Err, true};
 ghost use Rattle.std.specs.Option.{is_some};
 ghost use Rattle.eval.specs.Names.{IsSeen, Named, view_at};
 ghost use Rattle.eval.specs.declared.error.NameError.TheVariants as name_error;
+ghost use Rattle.expr_text.specs.Meanings.{query_of};
 ghost use Rattle.following.specs.Keeping.{AreKept, followed};
+ghost use Rattle.following.specs.Rows.{table_read};
 ghost use Rattle.following.specs.Watches.{is_watch as is_name_of_watch};
 ghost use Rattle.mappings.specs.Keeping.{AreKept as AreMapped, mapped};
 ghost use Rattle.mk_value.specs.Names.{same_bytes};
 ghost use Rattle.view_store.specs.Views.{table_of as view_named};
+ghost use Rattle.questions.specs.InOrder.{IsWatchNamed};
 ghost use Rattle.questions.specs.Kept.{Kept, is_kept, stored, table_of, watched};
 
 use crate::snapshot::{Snapshot, is_snapshot};
 use crate::walk::inner_table;
 use derived::{Derived, leaf};
 use eval::{NameError, Names};
-use following::{Following, view_of};
+use expr_text::Expr;
+use following::{Following, WatchRows, view_of};
 use mappings::Mappings;
 use mk_value::{Name, Path, Same};
 use std::marker::Model;
@@ -162,6 +166,28 @@ impl<'a> Known<'a> {
             return Err(NameError::NoName);
         }
         Ok(self.watches.table(path.name(), self.views)?)
+    }
+
+    /// The rows of the watch that an expression names, if it names one, and neither a view nor a snapshot. It takes no memory.
+    pub(crate) fn watch_named(&self, expr: &Expr) -> Option<WatchRows<'a>>
+        ensures { IfSome result (λ rows. IsWatchNamed self.now (query_of expr.now) (table_read rows)) }
+    {
+        let Expr::Path(path) = expr else {
+            return None;
+        };
+        if !path.steps().is_empty() {
+            return None;
+        }
+        if self.is_stored(path.name()) {
+            return None;
+        }
+        if self.order_at(path).is_some() {
+            return None;
+        }
+        if !self.watches.is_watch(path.name()) {
+            return None;
+        }
+        Some(self.watches.rows(path.name(), self.views))
     }
 
     /// The table of the view or the snapshot of a name.

@@ -10,6 +10,7 @@ ghost use Rattle.questions.specs.Kept.{asked_names};
 ghost use Rattle.questions.specs.Places.{Tests, find_due, locate_due, search_due};
 
 use crate::error::{QuestionError, of_operator};
+use crate::in_order::{locate_among, search_among};
 use crate::scope::Scope;
 use crate::sorted::begin;
 use eval::criteria_asked;
@@ -69,8 +70,25 @@ impl<V: Viewer> Scope<'_, V> {
     {
         match self.names.in_order(expr) {
             Some(view) => view.search(alloc, criteria),
-            None => self.search_all(alloc, expr, criteria),
+            None => self.search_watch(alloc, expr, criteria),
         }
+    }
+
+    /// The same: of a watch by halving.
+    fn search_watch(
+        &self,
+        alloc: Global,
+        expr: &Expr,
+        criteria: &[Crit],
+    ) -> Result<u64, QuestionError>
+        requires { IsWhole (query_of expr.now) }
+        ensures { Answers (λ position. position) (search_due (asked_names self.now.names (map V.meaning self.now.viewers.now) self.now.computed.now) self.now.names.watches self.now.names.mappings (map V.meaning self.now.viewers.now) (query_of expr.now) criteria.now) result }
+    {
+        let Some(rows) = self.names.watch_named(expr) else {
+            return self.search_all(alloc, expr, criteria);
+        };
+        let keys = self.names.known_keys(alloc, expr, rows.schema())?;
+        search_among(alloc, &rows, keys.as_slice(), criteria)
     }
 
     /// The same, where it is not known that the rows stand in the order: those that come before the values are counted.
@@ -108,8 +126,25 @@ impl<V: Viewer> Scope<'_, V> {
     {
         match self.names.in_order(expr) {
             Some(view) => view.locate(alloc, criteria),
-            None => self.locate_all(alloc, expr, criteria),
+            None => self.locate_watch(alloc, expr, criteria),
         }
+    }
+
+    /// The same: of a watch by halving.
+    fn locate_watch(
+        &self,
+        alloc: Global,
+        expr: &Expr,
+        criteria: &[Crit],
+    ) -> Result<Located, QuestionError>
+        requires { IsWhole (query_of expr.now) }
+        ensures { Answers (λ located. located) (locate_due (asked_names self.now.names (map V.meaning self.now.viewers.now) self.now.computed.now) self.now.names.watches self.now.names.mappings (map V.meaning self.now.viewers.now) (query_of expr.now) criteria.now) result }
+    {
+        let Some(rows) = self.names.watch_named(expr) else {
+            return self.locate_all(alloc, expr, criteria);
+        };
+        let keys = self.names.known_keys(alloc, expr, rows.schema())?;
+        locate_among(alloc, &rows, keys.as_slice(), criteria)
     }
 
     /// The same, where it is not known that the rows stand in the order: all are looked at.

@@ -34,7 +34,7 @@ pub struct PrintedRows {
 }
 
 impl<V: Viewer> Scope<'_, V> {
-    /// The number of rows. Where the expression is a sorting, groups, counts or a join, none of its rows is made.
+    /// The number of rows. If the expression is a sorting, groups, counts or a join, none of its rows is made, and if it names a watch, none is looked at.
     ///
     /// # Errors
     ///
@@ -61,7 +61,10 @@ impl<V: Viewer> Scope<'_, V> {
         requires { IsWhole (query_of expr.now) }
         ensures { Answers (λ size. size) (size_due (asked_names self.now.names (map V.meaning self.now.viewers.now) self.now.computed.now) (map V.meaning self.now.viewers.now) (query_of expr.now)) result }
     {
-        Ok(self.unordered(alloc, expr)?.size() as u64)
+        match self.names.watch_named(expr) {
+            Some(rows) => Ok(rows.size() as u64),
+            None => Ok(self.unordered(alloc, expr)?.size() as u64),
+        }
     }
 
     /// The number of groups.

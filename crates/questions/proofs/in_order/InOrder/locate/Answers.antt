@@ -1,38 +1,7 @@
-use Rattle.std.proofs.Common.{◌≡◌, true, map, sym}
-use Rattle.std.specs.Prelude.{None, count_by}
-use Rattle.eval.specs.Values.{asked}
-use Rattle.relations.specs.Criteria.{is_in_range}
-use Rattle.relations.specs.Refusals.{literals_due}
-use Rattle.relations.specs.Searching.{rows_before}
-use Rattle.questions.specs.Places.{begin, upwards, values_of}
-use Rattle.questions.proofs.Ordered.{names_first, placed_is, stand_sorted, values_alone}
-use Rattle.questions.proofs.Runs.{values_run}
+use Rattle.questions.proofs.Ordered.{stand_sorted}
 use Rattle.questions.proofs.in_order.InOrder.locate.Goals as goal
 
-pub lower-position-requires-clause-named : goal.lower-position-requires-clause-named
-lower-position-requires-clause-named c =
-    rw (c.as_slice-3.ensures, c.as_slice-2.ensures, c.in_ok-values.ensures.1)
-    (names_first c.schema.result.now c.args.criteria.now c.in_ok-keys.keys (rw c.as_slice.ensures at (sym c.if-not-begin.ensures)))
-
-pub lower-position-requires-clause-ordered : goal.lower-position-requires-clause-ordered
-lower-position-requires-clause-ordered c =
-    rw (c.as_slice-2.ensures, c.in_ok-keys.ensures, c.schema-2.ensures.value)
+pub locate_among-requires : goal.locate_among-requires
+locate_among-requires c =
+    rw (c.as_slice.ensures, c.in_ok-keys.ensures, c.schema.ensures.value)
     (stand_sorted c.args.self.now.table.now c.args.self.now.keys c.schema.ensures.whole c.size-rows.ensures.whole c.requires)
-
-pub returns : goal.returns
-returns c =
-    let t = c.args.self.now.table.now in
-    let keys = upwards c.args.self.now.keys t.schema in
-    let list = c.args.criteria.now in
-    let values = values_of t.schema list in
-    let due : literals_due (map asked list) t.schema ≡ None = rw c.schema.ensures.value at c.in_ok-values.ensures.0 in
-    let first : begin list keys ≡ true = rw (c.as_slice.ensures, c.in_ok-keys.ensures, c.schema-2.ensures.value) at (sym c.if-not-begin.ensures) in
-    let place : c.lower-position.result ≡ rows_before t.schema keys values t.rows =
-    rw (c.as_slice-2.ensures, c.as_slice-3.ensures, c.in_ok-keys.ensures, c.in_ok-values.ensures.1, c.schema-2.ensures.value, c.schema.ensures.value) at c.lower-position.ensures in
-    let run = c.run_of-count.ensures in
-    let count : c.run_of-count.result ≡ count_by (is_in_range t.schema values) t.rows =
-    values_run t.schema keys values t.rows (names_first t.schema list keys first) (values_alone t.schema list) (stand_sorted t c.args.self.now.keys c.schema.ensures.whole c.size-rows.ensures.whole c.requires)
-    c.lower-position.result c.run_of-count.result place run.within
-    (rw (c.as_slice-4.ensures, c.in_ok-values.ensures.1, c.schema.ensures.value) at run.inside)
-    (rw (c.as_slice-4.ensures, c.in_ok-values.ensures.1, c.schema.ensures.value) at run.ends) in
-    placed_is t c.args.self.now.keys list c.lower-position.result c.run_of-count.result due first place count

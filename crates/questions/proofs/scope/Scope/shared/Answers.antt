@@ -1,4 +1,4 @@
-use Rattle.std.proofs.Common.{◌≡◌, List, map, Ok, Err, ap, inl, inr, refl, sym, ◌∙◌}
+use Rattle.std.proofs.Common.{map, ap, ◌∙◌}
 use Rattle.std.specs.Result.{result_map_both}
 use Rattle.computing.specs.Computed.{computed_names}
 use Rattle.eval.specs.Names.{view_at}
