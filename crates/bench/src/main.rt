@@ -4,13 +4,13 @@
 //! inside one of its rows, `bench places` rows put in and removed at random places, `bench operators` the operators, `bench pairs none`, `size` and `rows` a join of sixteen million pairs, and `bench watches` what follows the events of a table. Without a word the operators go over a few rows, and what they answer is printed without times.
 #![tactic(auto)]
 
+mod at_random;
 mod blocks;
 mod clock;
 mod columns;
 mod edits;
 mod nested;
 mod operators;
-mod places;
 mod structures;
 mod views;
 mod watches;
@@ -44,7 +44,7 @@ fn measure_part(rt: &HostRuntime, part: &str, pairs: &str) -> Result<()> {
         "nested" => nested::measure_all(rt),
         "operators" => operators::measure_all(rt),
         "pairs" => operators::list_pairs(rt, pairs),
-        "places" => places::measure_all(rt),
+        "places" => at_random::measure_all(rt),
         "watches" => watches::measure_all(rt),
         _ => bail!(
             "the words are blocks, columns, edits, nested, operators, pairs, places or watches"

@@ -1,4 +1,5 @@
 pub mod Eventful
 pub mod Hashing
 pub mod Homing
+pub mod Noting
 pub mod Ordering

@@ -1,5 +1,6 @@
 //! An index follows a line.
-ghost use Rattle.std.specs.Prelude.{◌≡◌, ◌≤◌, ◌+◌, [], length, Some};
+ghost use Rattle.std.specs.Prelude.{◌≡◌, ◌≤◌, ◌+◌, [], length, true, None, Some};
+ghost use Rattle.mapped.specs.Index.{row_of};
 ghost use Rattle.followers.specs.Keyed.{IsHashed, edits_of};
 ghost use Rattle.followers.specs.declared.keyed.KeyedEdit.TheVariants.{Change};
 ghost use Rattle.row_edits.specs.Edits.{edited, edited_by};
@@ -34,8 +35,31 @@ fn follow_change(index: &mut HashIndex, at: usize, other: Option<usize>, key: Ro
 {
     let _size = index.len();
     match other {
-        None => index.follow(&Event::Change(at), Some(key)),
+        None => follow_own(index, at, key),
         Some(other) => follow_both(index, at, other, key),
+    }
+}
+
+/// The row at a place changes, and no other row has its key. Where it has the key that it had there is nothing to do.
+fn follow_own(index: &mut HashIndex, at: usize, key: Row)
+    requires reserved { 2 ≤ index.old.spare }
+    requires hashed { IsHashed (Change at None) key index.old.keys }
+    ensures keys { index.new.keys ≡ edited_by key (edits_of (Change at None)) index.old.keys }
+{
+    let _size = index.len();
+    if has_at(index, &key, at) {
+        return;
+    }
+    index.follow(&Event::Change(at), Some(key));
+}
+
+/// Whether the row at a place has the key.
+fn has_at(index: &HashIndex, key: &Row, at: usize) -> bool
+    ensures { result ≡ true → (row_of key.now index.now.keys ≡ Some at) }
+{
+    match index.find(key) {
+        Some(row) => row == at,
+        None => false,
     }
 }
 

@@ -13,4 +13,4 @@ pub use keyed::KeyedEdit;
 pub use laws::{events_raise, keyed_edits_are_lines, keys_are_edited};
 pub use ordered::{put_ordered, set_ordered};
 pub use putting::{check_watch, put_watch, watch_positions};
-pub use watching::follow_line;
+pub use watching::{follow_edit, follow_line, forget_edit, note_edit, room_for};

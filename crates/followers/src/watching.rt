@@ -1,47 +1,83 @@
-//! Watches follow a line, edit by edit.
-ghost use Rattle.std.specs.Prelude.{◌≡◌, ◌+◌, ◌-◌, ◌<◌, ◌≤◌, length, None};
-ghost use Rattle.live.specs.Chains.{AreNow};
+//! Watches follow an edit that is made between a note and a call, and a line, edit by edit.
+ghost use Rattle.std.specs.Prelude.{◌≡◌, ◌+◌, ◌<◌, ◌≤◌, ◌^◌, List, length, None};
+ghost use Rattle.mk_value.specs.Data.{Datum};
+ghost use Rattle.live.specs.Chains.{AreNow, AreSame};
+ghost use Rattle.live.specs.Edits.{room_of as room_taken};
 ghost use Rattle.live.specs.Putting.{spare};
+ghost use Rattle.row_edits.specs.Edits.{IsInRange, edited};
 ghost use Rattle.row_edits.specs.Events.{count_all, count_of};
 ghost use Rattle.row_edits.specs.Lines.{edit_at, rows_at_event};
-ghost use Rattle.followers.specs.Following.{HaveFollowed};
+ghost use Rattle.followers.specs.Following.{AreReady, HaveFollowed, room_for};
 
-use live::{Out, Over, Watches};
+use live::{Over, Watches, room_of};
 use mk_value::{Steps, TableRead};
-use row_edits::Line;
+use row_edits::{Line, RowEdit};
 use std::marker::Brand;
 use std::sync::ledger::{Blank, Ledger};
 
-/// Watches follow one event of a line.
-fn follow_event<L: Ledger, T: TableRead>(
-    watches: &mut Watches,
-    out: &mut Out,
-    line: &Line<'_, T>,
-    edit: usize,
-    number: usize,
-    steps: &mut Steps<L>,
-)
-    requires edit_in { edit < length line.now.edits.now }
-    requires number_in { number < count_of (edit_at line.now.edits.now edit) }
-    requires now { AreNow (T.schema line.now.before.now) (rows_at_event line.now.edits.now line.now.home edit number (T.rows line.now.before.now) (T.rows line.now.after.now)) watches.old.watches }
-    requires reserved { 0 < spare watches.old }
-    requires room { length watches.old.watches ≤ out.old.spare }
-    ensures now { AreNow (T.schema line.now.before.now) (rows_at_event line.now.edits.now line.now.home edit (number + 1) (T.rows line.now.before.now) (T.rows line.now.after.now)) watches.new.watches }
-    ensures followed { HaveFollowed 1 watches.old.watches watches.new.watches }
-    ensures noted { watches.new.noted ≡ None }
-    ensures spare { spare watches.old ≤ spare watches.new + 1 }
-    ensures out_spare { out.new.spare ≡ out.old.spare }
+/// Watches note an edit of these rows before it is made. It takes no memory.
+pub fn note_edit<T: TableRead>(watches: &mut Watches, rows: &T, edit: RowEdit)
+    requires now { AreNow (T.schema rows.now) (T.rows rows.now) watches.old.watches }
+    requires range { IsInRange edit (length (T.rows rows.now)) }
+    requires reserved { room_taken edit ≤ spare watches.old }
+    ensures same { AreSame watches.old.watches watches.new.watches }
+    ensures ready { AreReady (T.schema rows.now) (T.rows rows.now) edit watches.new }
 {
-    let _size = line.before.size();
-    let event = line.event(edit, number);
-    let before = line.between(edit, number);
-    watches.before(&Over { rows: &before }, &event, steps);
-    let after = line.between(edit, number + 1);
-    watches.after(&Over { rows: &after }, &event, out, steps);
+    note::<Brand, T>(watches, rows, edit, Blank::new(1));
+}
+
+/// `note_edit` with a count of steps, which nobody asks for.
+fn note<L: Ledger, T: TableRead>(watches: &mut Watches, rows: &T, edit: RowEdit, blank: Blank)
+    requires now { AreNow (T.schema rows.now) (T.rows rows.now) watches.old.watches }
+    requires range { IsInRange edit (length (T.rows rows.now)) }
+    requires reserved { room_taken edit ≤ spare watches.old }
+    requires name { blank.name ≡ L.name }
+    requires parts { blank.parts ≡ L.parts }
+    requires share { 0 < blank.parts }
+    ensures same { AreSame watches.old.watches watches.new.watches }
+    ensures ready { AreReady (T.schema rows.now) (T.rows rows.now) edit watches.new }
+{
+    let mut steps = Steps::<L>::new(blank);
+    watches.note_edit(&Over { rows }, edit, &mut steps);
+}
+
+/// Watches wait for an event again: the edit of these rows that they noted is not made. It takes no memory.
+pub fn forget_edit<T: TableRead>(watches: &mut Watches, rows: &T, edit: RowEdit)
+    requires { AreReady (T.schema rows.now) (T.rows rows.now) edit watches.old }
+    ensures same { AreSame watches.old.watches watches.new.watches }
+    ensures noted { watches.new.noted ≡ None }
+{
+    // An edit of no rows notes nothing.
+    let nothing = RowEdit::Remove { at: 0, count: 0 };
+    note_edit(watches, rows, nothing);
+}
+
+/// Watches follow the edit that they noted, whose rows after it these are, in one step whatever its count. It takes no memory.
+pub fn follow_edit<T: TableRead>(watches: &mut Watches, rows: &T, edit: RowEdit)
+    requires { (before : List (List Datum)) × AreReady (T.schema rows.now) before edit watches.old × ((row : List Datum) × (T.rows rows.now ≡ edited row edit before)) }
+    ensures now { AreNow (T.schema rows.now) (T.rows rows.now) watches.new.watches }
+    ensures followed { HaveFollowed (count_of edit) watches.old.watches watches.new.watches }
+    ensures noted { watches.new.noted ≡ None }
+{
+    follow::<Brand, T>(watches, rows, edit, Blank::new(1));
+}
+
+/// `follow_edit` with a count of steps, which nobody asks for.
+fn follow<L: Ledger, T: TableRead>(watches: &mut Watches, rows: &T, edit: RowEdit, blank: Blank)
+    requires ready { (before : List (List Datum)) × AreReady (T.schema rows.now) before edit watches.old × ((row : List Datum) × (T.rows rows.now ≡ edited row edit before)) }
+    requires name { blank.name ≡ L.name }
+    requires parts { blank.parts ≡ L.parts }
+    requires share { 0 < blank.parts }
+    ensures now { AreNow (T.schema rows.now) (T.rows rows.now) watches.new.watches }
+    ensures followed { HaveFollowed (count_of edit) watches.old.watches watches.new.watches }
+    ensures noted { watches.new.noted ≡ None }
+{
+    let mut steps = Steps::<L>::new(blank);
+    watches.follow_edit(&Over { rows }, edit, &mut steps);
 }
 
 /// Watches follow one edit of a line, in one step whatever its count.
-fn follow_whole<L: Ledger, T: TableRead>(
+fn follow_part<L: Ledger, T: TableRead>(
     watches: &mut Watches,
     line: &Line<'_, T>,
     edit: usize,
@@ -49,11 +85,11 @@ fn follow_whole<L: Ledger, T: TableRead>(
 )
     requires edit_in { edit < length line.now.edits.now }
     requires now { AreNow (T.schema line.now.before.now) (rows_at_event line.now.edits.now line.now.home edit 0 (T.rows line.now.before.now) (T.rows line.now.after.now)) watches.old.watches }
-    requires reserved { count_of (edit_at line.now.edits.now edit) ≤ spare watches.old }
+    requires reserved { room_taken (edit_at line.now.edits.now edit) ≤ spare watches.old }
     ensures now { AreNow (T.schema line.now.before.now) (rows_at_event line.now.edits.now line.now.home edit (count_of (edit_at line.now.edits.now edit)) (T.rows line.now.before.now) (T.rows line.now.after.now)) watches.new.watches }
     ensures followed { HaveFollowed (count_of (edit_at line.now.edits.now edit)) watches.old.watches watches.new.watches }
     ensures noted { watches.new.noted ≡ None }
-    ensures spare { spare watches.old ≤ spare watches.new + count_of (edit_at line.now.edits.now edit) }
+    ensures spare { spare watches.old ≤ spare watches.new + room_taken (edit_at line.now.edits.now edit) }
 {
     let change = line.edits[edit];
     let before = line.between(edit, 0);
@@ -66,68 +102,44 @@ fn follow_whole<L: Ledger, T: TableRead>(
     );
 }
 
-/// Watches follow one edit of a line: one event as such, which moves least, and several in one step.
-fn follow_edit<L: Ledger, T: TableRead>(
-    watches: &mut Watches,
-    out: &mut Out,
-    line: &Line<'_, T>,
-    edit: usize,
-    steps: &mut Steps<L>,
-)
-    requires edit_in { edit < length line.now.edits.now }
-    requires now { AreNow (T.schema line.now.before.now) (rows_at_event line.now.edits.now line.now.home edit 0 (T.rows line.now.before.now) (T.rows line.now.after.now)) watches.old.watches }
-    requires reserved { count_of (edit_at line.now.edits.now edit) ≤ spare watches.old }
-    requires room { length watches.old.watches ≤ out.old.spare }
-    ensures now { AreNow (T.schema line.now.before.now) (rows_at_event line.now.edits.now line.now.home edit (count_of (edit_at line.now.edits.now edit)) (T.rows line.now.before.now) (T.rows line.now.after.now)) watches.new.watches }
-    ensures followed { HaveFollowed (count_of (edit_at line.now.edits.now edit)) watches.old.watches watches.new.watches }
-    ensures noted { watches.new.noted ≡ None }
-    ensures spare { spare watches.old ≤ spare watches.new + count_of (edit_at line.now.edits.now edit) }
-    ensures out_spare { out.new.spare ≡ out.old.spare }
-{
-    if line.edits[edit].count() == 1 {
-        follow_event(watches, out, line, edit, 0, steps);
-    } else {
-        follow_whole(watches, line, edit, steps);
-    }
-}
-
 /// Watches follow a line: from the rows before it to those after it. It takes no memory.
-pub fn follow_line<T: TableRead>(watches: &mut Watches, out: &mut Out, line: &Line<'_, T>)
+pub fn follow_line<T: TableRead>(watches: &mut Watches, line: &Line<'_, T>)
     requires now { AreNow (T.schema line.now.before.now) (T.rows line.now.before.now) watches.old.watches }
     requires noted { watches.old.noted ≡ None }
-    requires reserved { count_all line.now.edits.now ≤ spare watches.old }
-    requires room { length watches.old.watches ≤ out.old.spare }
+    requires reserved { room_for line.now.edits.now ≤ spare watches.old }
     ensures now { AreNow (T.schema line.now.after.now) (T.rows line.now.after.now) watches.new.watches }
     ensures followed { HaveFollowed (count_all line.now.edits.now) watches.old.watches watches.new.watches }
     ensures noted { watches.new.noted ≡ None }
-    ensures spare { spare watches.old ≤ spare watches.new + count_all line.now.edits.now }
-    ensures out_spare { out.new.spare ≡ out.old.spare }
 {
-    follow_edits::<Brand, T>(watches, out, line, Blank::new(1));
+    follow_edits::<Brand, T>(watches, line, Blank::new(1));
 }
 
 /// `follow_line` with a count of steps, which nobody asks for.
-fn follow_edits<L: Ledger, T: TableRead>(
-    watches: &mut Watches,
-    out: &mut Out,
-    line: &Line<'_, T>,
-    blank: Blank,
-)
+fn follow_edits<L: Ledger, T: TableRead>(watches: &mut Watches, line: &Line<'_, T>, blank: Blank)
     requires now { AreNow (T.schema line.now.before.now) (T.rows line.now.before.now) watches.old.watches }
     requires noted { watches.old.noted ≡ None }
-    requires reserved { count_all line.now.edits.now ≤ spare watches.old }
-    requires room { length watches.old.watches ≤ out.old.spare }
+    requires reserved { room_for line.now.edits.now ≤ spare watches.old }
     requires name { blank.name ≡ L.name }
     requires parts { blank.parts ≡ L.parts }
     requires share { 0 < blank.parts }
     ensures now { AreNow (T.schema line.now.after.now) (T.rows line.now.after.now) watches.new.watches }
     ensures followed { HaveFollowed (count_all line.now.edits.now) watches.old.watches watches.new.watches }
     ensures noted { watches.new.noted ≡ None }
-    ensures spare { spare watches.old ≤ spare watches.new + count_all line.now.edits.now }
-    ensures out_spare { out.new.spare ≡ out.old.spare }
 {
     let mut steps = Steps::<L>::new(blank);
     for edit in 0..line.edits.len() {
-        follow_edit(watches, out, line, edit, &mut steps);
+        follow_part(watches, line, edit, &mut steps);
     }
+}
+
+/// How many positions more a watch takes for edits at most: one for each row that comes or changes.
+pub fn room_for(edits: &[RowEdit]) -> usize
+    requires { room_for edits.now < 2 ^ 64 }
+    ensures { result ≡ room_for edits.now }
+{
+    let mut room = 0;
+    for edit in edits {
+        room += room_of(*edit);
+    }
+    room
 }

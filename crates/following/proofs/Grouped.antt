@@ -19,8 +19,10 @@ use Rattle.live.specs.declared.answer.Answer.TheVariants.{Nothing}
 use Rattle.live.specs.declared.turn.Turn.TheVariants.{Still}
 use Rattle.live.proofs.Leading.{row_stands}
 use Rattle.live.proofs.Seeing.{seen_size}
-use Rattle.followers.specs.Following.{HaveFollowed}
-use Rattle.following.specs.Groups.{AreNamed, AreNumbered, Follows, IsPutBehind, IsPutOver, Stays, is_source}
+use Rattle.live.proofs.Standing.{now_same}
+use Rattle.row_edits.specs.declared.edit.RowEdit.{RowEdit}
+use Rattle.followers.specs.Following.{AreReady, HaveFollowed}
+use Rattle.following.specs.Groups.{AreNamed, AreNumbered, Follows, Forgets, IsPutBehind, IsPutOver, Notes, Stays, is_source}
 use Rattle.following.specs.Keeping.{IsKeptOver, Kept, StandsAt, followed_of, shown_by}
 use Rattle.following.specs.Watches.{Shown, is_among, place_of, raised, shown_at, stands_over}
 use Rattle.following.proofs.Finding.{first_within}
@@ -80,15 +82,35 @@ same_followed old new h = record {
   each = λ k d p. let one = h.each k d p in record { number = one.number; source = one.source; op = one.op; followed = one.followed };
 }
 
+shown_same : (old new : Kept) → new.view ≡ old.view → new.names ≡ old.names → AreSame old.watching.watches new.watching.watches → followed_of new ≡ followed_of old
+shown_same old new view names same =
+    ap (λ v. record { view = v; watches = shown_by new.names new.watching.watches }) view
+    ∙ ap (λ ns. record { view = old.view; watches = shown_by ns new.watching.watches }) names
+    ∙ ap (λ ws. record { view = old.view; watches = ws })
+    (shown_followed 0 old.names old.watching.watches new.watching.watches (same_followed old.watching.watches new.watching.watches same) ∙ map-id (shown_by old.names old.watching.watches))
+
 pub stays_same : (old new : Kept) → new.view ≡ old.view → new.names ≡ old.names → AreSame old.watching.watches new.watching.watches → new.watching.noted ≡ old.watching.noted
     → ((schema : List Attribute) (rows : List (List Datum)) → AreNow schema rows old.watching.watches → AreNow schema rows new.watching.watches) → Stays old new
 stays_same old new view names same noted now = record {
-  same =
-      ap (λ v. record { view = v; watches = shown_by new.names new.watching.watches }) view
-      ∙ ap (λ ns. record { view = old.view; watches = shown_by ns new.watching.watches }) names
-      ∙ ap (λ ws. record { view = old.view; watches = ws })
-      (shown_followed 0 old.names old.watching.watches new.watching.watches (same_followed old.watching.watches new.watching.watches same) ∙ map-id (shown_by old.names old.watching.watches));
+  same = shown_same old new view names same;
   kept = λ schema rows h. record { now = now schema rows h.now; noted = noted ∙ h.noted };
+}
+
+pub notes_edit : (view : List ℕ) (schema : List Attribute) (rows : List (List Datum)) (edit : RowEdit) (old new : Kept) → same_bytes old.view view ≡ true → new.view ≡ old.view → new.names ≡ old.names
+    → AreSame old.watching.watches new.watching.watches → AreReady schema rows edit new.watching → Notes view schema rows edit old new
+notes_edit view schema rows edit old new is at names same ready = record {
+  same = shown_same old new at names same;
+  now = λ s rs h. now_same s rs old.watching.watches new.watching.watches same h;
+  noted = λ _. ready;
+  others = λ e. absurd (let f : true ≡ false = sym is ∙ e in cc);
+}
+
+pub forgets_edit : (view : List ℕ) (old new : Kept) → same_bytes old.view view ≡ true → new.view ≡ old.view → new.names ≡ old.names → AreSame old.watching.watches new.watching.watches → new.watching.noted ≡ None → Forgets view old new
+forgets_edit view old new is at names same none = record {
+  same = shown_same old new at names same;
+  now = λ s rs h. now_same s rs old.watching.watches new.watching.watches same h;
+  waits = λ _. none;
+  others = λ e. absurd (let f : true ≡ false = sym is ∙ e in cc);
 }
 
 pub follows_line : (view : List ℕ) (n : ℕ) (schema : List Attribute) (rows : List (List Datum)) (old new : Kept) → same_bytes old.view view ≡ true → new.view ≡ old.view → new.names ≡ old.names
@@ -169,7 +191,7 @@ none_over names watches name j paired here free k d p e =
 pub put_first : (schema : List Attribute) (rows : List (List Datum)) (names : List (List ℕ)) (watches : List WatchState) (new : Kept) (name : List ℕ) (op : WatchOp) (size : ℕ) → names ≡ [] → watches ≡ []
     → IsPutBehind schema rows names watches name None op new.names new.watching size → IsPutOver schema rows [] name None op new size
 put_first schema rows names watches new name op size e f put =
-    let none : Kept = record { view = []; names = []; watching = record { watches = []; noted = None }; told_room = 0 } in
+    let none : Kept = record { view = []; names = []; watching = record { watches = []; noted = None } } in
     put_over schema rows none new name None op size refl
     (subst (λ ns. IsPutBehind schema rows ns [] name None op new.names new.watching size) e
     (subst (λ ws. IsPutBehind schema rows names ws name None op new.names new.watching size) f put))

@@ -17,8 +17,9 @@ use Rattle.live.specs.Putting.{AnswersPut}
 use Rattle.live.specs.declared.error.WatchError.{WatchError}
 use Rattle.live.specs.declared.op.WatchOp.{WatchOp}
 use Rattle.followers.specs.Following.{raised_by, refusal_of, watch_due}
-use Rattle.following.specs.Groups.{AreEach, AreWhole, Follows, Stays}
-use Rattle.following.specs.Keeping.{AreKept, ChangesRows, IsKept, IsKeptOver, Kept, followed, followed_of}
+use Rattle.row_edits.specs.declared.edit.RowEdit.{RowEdit}
+use Rattle.following.specs.Groups.{AreEach, AreWhole, Follows, Forgets, Notes, Stays}
+use Rattle.following.specs.Keeping.{AreKept, AreKeptBut, ChangesRows, HaveNoted, IsKept, IsKeptBut, IsKeptOver, Kept, followed, followed_of}
 use Rattle.following.specs.Watches.{Followed, Shown, count, followed_by, is_watched, raised}
 use Rattle.following.proofs.Finding.{map_remove}
 use Rattle.following.proofs.Holding.{kept_along, not_watched}
@@ -94,7 +95,7 @@ not_full schema op depth false x e = refl
 
 -- no watches of no view
 abbrev pub no_kept : Kept
-no_kept = record { view = []; names = []; watching = record { watches = []; noted = None }; told_room = 0 }
+no_kept = record { view = []; names = []; watching = record { watches = []; noted = None } }
 
 pub views_is : (all : List Kept) → map view_of all ≡ map (λ (f : Followed). f.view) (followed all)
 views_is [] = refl
@@ -105,14 +106,30 @@ whole_along old new views fewer h =
     let few = h.few in
     record { distinct = subst (AllPairs (λ (a b : List ℕ). same_bytes a b ≡ false)) (views_is old ∙ sym views ∙ sym (views_is new)) h.distinct; few = omega arith }
 
--- watches that stay
-pub stays_followed : (old new : List Kept) → AreEach Stays old new → followed new ≡ followed old
-stays_followed old new h =
+-- watches of which the same is seen
+abbrev pub LooksSame : Kept → Kept → Type 0
+LooksSame old new = followed_of new ≡ followed_of old
+
+pub look_same : (old new : List Kept) → AreEach LooksSame old new → followed new ≡ followed old
+look_same old new h =
     let one = length-map old followed_of in
     let two = length-map new followed_of in
     let long = h.long in
     same_lists (followed new) (followed old) (omega arith) (λ k d p.
-    get_or-map followed_of new k no_kept d (omega arith) ∙ (h.each k no_kept (omega arith)).same ∙ sym (get_or-map followed_of old k no_kept d (omega arith)))
+    get_or-map followed_of new k no_kept d (omega arith) ∙ h.each k no_kept (omega arith) ∙ sym (get_or-map followed_of old k no_kept d (omega arith)))
+
+pub same_whole : (old new : List Kept) → AreEach LooksSame old new → AreWhole old → AreWhole new
+same_whole old new each h =
+    let same = look_same old new each in
+    let counts = ap count same in
+    whole_along old new (ap (map (λ (f : Followed). f.view)) same) (omega arith) h
+
+-- watches that stay
+pub stays_look : (old new : List Kept) → AreEach Stays old new → AreEach LooksSame old new
+stays_look old new h = record { long = h.long; each = λ k d p. (h.each k d p).same }
+
+pub stays_followed : (old new : List Kept) → AreEach Stays old new → followed new ≡ followed old
+stays_followed old new h = look_same old new (stays_look old new h)
 
 pub stays_kept : (old new : List Kept) (views : List NamedTable) → AreEach Stays old new → AreKept views old → AreKept views new
 stays_kept old new views each h k d p =
@@ -122,10 +139,63 @@ stays_kept old new views each h k d p =
     record { table = kept.table; there = ap (λ (f : Followed). table_of views f.view) stays.same ∙ kept.there; over = stays.kept kept.table.schema kept.table.rows kept.over }
 
 pub stays_whole : (old new : List Kept) → AreEach Stays old new → AreWhole old → AreWhole new
-stays_whole old new each h =
-    let same = stays_followed old new each in
-    let counts = ap count same in
-    whole_along old new (ap (map (λ (f : Followed). f.view)) same) (omega arith) h
+stays_whole old new each h = same_whole old new (stays_look old new each) h
+
+-- watches that note an edit
+pub kept_but : (noting : List ℕ) (views : List NamedTable) (all : List Kept) → AreKept views all → AreKeptBut noting views all
+kept_but noting views all h k d p =
+    let kept : IsKept views (get_or all k d) = h k d p in
+    record { table = kept.table; there = kept.there; now = kept.over.now; waits = λ _. kept.over.noted }
+
+module _ (view : List ℕ) (schema : List Attribute) (rows : List (List Datum)) (edit : RowEdit) (old new : List Kept) (each : AreEach (Notes view schema rows edit) old new) where
+  pub notes_look : AreEach LooksSame old new
+  notes_look = record { long = each.long; each = λ k d p. (each.each k d p).same }
+
+  of_view : (k : ℕ) (d : Kept) (b : Bool) → k < length old → same_bytes (get_or new k d).view view ≡ b → same_bytes (get_or old k d).view view ≡ b
+  of_view k d b p e = ap (λ (f : Followed). same_bytes f.view view) (sym (each.each k d p).same) ∙ e
+
+  pub notes_noted : HaveNoted view schema rows edit new
+  notes_noted k d p e =
+      let long = each.long in
+      let q : k < length old = omega arith in
+      (each.each k d q).noted (of_view k d true q e)
+
+  pub notes_kept : (views : List NamedTable) → AreKept views old → AreKeptBut view views new
+  notes_kept views h k d p =
+      let long = each.long in
+      let q : k < length old = omega arith in
+      let notes = each.each k d q in
+      let kept : IsKept views (get_or old k d) = h k d q in
+      record {
+        table = kept.table;
+        there = ap (λ (f : Followed). table_of views f.view) notes.same ∙ kept.there;
+        now = notes.now kept.table.schema kept.table.rows kept.over.now;
+        waits = λ e. ap (λ (x : Kept). x.watching.noted) (notes.others (of_view k d false q e)) ∙ kept.over.noted;
+      }
+
+-- watches that wait again
+module _ (view : List ℕ) (old new : List Kept) (each : AreEach (Forgets view) old new) where
+  pub forgets_look : AreEach LooksSame old new
+  forgets_look = record { long = each.long; each = λ k d p. (each.each k d p).same }
+
+  pub forgets_kept : (views : List NamedTable) → AreKeptBut view views old → AreKept views new
+  forgets_kept views h k d p =
+      let long = each.long in
+      let q : k < length old = omega arith in
+      let forgets = each.each k d q in
+      let kept : IsKeptBut view views (get_or old k d) = h k d q in
+      record {
+        table = kept.table;
+        there = ap (λ (f : Followed). table_of views f.view) forgets.same ∙ kept.there;
+        over = record {
+          now = forgets.now kept.table.schema kept.table.rows kept.now;
+          noted = at forgets kept (same_bytes (get_or old k d).view view) refl;
+        };
+      }
+    where
+      at : Forgets view (get_or old k d) (get_or new k d) → IsKeptBut view views (get_or old k d) → (b : Bool) → same_bytes (get_or old k d).view view ≡ b → (get_or new k d).watching.noted ≡ None
+      at forgets kept true e = forgets.waits e
+      at forgets kept false e = ap (λ (x : Kept). x.watching.noted) (forgets.others e) ∙ kept.waits e
 
 -- watches that have followed a line
 module _ (view : List ℕ) (n : ℕ) (schema : List Attribute) (before after : List (List Datum)) (old new : List Kept) (each : AreEach (Follows view n schema after) old new) where
@@ -147,15 +217,15 @@ module _ (view : List ℕ) (n : ℕ) (schema : List Attribute) (before after : L
       at true e = e
       at false e = e
 
-  pub line_kept : (views others : List NamedTable) → AreKept views old → ChangesRows view schema before after views others → AreKept others new
+  pub line_kept : (views others : List NamedTable) → AreKeptBut view views old → ChangesRows view schema before after views others → AreKept others new
   line_kept views others h change k d p =
       let long = each.long in
       let follows = each.each k d (omega arith) in
-      let kept : IsKept views (get_or old k d) = h k d (omega arith) in
+      let kept : IsKeptBut view views (get_or old k d) = h k d (omega arith) in
       let same = view_stays (get_or old k d) (get_or new k d) follows in
       at (same_bytes (get_or old k d).view view) refl follows kept same
     where
-      at : (b : Bool) → same_bytes (get_or old k d).view view ≡ b → Follows view n schema after (get_or old k d) (get_or new k d) → IsKept views (get_or old k d) → (get_or new k d).view ≡ (get_or old k d).view
+      at : (b : Bool) → same_bytes (get_or old k d).view view ≡ b → Follows view n schema after (get_or old k d) (get_or new k d) → IsKeptBut view views (get_or old k d) → (get_or new k d).view ≡ (get_or old k d).view
           → IsKept others (get_or new k d)
       at true e follows kept same =
           record {
@@ -167,7 +237,7 @@ module _ (view : List ℕ) (n : ℕ) (schema : List Attribute) (before after : L
           record {
             table = kept.table;
             there = ap (table_of others) same ∙ change.others (get_or old k d).view e ∙ kept.there;
-            over = subst (IsKeptOver kept.table.schema kept.table.rows) (sym (follows.others e)) kept.over;
+            over = subst (IsKeptOver kept.table.schema kept.table.rows) (sym (follows.others e)) (record { now = kept.now; noted = kept.waits e });
           }
 
 maps_by : {X : Type 0} (h : Followed → X) (view : List ℕ) (n : ℕ) → ((f : Followed) → h (raised n f) ≡ h f) → (all : List Followed) → map h (followed_by all view n) ≡ map h all

@@ -7,7 +7,8 @@ use Rattle.live.specs.declared.op.WatchOp.{WatchOp}
 use Rattle.mk_value.specs.Data.{Datum}
 use Rattle.mk_value.specs.Heading.{Attribute}
 use Rattle.mk_value.specs.Names.{same_bytes}
-use Rattle.following.specs.Keeping.{HasRoom, IsKeptOver, Kept, followed, followed_of, max_watches}
+use Rattle.row_edits.specs.declared.edit.RowEdit.{RowEdit}
+use Rattle.following.specs.Keeping.{HasNoted, HasRoom, IsKeptOver, Kept, followed, followed_of, max_watches}
 use Rattle.following.specs.Watches.{Shown, count, raised, rows_shown}
 
 -- watches have numbers of their own
@@ -61,10 +62,24 @@ pub record Stays (old new : Kept) : Type 0 where
   pub same : followed_of new ≡ followed_of old
   pub kept : (schema : List Attribute) (rows : List (List Datum)) → IsKeptOver schema rows old → IsKeptOver schema rows new
 
--- and there is room for so many events, where it is the view of the name
-pub record IsReserved (view : List ℕ) (events : ℕ) (old new : Kept) : Type 0 where
+-- and there is room for so many positions more, where it is the view of the name
+pub record IsReserved (view : List ℕ) (more : ℕ) (old new : Kept) : Type 0 where
   pub stays : Stays old new
-  pub room : same_bytes new.view view ≡ true → HasRoom events new
+  pub room : same_bytes new.view view ≡ true → HasRoom more new
+
+-- the watches of a view of this name have noted an edit of rows of this schema; those of another are as they were
+pub record Notes (view : List ℕ) (schema : List Attribute) (rows : List (List Datum)) (edit : RowEdit) (old new : Kept) : Type 0 where
+  pub same : followed_of new ≡ followed_of old
+  pub now : (s : List Attribute) (rs : List (List Datum)) → AreNow s rs old.watching.watches → AreNow s rs new.watching.watches
+  pub noted : same_bytes old.view view ≡ true → HasNoted schema rows edit new
+  pub others : same_bytes old.view view ≡ false → new ≡ old
+
+-- the watches of a view of this name wait for an event again
+pub record Forgets (view : List ℕ) (old new : Kept) : Type 0 where
+  pub same : followed_of new ≡ followed_of old
+  pub now : (s : List Attribute) (rs : List (List Datum)) → AreNow s rs old.watching.watches → AreNow s rs new.watching.watches
+  pub waits : same_bytes old.view view ≡ true → new.watching.noted ≡ None
+  pub others : same_bytes old.view view ≡ false → new ≡ old
 
 -- the watches of a view of this name have followed so many events, to these rows; those of another are as they were
 pub record Follows (view : List ℕ) (events : ℕ) (schema : List Attribute) (rows : List (List Datum)) (old new : Kept) : Type 0 where

@@ -1,5 +1,6 @@
 -- What is kept of the watches of views, and when that is what they show.
 use Rattle.std.specs.Prelude.{◌≡◌, ◌<◌, ◌≤◌, ℕ, true, false, List, [], ◌∷◌, find, length, map, slice_index_or, All, Option, Some, None, IsSome, IsNone}
+use Rattle.followers.specs.Following.{AreReady}
 use Rattle.live.specs.Chains.{AreNow, place_in_root}
 use Rattle.live.specs.Numbers.{place_of as place_numbered, watch_of}
 use Rattle.live.specs.Putting.{spare}
@@ -8,16 +9,16 @@ use Rattle.mk_value.specs.Data.{Datum}
 use Rattle.mk_value.specs.Heading.{Attribute}
 use Rattle.mk_value.specs.Names.{same_bytes}
 use Rattle.mk_value.specs.Tables.{Table}
+use Rattle.row_edits.specs.declared.edit.RowEdit.{RowEdit}
 use Rattle.tables.specs.Tables.{StoredTable}
 use Rattle.view_store.specs.Views.{NamedTable, table_of}
 use Rattle.following.specs.Watches.{Followed, Shown, is_among, place_of}
 
--- the watches of a view: its name, their names in their order, what each keeps, and of how many of them the list of events has room
+-- the watches of a view: its name, their names in their order, and what each keeps
 pub record Kept : Type 0 where
   pub view : List ℕ
   pub names : List (List ℕ)
   pub watching : Watching
-  pub told_room : ℕ
 
 -- a name beside its watch
 abbrev pub shown_by : List (List ℕ) → List WatchState → List Shown
@@ -86,13 +87,29 @@ AreInStep views all = All (IsInStep views) all
 abbrev pub AreKeptOver : List ℕ → List Attribute → List (List Datum) → List Kept → Type 0
 AreKeptOver view schema rows all = All (λ (k : Kept). same_bytes k.view view ≡ true → IsKeptOver schema rows k) all
 
--- the watches of a view can follow so many events without memory
-pub record HasRoom (events : ℕ) (k : Kept) : Type 0 where
-  pub kept : events ≤ spare k.watching
-  pub told : length k.watching.watches ≤ k.told_room
+-- the watches of a view take so many positions more without memory
+abbrev pub HasRoom : ℕ → Kept → Type 0
+HasRoom more k = more ≤ spare k.watching
 
 abbrev pub HaveRoom : List ℕ → ℕ → List Kept → Type 0
-HaveRoom view events all = All (λ (k : Kept). same_bytes k.view view ≡ true → HasRoom events k) all
+HaveRoom view more all = All (λ (k : Kept). same_bytes k.view view ≡ true → HasRoom more k) all
+
+-- the watches of a view that has this schema and these rows have noted an edit of them
+abbrev pub HasNoted : List Attribute → List (List Datum) → RowEdit → Kept → Type 0
+HasNoted schema rows edit k = AreReady schema rows edit k.watching
+
+abbrev pub HaveNoted : List ℕ → List Attribute → List (List Datum) → RowEdit → List Kept → Type 0
+HaveNoted view schema rows edit all = All (λ (k : Kept). same_bytes k.view view ≡ true → HasNoted schema rows edit k) all
+
+-- The watches of views are kept, but that those of one may have noted an edit.
+pub record IsKeptBut (noting : List ℕ) (views : List NamedTable) (k : Kept) : Type 0 where
+  pub table : StoredTable
+  pub there : table_of views k.view ≡ Some table
+  pub now : AreNow table.schema table.rows k.watching.watches
+  pub waits : same_bytes k.view noting ≡ false → k.watching.noted ≡ None
+
+abbrev pub AreKeptBut : List ℕ → List NamedTable → List Kept → Type 0
+AreKeptBut noting views all = All (IsKeptBut noting views) all
 
 -- the views are others only in the rows of one, whose schema stays
 pub record ChangesRows (view : List ℕ) (schema : List Attribute) (before after : List (List Datum)) (old new : List NamedTable) : Type 0 where

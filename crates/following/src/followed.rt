@@ -4,17 +4,19 @@ ghost use Rattle.std.specs.List.{list_any, position_or_len};
 ghost use Rattle.std.specs.Option.{ForSome, option_map, unwrap_or};
 ghost use Rattle.std.specs.Vec.{vec_capacity};
 ghost use Rattle.derived.specs.Layers.{table_of as table_derived};
-ghost use Rattle.followers.specs.Following.{watch_due};
+ghost use Rattle.followers.specs.Following.{room_for, watch_due};
 ghost use Rattle.live.specs.Chains.{AreInOrder, AreNow, depth, source_depth};
+ghost use Rattle.live.specs.Edits.{room_of};
 ghost use Rattle.live.specs.Numbers.{over_of, place_of as place_numbered};
 ghost use Rattle.live.specs.Putting.{AnswersPut};
 ghost use Rattle.mk_value.specs.Data.{Datum};
 ghost use Rattle.mk_value.specs.Heading.{Attribute};
 ghost use Rattle.mk_value.specs.Names.{same_bytes};
-ghost use Rattle.row_edits.specs.Events.{count_all};
+ghost use Rattle.row_edits.specs.Edits.{IsInRange, edited};
+ghost use Rattle.row_edits.specs.Events.{count_all, count_of};
 ghost use Rattle.tables.specs.Tables.{StoredTable};
-ghost use Rattle.following.specs.Groups.{AreNumbered, Follows, IsPutBehind, IsPutOver, Stays, is_source};
-ghost use Rattle.following.specs.Keeping.{HasRoom, IsKeptOver, StandsAt, followed_of, shown_by};
+ghost use Rattle.following.specs.Groups.{AreNumbered, Follows, Forgets, IsPutBehind, IsPutOver, Notes, Stays, is_source};
+ghost use Rattle.following.specs.Keeping.{HasNoted, HasRoom, IsKeptOver, StandsAt, followed_of, shown_by};
 ghost use Rattle.following.specs.Refusals.{depths};
 ghost use Rattle.following.specs.Rows.{table_read};
 ghost use Rattle.following.specs.Watches.{Shown, is_among, op_found, place_of, shown_at, stands_over, without_place};
@@ -22,10 +24,12 @@ ghost use Rattle.following.specs.Watches.{Shown, is_among, op_found, place_of, s
 use crate::following::Watched;
 use crate::rows::WatchRows;
 use derived::{Derived, pick};
-use followers::{check_watch, follow_line, put_watch, watch_positions};
-use live::{Out, WatchError, WatchOp, Watches};
+use followers::{
+    check_watch, follow_edit, follow_line, forget_edit, note_edit, put_watch, watch_positions,
+};
+use live::{WatchError, WatchOp, Watches};
 use mk_value::{Memory, Name, Same, TableRead};
-use row_edits::Line;
+use row_edits::{Line, RowEdit};
 use std::alloc::Global;
 use std::marker::Model;
 use tables::Shared;
@@ -37,7 +41,6 @@ pub(crate) struct Followed {
     // In the order of the watches.
     names: Vec<Name>,
     watches: Watches,
-    out: Out,
 }
 
 impl Model for Followed {
@@ -52,7 +55,7 @@ impl Model for Followed {
 
     ghost use Rattle.following.specs.Groups.{AreNamed};
 
-    ghost view = { λ f. record { view = f.view; names = f.names.items; watching = f.watches; told_room = f.out.spare } };
+    ghost view = { λ f. record { view = f.view; names = f.names.items; watching = f.watches } };
 
     ghost invariant = { λ f. AreNamed f.names.items f.watches.watches };
 }
@@ -150,12 +153,10 @@ impl Followed {
         let mut names = Vec::new(alloc);
         let mut watches = Watches::new(alloc);
         let size = put_named(&mut names, &mut watches, name, None, op, rows, is_full)?;
-        let out = Out::new(alloc);
         let followed = Followed {
             view,
             names,
             watches,
-            out,
         };
         Ok((followed, size))
     }
@@ -248,26 +249,57 @@ impl Followed {
         self.watches.at(number, row)
     }
 
-    /// Makes room to follow so many events, where the view has the name.
-    pub fn reserve(&mut self, view: &Name, events: usize) -> Result<(), Memory>
+    /// Makes room for so many positions more in each watch, where the view has the name.
+    pub fn reserve(&mut self, view: &Name, more: usize) -> Result<(), Memory>
         ensures stays { Stays self.old self.new }
-        ensures room { OnOk result (same_bytes self.new.view view.now ≡ true → HasRoom events self.new) }
+        ensures room { OnOk result (same_bytes self.new.view view.now ≡ true → HasRoom more self.new) }
     {
         if self.view == *view {
-            self.watches.reserve(events)?;
-            self.out.reserve(self.names.len())?;
+            self.watches.reserve(more)?;
         }
         Ok(())
     }
 
+    /// The watches note an edit of the rows of their view before it is made, where the view has the name.
+    pub fn note(&mut self, view: &Name, rows: &Shared, edit: RowEdit)
+        requires kept { same_bytes self.old.view view.now ≡ true → IsKeptOver rows.now.schema rows.now.rows self.old }
+        requires range { IsInRange edit (length rows.now.rows) }
+        requires room { same_bytes self.old.view view.now ≡ true → HasRoom (room_of edit) self.old }
+        ensures { Notes view.now rows.now.schema rows.now.rows edit self.old self.new }
+    {
+        if self.view == *view {
+            note_edit(&mut self.watches, rows, edit);
+        }
+    }
+
+    /// The watches wait for an event again, where the view has the name: the edit that they noted is not made.
+    pub fn forget(&mut self, view: &Name, rows: &Shared, edit: RowEdit)
+        requires { same_bytes self.old.view view.now ≡ true → HasNoted rows.now.schema rows.now.rows edit self.old }
+        ensures { Forgets view.now self.old self.new }
+    {
+        if self.view == *view {
+            forget_edit(&mut self.watches, rows, edit);
+        }
+    }
+
+    /// The watches follow the edit of the rows of their view that they noted, where the view has the name.
+    pub fn follow(&mut self, view: &Name, rows: &Shared, edit: RowEdit)
+        requires noted { same_bytes self.old.view view.now ≡ true → (before : List (List Datum)) × HasNoted rows.now.schema before edit self.old × ((row : List Datum) × (rows.now.rows ≡ edited row edit before)) }
+        ensures { Follows view.now (count_of edit) rows.now.schema rows.now.rows self.old self.new }
+    {
+        if self.view == *view {
+            follow_edit(&mut self.watches, rows, edit);
+        }
+    }
+
     /// The watches follow a line, where the view has the name.
-    pub fn follow(&mut self, view: &Name, line: &Line<'_, Shared>)
+    pub fn follow_line(&mut self, view: &Name, line: &Line<'_, Shared>)
         requires kept { same_bytes self.old.view view.now ≡ true → IsKeptOver line.now.before.now.schema line.now.before.now.rows self.old }
-        requires room { same_bytes self.old.view view.now ≡ true → HasRoom (count_all line.now.edits.now) self.old }
+        requires room { same_bytes self.old.view view.now ≡ true → HasRoom (room_for line.now.edits.now) self.old }
         ensures { Follows view.now (count_all line.now.edits.now) line.now.before.now.schema line.now.after.now.rows self.old self.new }
     {
         if self.view == *view {
-            follow_line(&mut self.watches, &mut self.out, line);
+            follow_line(&mut self.watches, line);
         }
     }
 }

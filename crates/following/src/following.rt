@@ -1,30 +1,35 @@
 //! All watches, by name.
-ghost use Rattle.std.specs.Prelude.{◌≡◌, ◌<◌, ◌++◌, ◌∷◌, [], List, find, length, position, slice_index_or, true, false, None, Some, IfOk, IfSome, IsSome, MatchOption, OnOk, OnErr};
+ghost use Rattle.std.specs.Prelude.{◌≡◌, ◌^◌, ◌<◌, ◌++◌, ◌∷◌, [], List, find, length, position, slice_index_or, true, false, None, Some, IfOk, IfSome, IsSome, MatchOption, OnOk, OnErr};
 ghost use Rattle.std.specs.Option.{option_map};
 ghost use Rattle.derived.specs.Layers.{table_of as table_derived};
-ghost use Rattle.followers.specs.Following.{watch_due};
+ghost use Rattle.followers.specs.Following.{room_for, watch_due};
+ghost use Rattle.live.specs.Edits.{room_of};
 ghost use Rattle.live.specs.Laws.{shown};
 ghost use Rattle.live.specs.Putting.{AnswersPut, spelled};
+ghost use Rattle.mk_value.specs.Data.{Datum};
 ghost use Rattle.mk_value.specs.Names.{same_bytes};
-ghost use Rattle.row_edits.specs.Events.{count_all};
+ghost use Rattle.row_edits.specs.Edits.{IsInRange, edited};
+ghost use Rattle.row_edits.specs.Events.{count_all, count_of};
 ghost use Rattle.tables.specs.Tables.{StoredTable};
 ghost use Rattle.view_store.specs.Views.{NamedTable, table_of};
 ghost use Rattle.following.specs.Groups.{IsFirst};
-ghost use Rattle.following.specs.Keeping.{AreKept, AreKeptOver, ChangesRows, HaveRoom, IsWatchOf, Kept, StandsAt, followed, followed_of};
+ghost use Rattle.following.specs.Keeping.{AreKept, AreKeptBut, AreKeptOver, ChangesRows, HaveNoted, HaveRoom, IsWatchOf, Kept, StandsAt, followed, followed_of};
 ghost use Rattle.following.specs.Refusals.{depth_under, put_due};
 ghost use Rattle.following.specs.Rows.{table_read};
 ghost use Rattle.following.specs.Watches.{count, followed_by, has_over, is_among, is_watch as is_name_of_watch, is_watched as is_view_watched, op_of, rows_under, source_of, watch_table, watches_of, with_watch, without_watch};
 
 use crate::followed::Followed;
 use crate::listed::{
-    at, count, find, find_view, follow_all, has_over, is_watch, is_watched, push, reserve_all,
+    at, count, find, find_view, follow_all, follow_line_all, forget_all, has_over, is_watch,
+    is_watched, note_all, push, reserve_all,
 };
 use crate::rows::WatchRows;
 use crate::views::shared;
 use derived::Derived;
+use followers::room_for;
 use live::{WatchError, WatchOp, Watches};
 use mk_value::{Memory, Name};
-use row_edits::Line;
+use row_edits::{Line, RowEdit};
 use std::alloc::Global;
 use std::marker::Model;
 use tables::Shared;
@@ -244,27 +249,58 @@ impl Following {
         self.list[at(&self.list, name)].place_of_row(name, row)
     }
 
-    /// Makes room for the watches of a view to follow so many events.
+    /// Makes room for the watches of a view to follow edits: for rows that come and rows that change, and none for rows that go.
     ///
     /// # Errors
     ///
     /// `Memory`.
-    pub fn reserve(&mut self, view: &Name, events: usize) -> Result<(), Memory>
+    pub fn reserve(&mut self, view: &Name, edits: &[RowEdit]) -> Result<(), Memory>
+        requires few { room_for edits.now < 2 ^ 64 }
         ensures same { followed self.new ≡ followed self.old }
         ensures kept { (views : List NamedTable) → AreKept views self.old → AreKept views self.new }
-        ensures room { OnOk result (HaveRoom view.now events self.new) }
+        ensures room { OnOk result (HaveRoom view.now (room_for edits.now) self.new) }
     {
-        reserve_all(&mut self.list, view, events)
+        reserve_all(&mut self.list, view, room_for(edits))
+    }
+
+    /// The watches of a view note an edit of its rows before it is made. It takes no memory.
+    pub fn note(&mut self, view: &Name, rows: &Shared, edit: RowEdit)
+        requires kept { AreKeptOver view.now rows.now.schema rows.now.rows self.old }
+        requires range { IsInRange edit (length rows.now.rows) }
+        requires room { HaveRoom view.now (room_of edit) self.old }
+        ensures same { followed self.new ≡ followed self.old }
+        ensures noted { HaveNoted view.now rows.now.schema rows.now.rows edit self.new }
+        ensures kept { (views : List NamedTable) → AreKept views self.old → AreKeptBut view.now views self.new }
+    {
+        note_all(&mut self.list, view, rows, edit);
+    }
+
+    /// The watches of a view wait for an event again: the edit that they noted is not made. It takes no memory.
+    pub fn forget(&mut self, view: &Name, rows: &Shared, edit: RowEdit)
+        requires { HaveNoted view.now rows.now.schema rows.now.rows edit self.old }
+        ensures same { followed self.new ≡ followed self.old }
+        ensures kept { (views : List NamedTable) → AreKeptBut view.now views self.old → AreKept views self.new }
+    {
+        forget_all(&mut self.list, view, rows, edit);
+    }
+
+    /// The watches of a view follow the edit of its rows that they noted, now that it is made. It takes no memory.
+    pub fn follow(&mut self, view: &Name, rows: &Shared, edit: RowEdit)
+        requires noted { (before : List (List Datum)) × HaveNoted view.now rows.now.schema before edit self.old × ((row : List Datum) × (rows.now.rows ≡ edited row edit before)) }
+        ensures followed { followed self.new ≡ followed_by (followed self.old) view.now (count_of edit) }
+        ensures kept { (before : List (List Datum)) (old new : List NamedTable) → AreKeptBut view.now old self.old → ChangesRows view.now rows.now.schema before rows.now.rows old new → AreKept new self.new }
+    {
+        follow_all(&mut self.list, view, rows, edit);
     }
 
     /// The watches of a view follow a line on it. It takes no memory.
-    pub fn follow(&mut self, view: &Name, line: &Line<'_, Shared>)
+    pub fn follow_line(&mut self, view: &Name, line: &Line<'_, Shared>)
         requires kept { AreKeptOver view.now line.now.before.now.schema line.now.before.now.rows self.old }
-        requires room { HaveRoom view.now (count_all line.now.edits.now) self.old }
+        requires room { HaveRoom view.now (room_for line.now.edits.now) self.old }
         ensures followed { followed self.new ≡ followed_by (followed self.old) view.now (count_all line.now.edits.now) }
         ensures kept { (old new : List NamedTable) → AreKept old self.old → ChangesRows view.now line.now.before.now.schema line.now.before.now.rows line.now.after.now.rows old new → AreKept new self.new }
     {
-        follow_all(&mut self.list, view, line);
+        follow_line_all(&mut self.list, view, line);
     }
 
     /// The place of the watch of the name among the watches of its view, or none where no watch has it.

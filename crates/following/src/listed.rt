@@ -1,15 +1,19 @@
 //! A list of the watches of views: those of a view found, and what is asked of all and done to all.
-ghost use Rattle.std.specs.Prelude.{◌≡◌, ◌<◌, ◌≤◌, ◌++◌, ◌∷◌, [], true, All, length, position, IfOk, Some, OnOk, OnErr};
+ghost use Rattle.std.specs.Prelude.{◌≡◌, ◌<◌, ◌≤◌, ◌++◌, ◌∷◌, [], List, true, All, length, position, IfOk, Some, OnOk, OnErr};
 ghost use Rattle.std.specs.List.{list_any};
+ghost use Rattle.followers.specs.Following.{room_for};
+ghost use Rattle.live.specs.Edits.{room_of};
+ghost use Rattle.mk_value.specs.Data.{Datum};
 ghost use Rattle.mk_value.specs.Names.{same_bytes};
-ghost use Rattle.row_edits.specs.Events.{count_all};
-ghost use Rattle.following.specs.Groups.{AreEach, Follows, Stays};
-ghost use Rattle.following.specs.Keeping.{AreKeptOver, HasRoom, HaveRoom, Kept, followed, followed_of};
+ghost use Rattle.row_edits.specs.Edits.{IsInRange, edited};
+ghost use Rattle.row_edits.specs.Events.{count_all, count_of};
+ghost use Rattle.following.specs.Groups.{AreEach, Follows, Forgets, Notes, Stays};
+ghost use Rattle.following.specs.Keeping.{AreKeptOver, HasRoom, HaveNoted, HaveRoom, Kept, followed, followed_of};
 ghost use Rattle.following.specs.Watches.{Shown, count, is_among, stands_over};
 
 use crate::followed::Followed;
 use mk_value::{Memory, Name};
-use row_edits::Line;
+use row_edits::{Line, RowEdit};
 use tables::Shared;
 
 /// How many watches there are.
@@ -76,24 +80,56 @@ pub(crate) fn push(list: &mut Vec<Followed>, watches: Followed) -> Result<(), Me
     Ok(())
 }
 
-/// Makes room for the watches of a view to follow so many events.
-pub(crate) fn reserve_all(list: &mut [Followed], view: &Name, events: usize) -> Result<(), Memory>
+/// Makes room for the watches of a view to take so many positions more.
+pub(crate) fn reserve_all(list: &mut [Followed], view: &Name, more: usize) -> Result<(), Memory>
     ensures stay { AreEach Stays list.old list.new }
-    ensures room { OnOk result (HaveRoom view.now events list.new) }
+    ensures room { OnOk result (HaveRoom view.now more list.new) }
 {
     for watches in list.iter_mut() {
-        watches.reserve(view, events)?;
+        watches.reserve(view, more)?;
     }
     Ok(())
 }
 
+/// The watches of a view note an edit of its rows before it is made.
+pub(crate) fn note_all(list: &mut [Followed], view: &Name, rows: &Shared, edit: RowEdit)
+    requires kept { AreKeptOver view.now rows.now.schema rows.now.rows list.old }
+    requires range { IsInRange edit (length rows.now.rows) }
+    requires room { HaveRoom view.now (room_of edit) list.old }
+    ensures { AreEach (Notes view.now rows.now.schema rows.now.rows edit) list.old list.new }
+{
+    for watches in list.iter_mut() {
+        watches.note(view, rows, edit);
+    }
+}
+
+/// The watches of a view wait for an event again.
+pub(crate) fn forget_all(list: &mut [Followed], view: &Name, rows: &Shared, edit: RowEdit)
+    requires { HaveNoted view.now rows.now.schema rows.now.rows edit list.old }
+    ensures { AreEach (Forgets view.now) list.old list.new }
+{
+    for watches in list.iter_mut() {
+        watches.forget(view, rows, edit);
+    }
+}
+
+/// The watches of a view follow the edit of its rows that they noted.
+pub(crate) fn follow_all(list: &mut [Followed], view: &Name, rows: &Shared, edit: RowEdit)
+    requires noted { (before : List (List Datum)) × HaveNoted view.now rows.now.schema before edit list.old × ((row : List Datum) × (rows.now.rows ≡ edited row edit before)) }
+    ensures { AreEach (Follows view.now (count_of edit) rows.now.schema rows.now.rows) list.old list.new }
+{
+    for watches in list.iter_mut() {
+        watches.follow(view, rows, edit);
+    }
+}
+
 /// The watches of a view follow a line on it.
-pub(crate) fn follow_all(list: &mut [Followed], view: &Name, line: &Line<'_, Shared>)
+pub(crate) fn follow_line_all(list: &mut [Followed], view: &Name, line: &Line<'_, Shared>)
     requires kept { AreKeptOver view.now line.now.before.now.schema line.now.before.now.rows list.old }
-    requires room { HaveRoom view.now (count_all line.now.edits.now) list.old }
+    requires room { HaveRoom view.now (room_for line.now.edits.now) list.old }
     ensures { AreEach (Follows view.now (count_all line.now.edits.now) line.now.before.now.schema line.now.after.now.rows) list.old list.new }
 {
     for watches in list.iter_mut() {
-        watches.follow(view, line);
+        watches.follow_line(view, line);
     }
 }

@@ -43,7 +43,7 @@ use Rattle.questions.specs.InOrder.{IsInOrder, StandInOrder, placed, sought}
 use Rattle.questions.specs.Kept.{Names, asked_names, known, sources, stored, table_of, watched}
 use Rattle.questions.specs.Places.{before_values, begin, keys_in_order, known_keys, locate_due, located, order_at, order_under, search_due, unless_due, upwards, values_of, where_sorted}
 use Rattle.questions.specs.Told.{told}
-use Rattle.questions.specs.declared.places.Located.{Located}
+use Rattle.questions.specs.declared.located.Located.{Located}
 use Rattle.questions.specs.declared.error.QuestionError.{QuestionError}
 use Rattle.questions.specs.declared.error.QuestionError.TheVariants.{Unsorted}
 use Rattle.questions.proofs.Ascending.{ascending_sorted}

@@ -36,7 +36,7 @@ use Rattle.questions.specs.Kept.{Names, asked_names, known, sources}
 use Rattle.questions.specs.Places.{before_values, first_keys, keys_in_order, keys_shown, known_keys, locate_due, located, search_due, unless_due, where_sorted}
 use Rattle.questions.specs.Told.{told}
 use Rattle.questions.specs.declared.error.QuestionError.{QuestionError}
-use Rattle.questions.specs.declared.places.Located.{Located}
+use Rattle.questions.specs.declared.located.Located.{Located}
 use Rattle.questions.proofs.Found.{is_this, view_at-before}
 
 -- keys that are left out after one of the same property never decide

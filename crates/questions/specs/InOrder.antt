@@ -18,7 +18,7 @@ use Rattle.view_store.specs.Views as views
 use Rattle.questions.specs.Kept.{Names, known}
 use Rattle.questions.specs.Places.{begin, order_at, unless_due, values_of}
 use Rattle.questions.specs.declared.error.QuestionError.{QuestionError}
-use Rattle.questions.specs.declared.places.Located.{Located}
+use Rattle.questions.specs.declared.located.Located.{Located}
 use Rattle.questions.specs.declared.error.QuestionError.TheVariants.{Unsorted}
 
 -- the rows of a table stand in the order of their first values, so many, of which none is a view

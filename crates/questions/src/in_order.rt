@@ -12,7 +12,7 @@ ghost use Rattle.questions.specs.Places.{upwards};
 
 use crate::error::QuestionError;
 use crate::known::Known;
-use crate::places::{Located, tested};
+use crate::located::{Located, tested};
 use crate::sorted::{begin, upwards};
 use expr_text::{Crit, Expr};
 use following::view_of;

@@ -10,7 +10,7 @@ mod error;
 mod in_order;
 mod known;
 mod level;
-mod places;
+mod located;
 mod rows;
 mod scope;
 mod snapshot;
@@ -23,7 +23,7 @@ pub use cursor::{
 };
 pub use error::QuestionError;
 pub use known::Known;
-pub use places::Located;
+pub use located::Located;
 pub use rows::PrintedRows;
 pub use scope::Scope;
 pub use snapshot::{MAX_SNAPSHOTS, Snapshot, Snapshots, is_snapshot, take_out_snapshot};

@@ -19,6 +19,7 @@ pub mod Outcomes
 mod Putting
 pub mod Readings
 pub mod Ready
+mod Room
 pub mod Started
 pub mod Stepped
 pub mod Structured

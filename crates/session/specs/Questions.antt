@@ -8,7 +8,7 @@ use Rattle.eval.specs.Names.{Named}
 use Rattle.questions.specs.Kept.{asked_names}
 use Rattle.questions.specs.declared.error.QuestionError.{QuestionError}
 use Rattle.questions.specs.declared.error.QuestionError.TheVariants as questions
-use Rattle.questions.specs.declared.places.Located.{Located}
+use Rattle.questions.specs.declared.located.Located.{Located}
 use Rattle.viewers.specs.Meanings.{Meaning}
 use Rattle.session.specs.World.{World, kept_names}
 

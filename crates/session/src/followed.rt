@@ -242,7 +242,7 @@ impl Session {
         let home = home_at(path.steps(), home);
         let before = shared_view(self.store.views(), path.name())?;
         self.watches
-            .reserve(path.name(), edits[0].count())
+            .reserve(path.name(), &edits)
             .map_err(of_memory)?;
         self.store.put_views(views);
         let after = view(self.store.views(), path.name());
@@ -252,7 +252,7 @@ impl Session {
             edits: &edits,
             home,
         };
-        self.watches.follow(path.name(), &line);
+        self.watches.follow_line(path.name(), &line);
         Ok(())
     }
 }

@@ -40,7 +40,7 @@ use following::Following;
 use mappings::{ByKeys, Coming, Mappings};
 use mk_value::{Literal, Literals, MAX_ROWS, Name, Path, Row, Same, TableRead, Value};
 use relations::copy_row;
-use row_edits::{Line, count_events};
+use row_edits::Line;
 use std::alloc::Global;
 use storage::Store;
 use view_store::Root;
@@ -289,7 +289,7 @@ fn follow_coming(
     let edits = edit.edits(alloc).map_err(of_memory)?;
     let before = shared_view(store.views(), name)?;
     watches
-        .reserve(name, count_events(edits.as_slice()))
+        .reserve(name, edits.as_slice())
         .map_err(of_memory)?;
     store.put_views(views);
     let after = view(store.views(), name);
@@ -299,7 +299,7 @@ fn follow_coming(
         edits: edits.as_slice(),
         home: edit.home(),
     };
-    watches.follow(name, &line);
+    watches.follow_line(name, &line);
     mappings.follow(name, coming);
     Ok(())
 }

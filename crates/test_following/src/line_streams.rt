@@ -6,7 +6,6 @@ ghost use Rattle.followers.specs.Keyed.{edits_of};
 use crate::lined::{Lined, begin_lines, follow_one, put_watch};
 use crate::streams::{Numbers, op, row, table};
 use followers::KeyedEdit;
-use live::Out;
 use mk_value::{HeldRows, Same, TableRead};
 use std::alloc::Global;
 use std::test::Fail;
@@ -94,13 +93,12 @@ fn one_line(
     lined: Lined,
     ops: &[usize],
     numbers: &mut Numbers,
-    out: &mut Out,
 ) -> Result<Lined, Fail> {
     let (line, count) = line(numbers, lined.table.size());
     let row = row(alloc, numbers)?;
     let watches = u32::try_from(ops.len())?;
     let old = all_followed(alloc, &lined, watches)?;
-    let lined = follow_one(alloc, lined, line, count, &row, out)?;
+    let lined = follow_one(alloc, lined, line, count, &row)?;
     let anew = chain(alloc, lined.table.same()?, ops)?;
     for watch in 0..watches {
         let Some(old) = old.get(watch as usize) else {
@@ -116,9 +114,8 @@ fn stream(alloc: Global, seed: u64) -> Result<(), Fail> {
     let mut numbers = Numbers { state: seed };
     let ops = [numbers.below(6), numbers.below(6), numbers.below(6)];
     let mut lined = chain(alloc, table(alloc, &mut numbers)?, &ops)?;
-    let mut out = Out::new(alloc);
     for _ in 0..12 {
-        lined = one_line(alloc, lined, &ops, &mut numbers, &mut out)?;
+        lined = one_line(alloc, lined, &ops, &mut numbers)?;
     }
     Ok(())
 }

@@ -8,7 +8,7 @@ ghost use Rattle.followers.specs.Keyed.{IsInPlace, edits_of};
 ghost use Rattle.followers.specs.declared.keyed.KeyedEdit.TheVariants.{Move};
 
 use followers::{KeyedEdit, follow_line, keyed_edits_are_lines};
-use live::{Out, WatchOp, Watches};
+use live::{WatchOp, Watches};
 use mk_value::{HeldRows, MAX_ROWS, Row, Rows, TableRead, rows_fit};
 use row_edits::Line;
 use std::alloc::Global;
@@ -135,7 +135,6 @@ pub fn follow_one(
     line: KeyedEdit,
     count: usize,
     row: &Row,
-    out: &mut Out,
 ) -> Result<Lined, Fail>
     requires { count ≡ count_all (edits_of line) }
 {
@@ -143,12 +142,10 @@ pub fn follow_one(
     let after = edited_table(&table, line, row)?;
     let edits = line.edits(alloc)?;
     watches.reserve(count)?;
-    out.reserve(watches.count())?;
     let _size = table.size();
     keyed_edits_are_lines();
     follow_line(
         &mut watches,
-        out,
         &Line {
             before: &table,
             after: &after,

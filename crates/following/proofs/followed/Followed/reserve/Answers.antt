@@ -11,15 +11,8 @@ returns-in_err-reserve-clause-stays c =
     (subst (λ (k : Kept). AreSame k.watching.watches c.reserve.new.self.watches) c.self.view_is e.same) (e.noted ∙ ap (λ (k : Kept). k.watching.noted) c.self.view_is)
     (λ schema rows h. e.now schema rows (subst (λ (k : Kept). AreNow schema rows k.watching.watches) (sym c.self.view_is) h))
 
-pub returns-in_err-reserve-2-clause-stays : goal.returns-in_err-reserve-2-clause-stays
-returns-in_err-reserve-2-clause-stays c =
-    let e = c.reserve.ensures in
-    stays_same c.args.self.now _ (ap (λ (k : Kept). k.view) c.self.view_is) (ap (λ (k : Kept). k.names) c.self.view_is)
-    (subst (λ (k : Kept). AreSame k.watching.watches c.reserve.new.self.watches) c.self.view_is e.same) (e.noted ∙ ap (λ (k : Kept). k.watching.noted) c.self.view_is)
-    (λ schema rows h. e.now schema rows (subst (λ (k : Kept). AreNow schema rows k.watching.watches) (sym c.self.view_is) h))
-
-pub returns-in_ok-reserve-2-clause-stays : goal.returns-in_ok-reserve-2-clause-stays
-returns-in_ok-reserve-2-clause-stays c =
+pub returns-in_ok-reserve-clause-stays : goal.returns-in_ok-reserve-clause-stays
+returns-in_ok-reserve-clause-stays c =
     let e = c.reserve.ensures in
     stays_same c.args.self.now _ (ap (λ (k : Kept). k.view) c.self.view_is) (ap (λ (k : Kept). k.names) c.self.view_is)
     (subst (λ (k : Kept). AreSame k.watching.watches c.reserve.new.self.watches) c.self.view_is e.same) (e.noted ∙ ap (λ (k : Kept). k.watching.noted) c.self.view_is)

@@ -3,7 +3,7 @@ use Rattle.std.specs.Prelude.{Result}
 use Rattle.expr_text.specs.Meanings.{query_of}
 use Rattle.questions.specs.Answers.{Answers}
 use Rattle.questions.specs.declared.error.QuestionError.{QuestionError}
-use Rattle.questions.specs.declared.places.Located.{Located}
+use Rattle.questions.specs.declared.located.Located.{Located}
 use Rattle.questions.proofs.Ordered.{locate_placed}
 use Rattle.questions.proofs.scope.Scope.locate.Goals as goal
 

@@ -4,7 +4,7 @@ use Rattle.expr_text.specs.Meanings.{query_of}
 use Rattle.following.specs.Rows.{table_read}
 use Rattle.questions.specs.Answers.{Answers}
 use Rattle.questions.specs.declared.error.QuestionError.{QuestionError}
-use Rattle.questions.specs.declared.places.Located.{Located}
+use Rattle.questions.specs.declared.located.Located.{Located}
 use Rattle.questions.proofs.Watched.{locate_named, watch_sorted}
 use Rattle.questions.proofs.scope.Scope.locate_watch.Goals as goal
 

@@ -3,8 +3,8 @@ use Rattle.mk_value.specs.Data.{Datum}
 use Rattle.row_edits.specs.Edits.{IsInRange, edited}
 use Rattle.row_edits.specs.Lines.{edit_at, row_at, rows_at_event, rows_between}
 use Rattle.followers.proofs.Eventful.{edit_here, edit_made, same_shown}
-use Rattle.followers.proofs.watching.follow_whole.Given.{Over}
-use Rattle.followers.proofs.watching.follow_whole.Goals as goal
+use Rattle.followers.proofs.watching.follow_part.Given.{Over}
+use Rattle.followers.proofs.watching.follow_part.Goals as goal
 
 -- the rows that are shown before the edit and after it
 first : (g : Over) (c : goal.After-follow-arg-4-1 g) → rows_between c.between-before.result.whole.now c.between-before.result.part c.between-before.result.home (g.T.TableRead.rows c.between-before.result.before.now) (g.T.TableRead.rows c.between-before.result.after.now)
