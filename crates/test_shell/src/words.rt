@@ -246,40 +246,6 @@ fn words_ask_for_a_job(rt: HostRuntime) -> Result<(), Fail> {
     Ok(())
 }
 
-/// Words that name a base: the base, the file, how it is used and its cap.
-type Aside = (&'static [&'static str], &'static str, &'static str, Mode, u64);
-
-static ASIDE: [Aside; 5] = [
-    (&["--aside", "b", "f"], "b", "f", Mode::Write, MOST),
-    (&["--extend", "--aside", "b", "f"], "b", "f", Mode::Extend, MOST),
-    (&["f", "--aside=b", "--cap", "300"], "b", "f", Mode::Write, 300),
-    // Attaching a base without a name fails, and so does one that is the file.
-    (&["--aside", "", "f"], "", "f", Mode::Write, MOST),
-    (&["--aside", "f", "f"], "f", "f", Mode::Write, MOST),
-];
-
-fn names_base(rt: &impl Abort, alloc: Global, asked: &Aside) -> Result<(), Fail> {
-    let (words, base, file, mode, cap) = *asked;
-    let job = job_of(alloc, "mkshell", words)??;
-    assert_eq!(rt; job.file.as_str(), file, "{words:?}");
-    assert_eq!(rt; job.mode, mode, "{words:?}");
-    assert_eq!(rt; job.cap, cap, "{words:?}");
-    assert_eq!(rt; job.task, Task::Serve, "{words:?}");
-    match job.aside {
-        Some(name) => assert_eq!(rt; name.as_str(), base, "{words:?}"),
-        None => assert!(rt; false, "{words:?}"),
-    }
-    Ok(())
-}
-
-#[test]
-fn words_name_a_base(rt: HostRuntime) -> Result<(), Fail> {
-    for asked in &ASIDE {
-        names_base(&rt, rt.alloc(), asked)?;
-    }
-    Ok(())
-}
-
 #[test]
 fn words_ask_for_nothing(rt: HostRuntime) -> Result<(), Fail> {
     for words in &ASK_NOTHING {
