@@ -32,6 +32,6 @@ pub record AreReady (schema : List Attribute) (rows : List (List Datum)) (edit :
   pub noted : watching.noted ≡ noted_for edit
   pub room : room_followed edit ≤ spare watching
 
--- how many positions more a watch takes for edits at most
+-- how many chunks a watch takes for edits at most
 abbrev pub room_for : List RowEdit → ℕ
 room_for edits = sum_by room_of edits

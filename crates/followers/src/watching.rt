@@ -132,7 +132,7 @@ fn follow_edits<L: Ledger, T: TableRead>(watches: &mut Watches, line: &Line<'_, 
     }
 }
 
-/// How many positions more a watch takes for edits at most: one for each row that comes or changes.
+/// How many chunks a watch takes for edits at most: some for rows that come, one for a row that changes, none for rows that go.
 pub fn room_for(edits: &[RowEdit]) -> usize
     requires { room_for edits.now < 2 ^ 64 }
     ensures { result ≡ room_for edits.now }

@@ -62,7 +62,7 @@ pub record Stays (old new : Kept) : Type 0 where
   pub same : followed_of new ≡ followed_of old
   pub kept : (schema : List Attribute) (rows : List (List Datum)) → IsKeptOver schema rows old → IsKeptOver schema rows new
 
--- and there is room for so many positions more, where it is the view of the name
+-- and there is room for so many chunks more, where it is the view of the name
 pub record IsReserved (view : List ℕ) (more : ℕ) (old new : Kept) : Type 0 where
   pub stays : Stays old new
   pub room : same_bytes new.view view ≡ true → HasRoom more new

@@ -87,7 +87,7 @@ AreInStep views all = All (IsInStep views) all
 abbrev pub AreKeptOver : List ℕ → List Attribute → List (List Datum) → List Kept → Type 0
 AreKeptOver view schema rows all = All (λ (k : Kept). same_bytes k.view view ≡ true → IsKeptOver schema rows k) all
 
--- the watches of a view take so many positions more without memory
+-- the watches of a view take so many chunks more without memory
 abbrev pub HasRoom : ℕ → Kept → Type 0
 HasRoom more k = more ≤ spare k.watching
 

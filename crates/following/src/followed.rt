@@ -249,7 +249,7 @@ impl Followed {
         self.watches.at(number, row)
     }
 
-    /// Makes room for so many positions more in each watch, where the view has the name.
+    /// Lays so many chunks more aside for each watch, where the view has the name.
     pub fn reserve(&mut self, view: &Name, more: usize) -> Result<(), Memory>
         ensures stays { Stays self.old self.new }
         ensures room { OnOk result (same_bytes self.new.view view.now ≡ true → HasRoom more self.new) }

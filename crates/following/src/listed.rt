@@ -80,7 +80,7 @@ pub(crate) fn push(list: &mut Vec<Followed>, watches: Followed) -> Result<(), Me
     Ok(())
 }
 
-/// Makes room for the watches of a view to take so many positions more.
+/// Lays so many chunks more aside for each watch of a view.
 pub(crate) fn reserve_all(list: &mut [Followed], view: &Name, more: usize) -> Result<(), Memory>
     ensures stay { AreEach Stays list.old list.new }
     ensures room { OnOk result (HaveRoom view.now more list.new) }
