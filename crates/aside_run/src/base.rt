@@ -70,11 +70,7 @@ impl From<BlockError> for BaseError {
 /// # Errors
 ///
 /// `Bad` where it is empty or stands for nothing, and never else. `Failed`, which comes only where its disk failed; `Memory`. The disk is as before.
-pub(crate) fn open_base<B: Disk>(
-    alloc: Global,
-    name: &str,
-    disk: &mut B,
-) -> Result<Base, BaseError>
+pub(crate) fn open_base<B: Disk>(alloc: Global, name: &str, disk: &mut B) -> Result<Base, BaseError>
     requires settled { B.tells → IsSettled (B.outside disk.old).now.disk }
     ensures counts { CountsFaults (IsErrOf result BaseError.Failed) (B.outside disk.old) (B.outside disk.new) }
     ensures same { B.tells → Looks (B.outside disk.old) (B.outside disk.new) }

@@ -288,9 +288,7 @@ fn follow_coming(
     let edit = coming.edit;
     let edits = edit.edits(alloc).map_err(of_memory)?;
     let before = shared_view(store.views(), name)?;
-    watches
-        .reserve(name, edits.as_slice())
-        .map_err(of_memory)?;
+    watches.reserve(name, edits.as_slice()).map_err(of_memory)?;
     store.put_views(views);
     let after = view(store.views(), name);
     let line = Line {

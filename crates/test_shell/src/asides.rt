@@ -25,6 +25,7 @@ const EFFECTS: [Effect; 3] = [Effect::Nothing, Effect::Whole, Effect::Ones];
 
 /// How long the aside file is after the second commit, and the number of its chosen mark, which stands in slot 1.
 const ASIDE_LENGTH: usize = 544;
+
 const ASIDE_MARK: &[u8] = &[0xa5, 1, 0, 0, 0, 0, 0, 0, 3, 0, 0, 0, 0, 0, 0, 0];
 
 /// The base: the file that the first commit leaves.
@@ -62,7 +63,10 @@ fn a_commit_goes_to_the_aside_file(rt: HostRuntime) -> Result<(), Fail> {
     let input = b"set people 0 age 32\ncommit\nspace\n";
     let (status, host) = ran(&rt, rt.alloc(), base.as_slice(), b"", input, &[])?;
     assert_eq!(rt; status, Status::Done);
-    assert_eq!(rt; host.said(), b"ok mkshell 1\nok\nok commit 2\nok space 2 448 144\n".as_slice());
+    assert_eq!(rt;
+        host.said(),
+        b"ok mkshell 1\nok\nok commit 2\nok space 2 448 144\n".as_slice()
+    );
     assert_eq!(rt; host.image().len(), ASIDE_LENGTH);
     assert!(rt; host.image().get(128..144) == Some(ASIDE_MARK));
     Ok(())
@@ -72,15 +76,31 @@ fn a_commit_goes_to_the_aside_file(rt: HostRuntime) -> Result<(), Fail> {
 fn it_is_opened_again(rt: HostRuntime) -> Result<(), Fail> {
     let base = base_file(rt.alloc())?;
     let aside = aside_file(&rt, rt.alloc(), base.as_slice())?;
-    let (status, host) = ran(&rt, rt.alloc(), base.as_slice(), aside.as_slice(), b"show people\n", &[])?;
+    let (status, host) = ran(
+        &rt,
+        rt.alloc(),
+        base.as_slice(),
+        aside.as_slice(),
+        b"show people\n",
+        &[],
+    )?;
     assert_eq!(rt; status, Status::Done);
-    assert_eq!(rt; host.said(), b"ok mkshell 2\nok 1\n(\"Ann\",32)\n".as_slice());
+    assert_eq!(rt;
+        host.said(),
+        b"ok mkshell 2\nok 1\n(\"Ann\",32)\n".as_slice()
+    );
     assert_eq!(rt; host.image(), aside.as_slice());
     Ok(())
 }
 
 /// A refused run: what is said, and the file as before.
-fn refuses(rt: &impl Abort, alloc: Global, base: &[u8], file: &[u8], said: &[u8]) -> Result<(), Fail> {
+fn refuses(
+    rt: &impl Abort,
+    alloc: Global,
+    base: &[u8],
+    file: &[u8],
+    said: &[u8],
+) -> Result<(), Fail> {
     let (status, host) = ran(rt, alloc, base, file, b"show people\n", &[])?;
     assert_eq!(rt; status, Status::Refused);
     assert_eq!(rt; host.said(), said);
@@ -106,16 +126,40 @@ fn refusals_come_in_their_order(rt: HostRuntime) -> Result<(), Fail> {
     // A base that is none is named first, whatever the aside file.
     refuses(&rt, alloc, b"", &zeros, b"refused badbase\n")?;
     refuses(&rt, alloc, &zeros, b"", b"refused badbase\n")?;
-    refuses(&rt, alloc, base.as_slice().get(..351).unwrap_or(b""), &zeros, b"refused badbase\n")?;
+    refuses(
+        &rt,
+        alloc,
+        base.as_slice().get(..351).unwrap_or(b""),
+        &zeros,
+        b"refused badbase\n",
+    )?;
     // Then a file that is no aside file, and then one of another base.
     refuses(&rt, alloc, base.as_slice(), &zeros, b"refused aside 0\n")?;
-    refuses(&rt, alloc, base.as_slice(), base.as_slice(), b"refused aside 128\n")?;
+    refuses(
+        &rt,
+        alloc,
+        base.as_slice(),
+        base.as_slice(),
+        b"refused aside 128\n",
+    )?;
     let mut other = host(alloc, b"", b"", &[])?;
     let _ = run(alloc, &["mkshell", "f"], &mut other);
-    refuses(&rt, alloc, other.image(), aside.as_slice(), b"refused otherbase 352 1 208 0\n")?;
+    refuses(
+        &rt,
+        alloc,
+        other.image(),
+        aside.as_slice(),
+        b"refused otherbase 352 1 208 0\n",
+    )?;
     // Then the file for which the two stand: its directory says two views.
     let damaged = changed(alloc, aside.as_slice(), 336, 2)?;
-    refuses(&rt, alloc, base.as_slice(), damaged.as_slice(), b"refused damaged 438\n")
+    refuses(
+        &rt,
+        alloc,
+        base.as_slice(),
+        damaged.as_slice(),
+        b"refused damaged 438\n",
+    )
 }
 
 /// Base and aside file stand for one of the two commits.
@@ -131,11 +175,22 @@ fn number_of(rt: &impl Abort, alloc: Global, base: &[u8], file: &[u8]) -> Result
 }
 
 /// The second commit over a base, where one call of the aside file, its input or its output fails.
-fn fails_at(rt: &impl Abort, alloc: Global, base: &[u8], new: &[u8], fault: Fault) -> Result<(), Fail> {
+fn fails_at(
+    rt: &impl Abort,
+    alloc: Global,
+    base: &[u8],
+    new: &[u8],
+    fault: Fault,
+) -> Result<(), Fail> {
     let (_, host) = ran(rt, alloc, base, new, SECOND, &[fault])?;
     let number = number_of(rt, alloc, base, host.image())?;
     let acknowledged = host.said().starts_with(COMMITTED);
-    assert!(rt; number == 2 || (number == 1 && !acknowledged), "call {}, {:?}", fault.call, fault.effect);
+    assert!(rt;
+        number == 2 || (number == 1 && !acknowledged),
+        "call {}, {:?}",
+        fault.call,
+        fault.effect
+    );
     Ok(())
 }
 
@@ -151,7 +206,13 @@ fn each_call_fails(rt: HostRuntime) -> Result<(), Fail> {
     let new = new_aside(&rt, rt.alloc(), base.as_slice())?;
     for call in 0..CALLS {
         for effect in EFFECTS {
-            fails_at(&rt, rt.alloc(), base.as_slice(), new.as_slice(), Fault { call, effect })?;
+            fails_at(
+                &rt,
+                rt.alloc(),
+                base.as_slice(),
+                new.as_slice(),
+                Fault { call, effect },
+            )?;
         }
     }
     Ok(())
@@ -168,7 +229,10 @@ fn base_fails_at(rt: &impl Abort, alloc: Global, base: &[u8], call: u64) -> Resu
     let status = run_over(alloc, WORDS, &mut host, &mut base_host);
     if call < base_host.calls() {
         assert_eq!(rt; status, Status::DiskFault, "call {call}");
-        assert!(rt; host.said().is_empty() && host.image().is_empty(), "call {call}");
+        assert!(rt;
+            host.said().is_empty() && host.image().is_empty(),
+            "call {call}"
+        );
     } else {
         assert_eq!(rt; status, Status::Done, "call {call}");
     }
@@ -185,7 +249,13 @@ fn each_call_of_the_base_fails(rt: HostRuntime) -> Result<(), Fail> {
 }
 
 /// The machine stops after so many calls of a run: base and image stand for one of the two commits.
-fn stops_after(rt: &impl Abort, alloc: Global, base: &[u8], host: &MemHost, after: u64) -> Result<(), Fail> {
+fn stops_after(
+    rt: &impl Abort,
+    alloc: Global,
+    base: &[u8],
+    host: &MemHost,
+    after: u64,
+) -> Result<(), Fail> {
     for choice in EFFECTS {
         if after > host.calls() {
             return Ok(());
@@ -201,7 +271,14 @@ fn stops_after(rt: &impl Abort, alloc: Global, base: &[u8], host: &MemHost, afte
 fn the_machine_stops(rt: HostRuntime) -> Result<(), Fail> {
     let base = base_file(rt.alloc())?;
     let new = new_aside(&rt, rt.alloc(), base.as_slice())?;
-    let (_, host) = ran(&rt, rt.alloc(), base.as_slice(), new.as_slice(), SECOND, &[])?;
+    let (_, host) = ran(
+        &rt,
+        rt.alloc(),
+        base.as_slice(),
+        new.as_slice(),
+        SECOND,
+        &[],
+    )?;
     assert_eq!(rt; host.said(), COMMITTED);
     for after in 0..CALLS {
         stops_after(&rt, rt.alloc(), base.as_slice(), &host, after)?;

@@ -8,9 +8,12 @@ pub returns-in-Ok-open_base-clause-ran : goal.returns-in-Ok-open_base-clause-ran
 returns-in-Ok-open_base-clause-ran g c = λ tells tells_base.
     let read = c.in-Ok-open_base.ensures.reads tells_base in
     let file = (g.B.Disk.outside c.args.base.now).now.disk.seen in
-    inr (c.in-Ok-open_base.read.number, read.is,
-    subst (λ (b : List ℕ). RanOverBase (map g.V.Viewer.meaning c.args.viewers.now) c.args.job.now.mode c.args.job.now.cap c.serve_over.result b c.in-Ok-open_base.read.number (g.H.Disk.outside c.args.host.now) (g.H.Disk.outside c.serve_over.new.host))
-    read.bytes (c.serve_over.ensures.ran tells (subst (λ (b : List ℕ). b ≢ []) (sym read.bytes) (base_some file c.in-Ok-open_base.read.number read.is))))
+    inr (
+      c.in-Ok-open_base.read.number,
+      read.is,
+      subst (λ (b : List ℕ). RanOverBase (map g.V.Viewer.meaning c.args.viewers.now) c.args.job.now.mode c.args.job.now.cap c.serve_over.result b c.in-Ok-open_base.read.number (g.H.Disk.outside c.args.host.now) (g.H.Disk.outside c.serve_over.new.host))
+          read.bytes (c.serve_over.ensures.ran tells (subst (λ (b : List ℕ). b ≢ []) (sym read.bytes) (base_some file c.in-Ok-open_base.read.number read.is))),
+    )
 
 pub returns-in-Ok-open_base-clause-disk_fault : goal.returns-in-Ok-open_base-clause-disk_fault
 returns-in-Ok-open_base-clause-disk_fault g c = λ is. elim (c.serve_over.ensures.disk_fault is) [

@@ -24,9 +24,9 @@ returns-clause-served g c = λ tells.
     (serves_log (map g.V.Viewer.meaning c.args.viewers.now) c.args.job.now.mode c.args.job.now.cap c.serve_shown-status.result _ c.args.base.number c.args.log.end c.args.base.bytes.bytes (g.H.Disk.outside c.args.host.now)
     (g.H.Disk.outside c.serve_shown-status.new.aside.0.now) c.serve_shown-status.new.aside.0.ghost_name c.serve_shown-status.new.aside.1.0 c.serve_shown-status.new.aside.1.1 served.over source tells
     (shown_first (λ (o : Outside). RanServing (map g.V.Viewer.meaning c.args.viewers.now) c.args.job.now.mode c.args.job.now.cap c.serve_shown-status.result o
-      (shown (g.H.Disk.outside c.serve_shown-status.new.aside.0.now) c.serve_shown-status.new.aside.1.0 c.serve_shown-status.new.aside.1.1))
-      (g.H.Disk.outside c.over-aside.result.0.now) (g.H.Disk.outside c.args.host.now) c.over-aside.result.1.0 c.over-aside.result.1.1 _ c.args.base.number c.args.log.end c.args.base.bytes.bytes
-      (ap (λ (d : g.row.H.Denot). g.H.Disk.outside d) begun.same) begun.begins begun.no_fault (served.ran tells)))
+    (shown (g.H.Disk.outside c.serve_shown-status.new.aside.0.now) c.serve_shown-status.new.aside.1.0 c.serve_shown-status.new.aside.1.1))
+    (g.H.Disk.outside c.over-aside.result.0.now) (g.H.Disk.outside c.args.host.now) c.over-aside.result.1.0 c.over-aside.result.1.1 _ c.args.base.number c.args.log.end c.args.base.bytes.bytes
+    (ap (λ (d : g.row.H.Denot). g.H.Disk.outside d) begun.same) begun.begins begun.no_fault (served.ran tells)))
 
 pub returns-clause-disk_fault : goal.returns-clause-disk_fault
 returns-clause-disk_fault g c = λ is faults low.
@@ -40,5 +40,5 @@ returns-clause-disk_fault g c = λ is faults low.
     (fault_under c.serve_shown-status.new.aside.0.ghost_name (moment (g.H.Disk.outside c.args.host.now)) c.args.base.number c.args.base.bytes.bytes
     (g.H.Disk.outside c.serve_shown-status.new.aside.0.now) c.serve_shown-status.new.aside.1.0 c.serve_shown-status.new.aside.1.1 served.over source faults (g.H.Disk.outside c.args.host.now) c.over-aside.result.1.0 low
     (shown_first (λ (o : Outside). Rose o.disk_faults (shown (g.H.Disk.outside c.serve_shown-status.new.aside.0.now) c.serve_shown-status.new.aside.1.0 c.serve_shown-status.new.aside.1.1).disk_faults)
-      (g.H.Disk.outside c.over-aside.result.0.now) (g.H.Disk.outside c.args.host.now) c.over-aside.result.1.0 c.over-aside.result.1.1 _ c.args.base.number c.args.log.end c.args.base.bytes.bytes
-      (ap (λ (d : g.row.H.Denot). g.H.Disk.outside d) begun.same) begun.begins begun.no_fault (served.disk_fault is)))
+    (g.H.Disk.outside c.over-aside.result.0.now) (g.H.Disk.outside c.args.host.now) c.over-aside.result.1.0 c.over-aside.result.1.1 _ c.args.base.number c.args.log.end c.args.base.bytes.bytes
+    (ap (λ (d : g.row.H.Denot). g.H.Disk.outside d) begun.same) begun.begins begun.no_fault (served.disk_fault is)))

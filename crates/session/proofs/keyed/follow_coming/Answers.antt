@@ -17,7 +17,7 @@ reserve-requires c =
     let edits = c.in_ok-edits.edits in
     let edit = c.args.coming.edit in
     let made : edits ≡ edits_of edit =
-        of_ok _ (λ (l : List RowEdit). l ≡ edits_of edit) c.edits.result c.map_err.result edits c.map_err.ensures.cases c.map_err.ensures.variant c.in_ok-edits.was c.edits.ensures in
+    of_ok _ (λ (l : List RowEdit). l ≡ edits_of edit) c.edits.result c.map_err.result edits c.map_err.ensures.cases c.map_err.ensures.variant c.in_ok-edits.was c.edits.ensures in
     record { few = subst (λ (l : List RowEdit). room_for l < 2 ^ 64) (sym (c.as_slice.ensures ∙ made)) (keyed_room edit) }
 
 pub follow_line-requires-clause-kept : goal.follow_line-requires-clause-kept

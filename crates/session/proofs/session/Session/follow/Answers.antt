@@ -17,7 +17,7 @@ reserve-requires c =
     let path = c.args.path.now in
     let line = c.requires.line in
     let few : room_for (c.edit_at.result ∷ []) < 2 ^ 64 = subst (λ (e : RowEdit). room_for (e ∷ []) < 2 ^ 64) (sym (c.edit_at.ensures ∙ ap (λ s. edit_at s c.args.edit) c.steps.ensures))
-        (room_few (edit_at path.steps c.args.edit) (length line.before.rows) line.line.in_range.0) in
+    (room_few (edit_at path.steps c.args.edit) (length line.before.rows) line.line.in_range.0) in
     record { few = few }
 
 pub follow_line-requires-clause-kept : goal.follow_line-requires-clause-kept
