@@ -100,6 +100,13 @@ module _ (all xs ys : List Kept) (view : List ℕ) (at : ℕ) (k : Kept) (total 
   pub named_one : (P : Kept → Type 0) → All (λ (x : Kept). same_bytes x.view view ≡ true → P x) all → P k
   named_one P h = subst P (sym (one k)) (h at k there (stands.first.here k))
 
+  -- what is so of it is so of all of that view
+  pub named_all : (P : Kept → Type 0) → P k → All (λ (x : Kept). same_bytes x.view view ≡ true → P x) all
+  named_all P h j d p named = elim (cases_eq j at) [
+    | inl e ↦ subst P (one d ∙ ap (λ i. get_or all i d) (sym e)) h
+    | inr apart ↦ absurd (let clash : true ≡ false = sym named ∙ stands.others j d p apart in cc)
+  ]
+
   pub mapping_one : mapping_of (mapped all) view ≡ Some (record { view = view; by = by_of k.mapping; keys = k.keys })
   mapping_one =
       mapping_is all view ∙ ap (option_map mapped_of) (find_first (is_of view) all at k stands.first ∙ ap Some (sym (one k)))

@@ -1,5 +1,5 @@
 -- Views that are kept by key: which they are, and how a row comes to one.
-use Rattle.std.specs.Prelude.{ℕ, Bool, if◌then◌else◌, List, [], ◌∷◌, find, take, Option, Some, None}
+use Rattle.std.specs.Prelude.{ℕ, Bool, if◌then◌else◌, List, [], ◌∷◌, find, slice_index_or, slice_set, take, Option, Some, None}
 use Rattle.std.specs.List.{list_any}
 use Rattle.followers.specs.Keyed.{other_than, put_by, put_ordered, set_ordered}
 use Rattle.followers.specs.declared.keyed.KeyedEdit.{KeyedEdit}
@@ -7,7 +7,9 @@ use Rattle.followers.specs.declared.keyed.KeyedEdit.TheVariants.{Change}
 use Rattle.mapped.specs.Index.{row_of}
 use Rattle.mapped.specs.Keys.{has_key, keys_of, rows_below}
 use Rattle.mk_value.specs.Data.{Datum}
+use Rattle.mk_value.specs.Heading.{Attribute}
 use Rattle.mk_value.specs.Names.{same_bytes}
+use Rattle.tables.specs.Tables.{place_of_property}
 use Rattle.mappings.specs.declared.by.By.{By}
 use Rattle.mappings.specs.declared.by.By.TheVariants.{Hash, Order}
 
@@ -53,6 +55,10 @@ put_edit by keys row at rows = put_key by keys (take keys row) at rows
 abbrev pub set_key : By → ℕ → List Datum → ℕ → List (List Datum) → KeyedEdit
 set_key Hash keys key at rows = Change at (other_than at (row_of key (keys_of keys rows)))
 set_key Order keys key at rows = let low = rows_below key rows in set_ordered at low (has_key key rows low)
+
+-- a row once a property of it has another value
+abbrev pub row_with : List Attribute → List (List Datum) → ℕ → List ℕ → Datum → List Datum
+row_with schema rows at prop d = slice_set (slice_index_or rows at []) (place_of_property schema prop) d
 
 -- the row at a place becomes this row
 abbrev pub set_edit : By → ℕ → List Datum → ℕ → List (List Datum) → KeyedEdit

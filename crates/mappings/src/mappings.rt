@@ -1,14 +1,16 @@
 //! All mappings, by the names of their views.
-ghost use Rattle.std.specs.Prelude.{◌≡◌, ◌≤◌, ◌<◌, ◌+◌, ◌++◌, ◌∷◌, [], ℕ, List, length, take, true, None, Some, Err, IfErr, IfOk, MatchOption, OnErr, OnOk};
+ghost use Rattle.std.specs.Prelude.{◌≡◌, ◌≤◌, ◌<◌, ◌+◌, ◌++◌, ◌∷◌, [], ℕ, List, length, take, true, None, Some, Err, IfErr, IfOk, IsSome, MatchOption, OnErr, OnOk};
 ghost use Rattle.followers.specs.Keyed.{edits_of};
 ghost use Rattle.followers.specs.declared.keyed.KeyedEdit.TheVariants.{Remove};
 ghost use Rattle.mapped.specs.Refusals.{count_due};
 ghost use Rattle.mk_value.specs.Data.{Datum, IsRowOf};
+ghost use Rattle.mk_value.specs.Heading.{find as find_property};
 ghost use Rattle.mk_value.specs.Limits.{max_rows};
+ghost use Rattle.mk_value.specs.Values.{datum_of};
 ghost use Rattle.row_edits.specs.Edits.{size_by};
 ghost use Rattle.view_store.specs.Views.{NamedTable, table_of};
 ghost use Rattle.mappings.specs.Keeping.{AllBring, AreKept, AreKeptOver, AreReady, EditsRows, mapped};
-ghost use Rattle.mappings.specs.Mapped.{is_mapped as is_view_mapped, mapping_of, order_in, put_edit, set_edit, without_mapping};
+ghost use Rattle.mappings.specs.Mapped.{is_mapped as is_view_mapped, mapping_of, order_in, put_edit, row_with, set_edit, without_mapping};
 ghost use Rattle.mappings.specs.Refusals.{AnswersPut, put_due, schema_due};
 ghost use Rattle.mappings.specs.declared.error.MappingError.{MappingError as MappingErrorValue};
 ghost use Rattle.relations.specs.Fitting.{is_view as is_view_domain};
@@ -21,7 +23,7 @@ use crate::error::MappingError;
 use crate::kept::Kept;
 use crate::list::{at, find, is_mapped, push};
 use crate::mapping::Mapping;
-use mk_value::{Memory, Name, Row, Schema, TableRead};
+use mk_value::{Memory, Name, Row, Schema, TableRead, Value};
 use relations::lookup::is_view;
 use std::alloc::Global;
 use std::marker::Model;
@@ -201,7 +203,7 @@ impl Mappings {
         self.list[at].put(alloc, table, row, place)
     }
 
-    /// How the row at a place of a mapped view becomes another. It takes all memory that it needs to follow it.
+    /// How the row at a place of a mapped view becomes one with another value of a property. It takes all memory that it needs to follow it.
     ///
     /// # Errors
     ///
@@ -210,45 +212,35 @@ impl Mappings {
         &mut self,
         view: &Name,
         table: &Shared,
-        row: &Row,
         place: usize,
+        prop: &Name,
+        value: &Value,
     ) -> Result<Coming, Memory>
         requires mapped { is_view_mapped (mapped self.old) view.now ≡ true }
         requires kept { AreKeptOver view.now table.now.schema table.now.rows self.old }
-        requires row { IsRowOf row.now table.now.schema }
+        requires named { IsSome (find_property table.now.schema prop.now) }
+        requires row { IsRowOf (row_with table.now.schema table.now.rows place prop.now (datum_of value.now)) table.now.schema }
         requires there { place < length table.now.rows }
         ensures edit { (by : _) (keys : ℕ) → mapping_of (mapped self.old) view.now ≡ Some (record { view = view.now; by = by; keys = keys })
-            → IfOk result (λ c. c.edit ≡ set_edit by keys row.now place table.now.rows) }
+            → IfOk result (λ c. c.edit ≡ set_edit by keys (row_with table.now.schema table.now.rows place prop.now (datum_of value.now)) place table.now.rows) }
         ensures ready { IfOk result (λ c. AreReady view.now c self.new) }
-        ensures brings { IfOk result (λ c. AllBring view.now table.now.rows row.now c self.new) }
+        ensures brings { IfOk result (λ c. AllBring view.now table.now.rows (row_with table.now.schema table.now.rows place prop.now (datum_of value.now)) c self.new) }
         ensures same { mapped self.new ≡ mapped self.old }
         ensures kept { (views : List NamedTable) → AreKept views self.old → AreKept views self.new }
     {
         let alloc = *self.list.allocator();
         let at = at(&self.list, view);
-        self.list[at].set(alloc, table, row, place)
+        self.list[at].set(alloc, table, place, prop, value)
     }
 
-    /// How rows of a mapped view go, from a place on. It takes all memory that it needs to follow it.
-    ///
-    /// # Errors
-    ///
-    /// `Memory`.
-    pub fn remove_edit(
-        &mut self,
-        view: &Name,
-        table: &Shared,
-        place: usize,
-        count: usize,
-    ) -> Result<Coming, Memory>
-        requires mapped { is_view_mapped (mapped self.old) view.now ≡ true }
-        requires kept { AreKeptOver view.now table.now.schema table.now.rows self.old }
+    /// How rows of a mapped view go, from a place on. It takes no memory, nor does it take any to follow it.
+    pub fn remove_edit(&self, view: &Name, table: &Shared, place: usize, count: usize) -> Coming
+        requires mapped { is_view_mapped (mapped self.now) view.now ≡ true }
+        requires kept { AreKeptOver view.now table.now.schema table.now.rows self.now }
         requires there { place + count ≤ length table.now.rows }
-        ensures edit { IfOk result (λ c. c.edit ≡ Remove place count) }
-        ensures ready { IfOk result (λ c. AreReady view.now c self.new) }
-        ensures brings { IfOk result (λ c. AllBring view.now table.now.rows [] c self.new) }
-        ensures same { mapped self.new ≡ mapped self.old }
-        ensures kept { (views : List NamedTable) → AreKept views self.old → AreKept views self.new }
+        ensures edit { result.edit ≡ Remove place count }
+        ensures ready { AreReady view.now result self.now }
+        ensures brings { AllBring view.now table.now.rows [] result self.now }
     {
         let alloc = *self.list.allocator();
         let at = at(&self.list, view);

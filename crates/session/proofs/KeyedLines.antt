@@ -36,7 +36,7 @@ use Rattle.mappings.specs.Mapped.{put_edit, set_edit}
 use Rattle.mappings.specs.declared.by.By.{By}
 use Rattle.mappings.specs.declared.by.By.TheVariants.{Hash, Order}
 use Rattle.relations.proofs.Faults.{cases}
-use Rattle.session.specs.Keyed.{AreAllowed, IsPut, edited_in_turn, put_edits, stand_edits}
+use Rattle.session.specs.Keyed.{AreAllowed, IsPut, IsRowIn, IsSet, edited_in_turn, place_of_set, put_edits, stand_edits}
 use Rattle.session.proofs.LinesOn.{found_edited, other_edited}
 
 -- views rest on those on which others rest on which they rest
@@ -201,17 +201,6 @@ replaced base root route schema lines gone at row s whole within there room =
     (one_goes base (edited_views root route (Edit.remove gone 1)) route schema _ (Edit.insert at row 1)
     (goes_insert base (edited_views root route (Edit.remove gone 1)) route schema (rows.edited row (row_edit.Remove gone 1) lines) at row first.then whole (omega (arith, size, there)) (omega (arith, size, within, room))))
 
--- a row is set, and where
-abbrev pub IsSet : KeyedEdit → Type 0
-IsSet (Change at other) = Unit {0}
-IsSet (Move at other to) = Unit {0}
-IsSet e = ⊥
-
-abbrev pub place_of_set : KeyedEdit → ℕ
-place_of_set (Change at other) = at
-place_of_set (Move at other to) = at
-place_of_set e = 0
-
 -- a row is put by its key
 pub put_goes : (base root : List NamedTable) (route : Route) (schema : List Attribute) (lines : List (List Datum)) (row : List Datum) (e : KeyedEdit) → Stands base root route schema lines
     → IsRowOf row schema → length lines ≤ max_rows → IsInPlace e (length lines) → IsPut e
@@ -361,3 +350,9 @@ none_stands row (Replace at) change move = refl
 none_stands row (Change at other) change move = absurd (change at other refl)
 none_stands row (Move at other to) change move = absurd (move at other to refl)
 none_stands row (Remove at n) change move = refl
+
+-- a row that stands at one place is one row
+pub one_row : (root : List NamedTable) (name : List ℕ) (at : ℕ) (r s : List Datum) → IsRowIn root name at r → IsRowIn root name at s → r ≡ s
+one_row root name at r s a b =
+    let same : a.table ≡ b.table = (let e : Some a.table ≡ Some b.table = sym a.found ∙ b.found in cc) in
+    a.is ∙ ap (λ (t : StoredTable). get_or t.rows at []) same ∙ sym b.is

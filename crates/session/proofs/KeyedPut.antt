@@ -1,5 +1,5 @@
 -- A row that comes to a view by its key, in the session's own terms.
-use Rattle.std.proofs.Common.{◌≡◌, ◌+◌, ◌<◌, ◌≤◌, ℕ, true, List, [], ◌∷◌, length, get_or, set, Option, Some, None, Result, Ok, Err, IfOk, OnOk, MatchResult, refl, ap, sym, subst, ◌∙◌}
+use Rattle.std.proofs.Common.{◌≡◌, ◌+◌, ◌<◌, ◌≤◌, ℕ, true, List, [], ◌∷◌, length, get_or, set, Option, Some, None, Result, Ok, Err, IfOk, OnOk, MatchResult, refl, ap, sym, subst, ◌∙◌, arith}
 use Rattle.std.specs.Result.{is_ok}
 use Rattle.std.proofs.lemmas.Bool.{false≢true}
 use Rattle.std.proofs.lemmas.List.{get_or-set_same, length-set}
@@ -9,13 +9,14 @@ use Rattle.followers.specs.declared.keyed.KeyedEdit.{KeyedEdit}
 use Rattle.followers.specs.declared.keyed.KeyedEdit.TheVariants.{Remove}
 use Rattle.following.specs.Watches.{Followed, followed_by}
 use Rattle.mappings.specs.Keeping.{AllBring, AreKept, AreKeptOver, AreReady, EditsRows, mapped}
-use Rattle.mappings.specs.Mapped.{MappedView, is_mapped, mapping_of, put_edit, set_edit}
+use Rattle.mappings.specs.Mapped.{MappedView, is_mapped, mapping_of, put_edit, row_with as row_of_set, set_edit}
+use Rattle.mappings.specs.declared.by.By.{By}
 use Rattle.mappings.specs.declared.coming.Coming.{Coming}
 use Rattle.mappings.specs.declared.kept.Kept.{Kept}
 use Rattle.mappings.specs.declared.mappings.ByKeys.{ByKeys}
 use Rattle.mappings.proofs.Holding.{kept_over}
 use Rattle.mappings.proofs.Placing.{put_in_place, set_in_place}
-use Rattle.mk_value.specs.Data.{Datum, IsRowOf}
+use Rattle.mk_value.specs.Data.{AreRowsOf, Datum, IsRowOf}
 use Rattle.mk_value.specs.Limits.{max_rows}
 use Rattle.mk_value.specs.Paths.{Route}
 use Rattle.mk_value.specs.declared.path.Step.{Step}
@@ -28,11 +29,12 @@ use Rattle.view_store.specs.Edits.{Edit, edited_here}
 use Rattle.view_store.specs.Refusals.{at_view, due, due_in}
 use Rattle.view_store.specs.Views.{NamedTable, edited_views, table_of}
 use Rattle.session.specs.Following.{IsLineOn, edit_at, home_at}
-use Rattle.session.specs.Keyed.{Comes, IsPut, IsRowIn, edited_in_turn, line_by_key, mapping_as, mapping_at, mapping_on, put_by_key, put_edits, row_with, set_by_key, stand_edits}
+use Rattle.session.specs.Keyed.{Comes, IsPut, Sets, StandsBy, edited_in_turn, line_by_key, mapping_as, mapping_at, mapping_on, place_of_set, put_by_key, put_edits, row_with, set_by_key, stand_edits}
 use Rattle.session.specs.Values.{rows_named, schema_named, size_named}
 use Rattle.session.specs.World.{World}
 use Rattle.session.proofs.KeyedKept.{has_keys, is_mapped_at, stands_first}
 use Rattle.session.proofs.LinesOn.{in_range, line_on, row_in}
+use Rattle.session.proofs.KeyedSet.{SetWhole, set_whole}
 use Rattle.session.proofs.KeyedLines.{AllGo, Stands, edited_found, edited_rows, is_put, put_goes, set_goes, sets_at}
 
 some_is : {X : Type 0} (x y : X) → Some x ≡ Some y → x ≡ y
@@ -166,18 +168,51 @@ set_in views route at prop d t here found free =
       rows = refl;
     }
 
-module _ (views new : List NamedTable) (route : Route) (at : ℕ) (prop : List ℕ) (d : Datum) (t : StoredTable) (s : SetIn views route at prop d t) (made : new ≡ edited_views views route (Edit.set at prop d)) where
-  pub set_there : (u : StoredTable) × (table_of new route.name ≡ Some u) × (at < length u.rows)
-  set_there =
-      let long = length-set t.rows at (set (get_or t.rows at []) (place_of_property t.schema prop) d) in
-      (s.after, ap (λ v. table_of v route.name) made ∙ s.found, subst (λ n. at < n) (sym (ap length s.rows ∙ long)) s.within)
+-- A view of which a row may be given a value: as it is, and what that leaves of it.
+pub record MaySetAt (views : List NamedTable) (all : List Kept) (w : World) (route : Route) (keys : ByKeys) (t : StoredTable) (at : ℕ) (prop : List ℕ) (d : Datum) : Type 0 where
+  pub view : IsAt views all w route keys t
+  pub free : due views route (Edit.set at prop d) ≡ None
+  pub left : SetIn views route at prop d t
+  pub whole : SetWhole t at prop d
 
-  pub set_row : (row : List Datum) → IsRowIn new route.name at row → (row ≡ set (get_or t.rows at []) (place_of_property t.schema prop) d) × IsRowOf row t.schema
-  set_row row h =
-      let same : h.table ≡ s.after = some_is h.table s.after (sym h.found ∙ ap (λ v. table_of v route.name) made ∙ s.found) in (
-        h.is ∙ ap (λ (u : StoredTable). get_or u.rows at []) same ∙ ap (λ rows. get_or rows at []) s.rows ∙ get_or-set_same t.rows at (set (get_or t.rows at []) (place_of_property t.schema prop) d) [] s.within,
-        subst (IsRowOf row) (ap (λ (u : StoredTable). u.schema) same ∙ s.schema) h.whole,
-      )
+pub may_set_at : (views : List NamedTable) (all : List Kept) (w : World) (route : Route) (keys : ByKeys) (t : StoredTable) (at : ℕ) (prop : List ℕ) (d : Datum) → views ≡ w.store.views → mapped all ≡ w.mappings → AreKept views all
+    → mapping_on w route ≡ Some (mapping_as route keys) → table_of views route.name ≡ Some t → due w.store.views route (Edit.set at prop d) ≡ None → AreRowsOf t.rows t.schema → MaySetAt views all w route keys t at prop d
+may_set_at views all w route keys t at prop d same_views same_mappings kept mapping found due_none rows =
+    let view = is_at views all w route keys t same_views same_mappings kept mapping found in
+    let free = subst (λ v. due v route (Edit.set at prop d) ≡ None) (sym same_views) due_none in
+    let left = set_in views route at prop d t view.stands.here found free in
+    record { view = view; free = free; left = left; whole = set_whole views route at prop d t view.stands.here found free rows left.within }
+
+-- what sets a row is its edit
+pub set_sets : (by : By) (keys : ℕ) (row : List Datum) (rows : List (List Datum)) (i : ℕ) (prop : List ℕ) (d : Datum) (e : KeyedEdit) → e ≡ set_edit by keys row i rows → Sets e (Edit.set i prop d)
+set_sets by keys row rows i prop d e is =
+    let sets = sets_at by keys row i rows in
+    subst (λ x. Sets x (Edit.set i prop d)) (sym is) (record { prop = prop; value = d; is = sets.is; made = ap (λ k. Edit.set k prop d) (sym sets.at) })
+
+-- a row that is given a value, and may stand by its key
+module _ (views : List NamedTable) (all : List Kept) (w : World) (route : Route) (keys : ByKeys) (t : StoredTable) (h : IsAt views all w route keys t) where
+  pub stands_by : (at : ℕ) (prop : List ℕ) (d : Datum) (coming : Coming) (others : List Kept) → coming.edit ≡ set_edit keys.by keys.keys (row_of_set t.schema t.rows at prop d) at t.rows → IsRowOf (row_of_set t.schema t.rows at prop d) t.schema
+      → SetIn views route at prop d t → length t.rows ≤ max_rows → due views route (Edit.set at prop d) ≡ None → AllBring route.name t.rows (row_of_set t.schema t.rows at prop d) coming others → AreReady route.name coming others
+      → StandsBy (row_of_set t.schema t.rows at prop d) route coming (Edit.set at prop d) others views
+  stands_by at prop d coming others is whole s many free brings ready =
+      let row = row_of_set t.schema t.rows at prop d in
+      let sets = sets_at keys.by keys.keys row at t.rows in
+      let place : place_of_set coming.edit ≡ at = ap place_of_set is ∙ sets.at in
+      let long = length-set t.rows at row in
+      let size = ap length s.rows in
+      let within = s.within in
+      record {
+        there = record {
+          table = s.after;
+          found = s.found;
+          is = sym (ap (λ k. get_or s.after.rows k []) place ∙ ap (λ rows. get_or rows at []) s.rows ∙ get_or-set_same t.rows at row [] s.within);
+          whole = subst (IsRowOf row) (sym s.schema) whole;
+        };
+        stood = (s.after, s.found, omega arith);
+        allowed = (set_all views all w route keys t h at prop d row coming.edit is whole s.within many free refl).allowed;
+        comes =
+            set_comes views all w route keys t h at prop d row coming others (edited_in_turn views route (Edit.set at prop d ∷ stand_edits row coming.edit)) is whole s.within many free refl refl brings ready;
+      }
 
 -- rows that go
 some_of : {X : Type 0} (o : Option X) → is_some o ≡ true → (x : X) × (o ≡ Some x)

@@ -11,8 +11,10 @@ mod KeyedFollow
 mod KeyedKept
 mod KeyedLines
 mod KeyedPut
+mod KeyedSet
 mod LinesOn
 pub mod Machines
+mod Made
 pub mod OnDisk
 mod OnlyReading
 pub mod Outcomes

@@ -12,7 +12,6 @@ use Rattle.mk_value.specs.declared.path.Step.{Step}
 use Rattle.mk_value.specs.Tables.{domain_at}
 use Rattle.relations.proofs.Faults.{cases}
 use Rattle.row_edits.specs.Lines.{IsLine, row_at}
-use Rattle.row_edits.specs.declared.edit.RowEdit.{RowEdit}
 use Rattle.row_edits.specs.declared.edit.RowEdit.TheVariants.{Insert, Remove, Change}
 use Rattle.tables.specs.Homes.{rows_in}
 use Rattle.tables.specs.Rows.{completed, inserted, removed}
@@ -23,21 +22,11 @@ use Rattle.view_store.specs.Views.{NamedTable, edited_views, table_of}
 use Rattle.view_store.specs.declared.error.EditError.TheVariants.{NoView, OutOfRange}
 use Rattle.view_store.proofs.Editing.{edited-schema, may_insert}
 use Rattle.view_store.proofs.Roots.{same_name}
+use Rattle.session.specs.Changes.{home_of, row_edit_of}
 use Rattle.session.specs.Following.{IsLineOn, edit_at, home_at}
 
 some_none : {X P : Type 0} (x : X) → Some x ≡ None → P
 some_none x e = absurd (let f : ◌≡◌ {A = Option _} (Some x) None = e in cc)
-
--- the edit as one of rows, and where the row that comes with it stands
-abbrev pub of_rows : Edit → RowEdit
-of_rows (Edit.insert at row n) = Insert at n
-of_rows (Edit.set i prop d) = Change i
-of_rows (Edit.remove at n) = Remove at n
-
-abbrev pub home_of : Edit → ℕ
-home_of (Edit.insert at row n) = at
-home_of (Edit.set i prop d) = i
-home_of (Edit.remove at n) = 0
 
 -- the table of the view is edited, and that of each other name is as before
 pub found_edited : (views : List NamedTable) (route : Route) (edit : Edit) (t : StoredTable) → table_of views route.name ≡ Some t
@@ -142,7 +131,7 @@ line_removed_none rows at h = record {
   made = sym (ap (λ k. take at rows ++ drop k rows) (let e : at + 0 ≡ at = omega arith in e) ∙ take-append-drop at rows);
 }
 
-line_here : (t : StoredTable) (edit : Edit) → due_in t [] edit ≡ None → IsLine (of_rows edit ∷ []) (home_of edit) t.rows (edited_here edit t).rows
+line_here : (t : StoredTable) (edit : Edit) → due_in t [] edit ≡ None → IsLine (row_edit_of edit ∷ []) (home_of edit) t.rows (edited_here edit t).rows
 line_here t (Edit.insert at row zero) h = let may = may_insert t at zero row h in line_none t.rows at may.within may.room
 line_here t (Edit.insert at row (suc n)) h = let may = may_insert t at (suc n) row h in line_inserted t.rows at n (completed t.schema row) may.within may.room
 line_here t (Edit.set i prop d) h =
@@ -151,12 +140,12 @@ line_here t (Edit.remove at zero) h = line_removed_none t.rows at (rows_in_range
 line_here t (Edit.remove at (suc n)) h = line_removed t.rows at (suc n) (rows_in_range (length t.rows) (at + suc n) (in_range t (Edit.remove at (suc n)) h))
 
 line_at : (t : StoredTable) (steps : List Step) (edit : Edit) → due_in t steps edit ≡ None
-    → IsLine (edit_at steps (of_rows edit) ∷ []) (home_at steps (home_of edit)) t.rows (edited steps edit t).rows
+    → IsLine (edit_at steps (row_edit_of edit) ∷ []) (home_at steps (home_of edit)) t.rows (edited steps edit t).rows
 line_at t [] edit h = line_here t edit h
 line_at t (s ∷ steps) edit h = line_set t.rows s.row _ (row_on_path t s steps edit h)
 
 line_found : (views : List NamedTable) (route : Route) (edit : Edit) (o : Option StoredTable) → table_of views route.name ≡ o → at_view o (λ t. due_in t route.steps edit) ≡ None
-    → IsLineOn route.name (edit_at route.steps (of_rows edit)) (home_at route.steps (home_of edit)) views (edited_views views route edit)
+    → IsLineOn route.name (edit_at route.steps (row_edit_of edit)) (home_at route.steps (home_of edit)) views (edited_views views route edit)
 line_found views route edit None found h = some_none NoView h
 line_found views route edit (Some t) found h = record {
   before = t;
@@ -170,10 +159,5 @@ line_found views route edit (Some t) found h = record {
 
 -- an edit that is due no refusal is a line on the view of its path
 pub line_on : (views : List NamedTable) (route : Route) (edit : Edit) → due views route edit ≡ None
-    → IsLineOn route.name (edit_at route.steps (of_rows edit)) (home_at route.steps (home_of edit)) views (edited_views views route edit)
+    → IsLineOn route.name (edit_at route.steps (row_edit_of edit)) (home_at route.steps (home_of edit)) views (edited_views views route edit)
 line_on views route edit h = line_found views route edit (table_of views route.name) refl h
-
-pub line_to : (views new : List NamedTable) (route : Route) (edit : Edit) → new ≡ edited_views views route edit → due views route edit ≡ None
-    → IsLineOn route.name (edit_at route.steps (of_rows edit)) (home_at route.steps (home_of edit)) views new
-line_to views new route edit is h =
-    subst (λ v. IsLineOn route.name (edit_at route.steps (of_rows edit)) (home_at route.steps (home_of edit)) views v) (sym is) (line_on views route edit h)

@@ -1,21 +1,21 @@
 -- Lines of a session that only reads.
-use Rattle.std.proofs.Common.{◌≡◌, ℕ, false, true, List, [], ◌∷◌, All, None, refl, ap, sym, subst, ◌∙◌, inl, inr}
+use Rattle.std.proofs.Common.{◌≡◌, ℕ, false, List, [], ◌∷◌, All, None, refl, ap, sym, subst, ◌∙◌, inl, inr}
 use Rattle.std.proofs.lemmas.Bool.{false≢true}
 use Rattle.std.proofs.lemmas.List.Elements.{All-cons, All-nil, All-weaker}
 use Rattle.std.specs.Option.{is_some}
-use Rattle.std.specs.Prelude.{◌⊎◌, ◌==◌, not}
+use Rattle.std.specs.Prelude.{◌==◌, not}
 use Rattle.cmd_text.specs.declared.command.Command.{Command}
 use Rattle.cmd_text.specs.declared.refusal.Refusal.TheVariants.{LastNumber, ReadOnly}
 use Rattle.commit_plan.specs.Plans.{last_number}
-use Rattle.host_io.specs.Disk.{DiskState, settled}
+use Rattle.host_io.specs.Disk.{DiskState}
 use Rattle.lines.specs.Machine.{Answers, Run, State, Turn}
-use Rattle.storage.specs.Stored.{Stored, is_shut}
+use Rattle.storage.specs.Stored.{is_shut}
 use Rattle.storage.specs.declared.mode.Mode.{Mode}
 use Rattle.storage.specs.declared.mode.Mode.TheVariants.{Read}
 use Rattle.viewers.specs.Meanings.{Meaning}
 use Rattle.session.specs.Answered.{IsGiven}
 use Rattle.session.specs.Carried.{Carried, Comes, LeavesDiskBy}
-use Rattle.session.specs.Commands.{Outcome, Reach, commit_due, commits, gives, goes_when_shut, may_write, off_disk, opens_disk, outcome_in, outcome_of, reach_of, reads_disk, reopens, reverts, writes_disk}
+use Rattle.session.specs.Commands.{Outcome, Reach, commit_due, commits, gives, goes_when_shut, may_write, off_disk, opens_disk, outcome_in, reach_of, reads_disk, reopens, reverts, writes_disk}
 use Rattle.session.specs.Disk.{SettlesAtMost}
 use Rattle.session.specs.Refusals.{first_of, unless}
 use Rattle.session.specs.Step.{Step, machine}

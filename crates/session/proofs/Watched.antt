@@ -6,20 +6,16 @@ use Rattle.std.proofs.lemmas.Bool.{false≢true}
 use Rattle.std.proofs.lemmas.List.{get_or-map}
 use Rattle.commit_plan.specs.Following.{NamedRows, rows_of_views}
 use Rattle.commit_plan.specs.Plans.{Planned}
-use Rattle.following.specs.Keeping.{AreKept, ChangesRows, HaveSameRows, IsKept, IsWatchOf, Kept, followed, followed_of, shown_by}
-use Rattle.following.proofs.Holding.{kept_where_others, raised_where_none}
+use Rattle.following.specs.Keeping.{AreKept, HaveSameRows, IsKept, IsWatchOf, Kept, followed, followed_of, shown_by}
+use Rattle.following.proofs.Holding.{kept_where_others}
 use Rattle.following.proofs.Shown.{found_kept, watch_shows}
-use Rattle.following.specs.Watches.{Followed, Shown, is_among, is_watch}
+use Rattle.following.specs.Watches.{Shown, is_watch}
 use Rattle.live.specs.Numbers.{place_of as place_numbered, watch_of}
 use Rattle.live.specs.States.{WatchState, Watching}
-use Rattle.mk_value.specs.Paths.{Route}
-use Rattle.row_edits.specs.declared.edit.RowEdit.{RowEdit}
-use Rattle.view_store.specs.Edits.{Edit}
-use Rattle.view_store.specs.Views.{edited_views}
 use Rattle.view_store.proofs.Roots.{same_name}
-use Rattle.session.specs.Following.{IsLineOn, KeepsPositions, events_followed, events_in}
-use Rattle.session.specs.World.{World, with_line, with_tables}
-use Rattle.session.proofs.LinesOn.{other_edited, other_name}
+use Rattle.session.specs.Following.{KeepsPositions, events_followed, events_in}
+use Rattle.session.specs.World.{World}
+use Rattle.session.proofs.LinesOn.{other_name}
 use Rattle.following.specs.Watches.{is_watched}
 use Rattle.mk_value.specs.Names.{same_bytes}
 use Rattle.relations.proofs.Faults.{cases}
@@ -65,31 +61,6 @@ same_first (v ∷ old) (w ∷ new) h name t found =
 -- a commit keeps the names and the rows
 pub commit_same : (s : Stored) (note : List ℕ) (planned : Planned) → IsNext s note planned → HaveSameRows s.views planned.next.views
 commit_same s note planned next = same_first s.views planned.next.views next.follows.same_rows
-
--- a line on a view, as its watches follow it
-pub line_changes : (name called : List ℕ) (edit : RowEdit) (home : ℕ) (old new now : List NamedTable) (before after : StoredTable) → called ≡ name → IsLineOn name edit home old new → now ≡ new
-    → table_of old name ≡ Some before → table_of now name ≡ Some after → ChangesRows called before.schema before.rows after.rows old now
-line_changes name called edit home old new now before after same line is was_before is_after =
-    let b : line.before ≡ before = some_is line.before before (sym line.was ∙ was_before) in
-    let a : line.after ≡ after = some_is line.after after (sym line.is ∙ sym (ap (λ v. table_of v name) is) ∙ is_after) in
-    record {
-      old_table = before;
-      new_table = after;
-      was = ap (λ n. table_of old n) same ∙ was_before;
-      is = ap (λ n. table_of now n) same ∙ is_after;
-      schema_before = refl;
-      schema_after = ap (λ (t : StoredTable). t.schema) (sym a) ∙ line.schema ∙ ap (λ (t : StoredTable). t.schema) b;
-      rows_before = refl;
-      rows_after = refl;
-      others = λ n h. ap (λ v. table_of v n) is ∙ line.others n (subst (λ m. same_bytes n m ≡ false) same h);
-    }
-
--- an edit of a view that nothing watches
-pub kept_edited : (views : List NamedTable) (all : List Kept) (route : Route) (edit : Edit) → is_watched (followed all) route.name ≡ false → AreKept views all → AreKept (edited_views views route edit) all
-kept_edited views all route edit none h = kept_where_others views (edited_views views route edit) all route.name none (other_edited views route edit) h
-
-pub unwatched_line : (w : World) (views : List NamedTable) (name : List ℕ) (events : ℕ) → is_watched w.watches name ≡ false → with_tables w views ≡ with_line w views name events
-unwatched_line w views name events none = ap (λ watches. record (with_tables w views) { watches = watches }) (sym (raised_where_none w.watches name events none))
 
 -- another table of a view that nothing watches, and a view that goes
 pub other_with : (views : List NamedTable) (name : List ℕ) (t : StoredTable) (n : List ℕ) → same_bytes n name ≡ false → table_of (with_view views name t) n ≡ table_of views n

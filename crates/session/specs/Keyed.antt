@@ -1,5 +1,5 @@
 -- Lines on a view whose rows are kept by key. What a row or a value does there is a list of edits of the view, one after another.
-use Rattle.std.specs.Prelude.{◌≡◌, ◌≤◌, ℕ, ◌==◌, ◌||◌, if◌then◌else◌, nat_le, List, [], ◌∷◌, ◌++◌, length, slice_index_or, slice_set, Option, Some, None}
+use Rattle.std.specs.Prelude.{◌≡◌, ◌<◌, ◌≤◌, ℕ, ◌==◌, ◌||◌, if◌then◌else◌, nat_le, List, [], ◌∷◌, ◌++◌, length, slice_index_or, slice_set, Option, Some, None}
 use Rattle.cmd_text.specs.declared.refusal.Refusal.{Refusal}
 use Rattle.cmd_text.specs.declared.refusal.Refusal.TheVariants.{Limit}
 use Rattle.followers.specs.Keyed.{IsInPlace, edits_of}
@@ -104,6 +104,31 @@ pub record IsRowIn (root : List NamedTable) (name : List ℕ) (at : ℕ) (row : 
   pub found : table_of root name ≡ Some table
   pub is : row ≡ slice_index_or table.rows at []
   pub whole : IsRowOf row table.schema
+
+-- a row was given a value, and where it stood
+abbrev pub IsSet : KeyedEdit → Type 0
+IsSet (Change at other) = Unit {0}
+IsSet (Move at other to) = Unit {0}
+IsSet e = ⊥
+
+abbrev pub place_of_set : KeyedEdit → ℕ
+place_of_set (Change at other) = at
+place_of_set (Move at other to) = at
+place_of_set e = 0
+
+-- this edit gives the row its value
+pub record Sets (e : KeyedEdit) (edit : Edit) : Type 0 where
+  pub prop : List ℕ
+  pub value : Datum
+  pub is : IsSet e
+  pub made : edit ≡ Edit.set (place_of_set e) prop value
+
+-- What comes to a view of which a row is given a value by this edit: it is this row then, and may stand by its key.
+pub record StandsBy (row : List Datum) (route : Route) (coming : Coming) (edit : Edit) (all : List Kept) (root : List NamedTable) : Type 0 where
+  pub there : IsRowIn (edited_views root route edit) route.name (place_of_set coming.edit) row
+  pub stood : (t : StoredTable) × (table_of (edited_views root route edit) route.name ≡ Some t) × (place_of_set coming.edit < length t.rows)
+  pub allowed : AreAllowed root route (edit ∷ stand_edits row coming.edit)
+  pub comes : Comes route.name coming all root (edited_in_turn root route (edit ∷ stand_edits row coming.edit))
 
 -- the world after a line by key, whose events the watches of the view follow
 abbrev pub line_by_key : World → Route → KeyedEdit → List Edit → World

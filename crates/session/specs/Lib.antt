@@ -1,5 +1,6 @@
 pub mod Answered
 pub mod Carried
+pub mod Changes
 pub mod Commands
 pub mod Determined
 pub mod Disk

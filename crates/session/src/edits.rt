@@ -1,5 +1,5 @@
 //! Edits of the rows of views, but those that are kept by key.
-ghost use Rattle.std.specs.Prelude.{◌≡◌, ◌+◌, ◌-◌, ◌≤◌, [], ◌∷◌, All, IfErr, IfOk, None, OnErr, OnOk, true};
+ghost use Rattle.std.specs.Prelude.{◌≡◌, ◌+◌, ◌-◌, ◌≤◌, [], ◌∷◌, All, IfOk, None, OnErr, OnOk, true};
 ghost use Rattle.std.specs.Result.{result_err};
 ghost use Rattle.mk_value.specs.Conversions.{IsProper, becomes};
 ghost use Rattle.mk_value.specs.Data.{IsOf};
@@ -8,9 +8,7 @@ ghost use Rattle.mk_value.specs.Limits.{max_rows};
 ghost use Rattle.mk_value.specs.LiteralValues.{literal_of};
 ghost use Rattle.mk_value.specs.Values.{datum_of};
 ghost use Rattle.view_store.specs.Fitting.{are_of};
-ghost use Rattle.view_store.specs.Edits.{Edit};
 ghost use Rattle.view_store.specs.Refusals.{due, schema_of};
-ghost use Rattle.view_store.specs.Views.{edited_views};
 ghost use Rattle.session.specs.Commands.{changed, events_at, inserted, removed};
 ghost use Rattle.session.specs.Fitting.{all_short, is_short};
 ghost use Rattle.session.specs.Keyed.{mapping_on};
@@ -19,6 +17,7 @@ ghost use Rattle.session.specs.Values.{domain_named, schema_named, size_named, v
 ghost use Rattle.session.specs.World.{with_line};
 
 use crate::Session;
+use crate::change::Change;
 use crate::refusals::of_edit;
 use crate::values::{check_literal, check_literals, make_row, make_value_of};
 use cmd_text::Refusal;
@@ -82,7 +81,12 @@ impl Session {
         let size = self.size_of(path)?;
         check_row(size, row)?;
         let value = self.value_of(path, prop, literal)?;
-        self.set_value(path, row as usize, prop, &value)
+        let change = Change::Set {
+            at: row as usize,
+            prop,
+            value: &value,
+        };
+        self.change(path, change)
     }
 
     /// Removes so many rows of a view from a place on, and gives the new size.
@@ -120,7 +124,12 @@ impl Session {
     {
         let after = check_copies(size, copies)?;
         let row = self.row_of(path, literals)?;
-        self.insert_rows(path, place as usize, &row, copies as usize)?;
+        let insert = Change::Insert {
+            at: place as usize,
+            row: &row,
+            copies: copies as usize,
+        };
+        self.change(path, insert)?;
         Ok(after)
     }
 

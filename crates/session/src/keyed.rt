@@ -1,6 +1,6 @@
 //! Lines on views whose rows are kept by key: a row that comes is put by its key, and another row of that key goes. All memory of a line is
 //! taken before anything changes.
-ghost use Rattle.std.specs.Prelude.{◌≡◌, ◌+◌, ◌<◌, ◌≤◌, [], ◌∷◌, All, IfErr, IfOk, MatchOption, None, OnErr, OnOk, Some, length, nat_le, true};
+ghost use Rattle.std.specs.Prelude.{◌≡◌, ◌+◌, ◌<◌, ◌≤◌, [], ◌∷◌, List, All, IfErr, IfOk, MatchOption, None, OnErr, OnOk, Some, length, nat_le, true};
 ghost use Rattle.std.specs.Option.{is_some};
 ghost use Rattle.std.specs.Result.{result_err};
 ghost use Rattle.followers.specs.Keyed.{IsInPlace, edits_of, home_of};
@@ -10,7 +10,7 @@ ghost use Rattle.live.specs.Placing.{closed_by};
 ghost use Rattle.mappings.specs.Keeping.{AreKept as AreMapped, mapped};
 ghost use Rattle.mappings.specs.Mapped.{is_mapped};
 ghost use Rattle.mk_value.specs.Conversions.{IsProper, becomes};
-ghost use Rattle.mk_value.specs.Data.{IsRowOf};
+ghost use Rattle.mk_value.specs.Data.{Datum, IsRowOf};
 ghost use Rattle.mk_value.specs.Limits.{max_rows};
 ghost use Rattle.mk_value.specs.LiteralValues.{literal_of};
 ghost use Rattle.mk_value.specs.Values.{datum_of};
@@ -21,15 +21,17 @@ ghost use Rattle.view_store.specs.Edits.{Edit};
 ghost use Rattle.view_store.specs.Refusals.{due, schema_of};
 ghost use Rattle.view_store.specs.Rests.{ViewsRestOn};
 ghost use Rattle.view_store.specs.Views.{edited_views, table_of};
+ghost use Rattle.session.specs.Changes.{FitsSizes, edit_of, row_edit_of};
 ghost use Rattle.session.specs.Commands.{events_at};
 ghost use Rattle.session.specs.Fitting.{all_short};
-ghost use Rattle.session.specs.Keyed.{AreAllowed, Comes, IsPut, IsRowIn, add_by_key_due, edited_in_turn, insert_by_key_due, mapping_as, mapping_on as mapping_of_route, put_by_key, put_edits, put_line, removal, row_for, set_line, size_by_key, stand_edits};
+ghost use Rattle.session.specs.Keyed.{AreAllowed, Comes, IsPut, IsRowIn, Sets, StandsBy, add_by_key_due, edited_in_turn, insert_by_key_due, mapping_as, mapping_on as mapping_of_route, place_of_set, put_by_key, put_edits, put_line, removal, row_for, set_line, size_by_key, stand_edits};
 ghost use Rattle.session.specs.Refusals.{AnswersDue, by_rows, by_schema, literals_refusal, max_copies, set_due, unless};
 ghost use Rattle.session.specs.Values.{domain_named, schema_named, size_named};
 ghost use Rattle.tables.specs.Tables.{StoredTable};
 ghost use Rattle.session.specs.World.{with_line};
 
 use crate::Session;
+use crate::change::{Change, make};
 use crate::edits::{MAX_COPIES, check_place, check_row};
 use crate::followed::{shared_view, view};
 use crate::refusals::{of_edit, of_memory};
@@ -140,21 +142,16 @@ impl Session {
         ensures ok { OnOk result (self.new ≡ with_line self.old (edited_views self.old.store.views path.now (Edit.remove place rows)) path.now.name (events_at path.now.steps rows)) }
         ensures err { OnErr result (self.new ≡ self.old) }
     {
-        let views = self.views_without_rows(path, place, rows)?;
         let table = view(self.store.views(), path.name());
         // Its size bounds every place.
         let _size = table.size();
-        let coming = self
-            .mappings
-            .remove_edit(path.name(), table, place, rows)
-            .map_err(of_memory)?;
-        follow_coming(
-            self.alloc,
+        let coming = self.mappings.remove_edit(path.name(), table, place, rows);
+        come(
             &mut self.store,
             &mut self.watches,
             &mut self.mappings,
-            path.name(),
-            views,
+            path,
+            Change::Remove { at: place, rows },
             coming,
         )
     }
@@ -198,14 +195,13 @@ impl Session {
             .map_err(of_memory)?;
         let edit = coming.edit;
         let size = check_size(edit, table.size())?;
-        let views = views_with_row(self.store.views(), path, row, edit)?;
-        follow_coming(
+        put_in(
             self.alloc,
             &mut self.store,
             &mut self.watches,
             &mut self.mappings,
-            path.name(),
-            views,
+            path,
+            row,
             coming,
         )?;
         Ok((edit.home(), size))
@@ -226,26 +222,142 @@ impl Session {
         ensures ok { OnOk result (self.new ≡ set_line (mapping_as path.now keys) self.old path.now row prop.now (datum_of value.now)) }
         ensures err { OnErr result (self.new ≡ self.old) }
     {
-        let mut views = self.views_with_value(path, row, prop, value)?;
-        let after = row_in(self.alloc, &views, path.name(), row)?;
         let table = view(self.store.views(), path.name());
         // Its size bounds every place.
         let _size = table.size();
         let coming = self
             .mappings
-            .set_edit(path.name(), table, &after, row)
+            .set_edit(path.name(), table, row, prop, value)
             .map_err(of_memory)?;
-        stand(&mut views, path, &after, coming.edit)?;
-        follow_coming(
+        let change = Change::Set {
+            at: row,
+            prop,
+            value,
+        };
+        set_in(
             self.alloc,
             &mut self.store,
             &mut self.watches,
             &mut self.mappings,
-            path.name(),
-            views,
+            path,
+            change,
             coming,
         )
     }
+}
+
+/// Makes one change in a view, and lets the watches and the mapping of the view follow.
+fn come(
+    store: &mut Store,
+    watches: &mut Following,
+    mappings: &mut Mappings,
+    path: &Path,
+    change: Change<'_>,
+    coming: Coming,
+) -> Result<(), Refusal>
+    requires sizes { FitsSizes change }
+    requires due { due store.old.views path.now (edit_of change) ≡ None }
+    requires here { path.now.steps ≡ [] }
+    requires one { edits_of coming.edit ≡ row_edit_of (edit_of change) ∷ [] }
+    requires watched { AreKept store.old.views watches.old }
+    requires kept { AreMapped store.old.views mappings.old }
+    requires mapped { is_mapped (mapped mappings.old) path.now.name ≡ true }
+    requires comes { Comes path.now.name coming mappings.old store.old.views (edited_views store.old.views path.now (edit_of change)) }
+    ensures memory { IfErr result (λ e. e ≡ Refusal.Memory) }
+    ensures views { OnOk result (store.new ≡ with_views store.old (edited_views store.old.views path.now (edit_of change.entry))) }
+    ensures followed { OnOk result (followed watches.new ≡ followed_by (followed watches.old) path.now.name (count_all (edits_of coming.edit))) }
+    ensures mapped { mapped mappings.new ≡ mapped mappings.old }
+    ensures watched { AreKept store.new.views watches.new }
+    ensures kept { AreMapped store.new.views mappings.new }
+    ensures err_store { OnErr result (store.new ≡ store.old) }
+    ensures err_watches { OnErr result (followed watches.new ≡ followed watches.old) }
+{
+    make(store, watches, path, change)?;
+    mappings.follow(path.name(), coming);
+    Ok(())
+}
+
+/// Puts a row in by its key, and lets the watches and the mapping of the view follow: in place, where no other row goes.
+fn put_in(
+    alloc: Global,
+    store: &mut Store,
+    watches: &mut Following,
+    mappings: &mut Mappings,
+    path: &Path,
+    row: &Row,
+    coming: Coming,
+) -> Result<(), Refusal>
+    requires put { IsPut coming.edit }
+    requires here { path.now.steps ≡ [] }
+    requires allowed { AreAllowed store.old.views path.now (put_edits row.now coming.edit) }
+    requires watched { AreKept store.old.views watches.old }
+    requires kept { AreMapped store.old.views mappings.old }
+    requires mapped { is_mapped (mapped mappings.old) path.now.name ≡ true }
+    requires comes { Comes path.now.name coming mappings.old store.old.views (edited_in_turn store.old.views path.now (put_edits row.now coming.edit)) }
+    ensures memory { IfErr result (λ e. e ≡ Refusal.Memory) }
+    ensures views { OnOk result (store.new ≡ with_views store.old (edited_in_turn store.old.views path.now (put_edits row.now coming.edit))) }
+    ensures followed { OnOk result (followed watches.new ≡ followed_by (followed watches.old) path.now.name (count_all (edits_of coming.edit))) }
+    ensures mapped { mapped mappings.new ≡ mapped mappings.old }
+    ensures watched { AreKept store.new.views watches.new }
+    ensures kept { AreMapped store.new.views mappings.new }
+    ensures err_store { OnErr result (store.new ≡ store.old) }
+    ensures err_watches { OnErr result (followed watches.new ≡ followed watches.old) }
+{
+    if let KeyedEdit::Put { at } = coming.edit {
+        let change = Change::Insert { at, row, copies: 1 };
+        return come(store, watches, mappings, path, change, coming);
+    }
+    let views = views_with_row(store.views(), path, row, coming.edit)?;
+    follow_coming(alloc, store, watches, mappings, path.name(), views, coming)
+}
+
+/// Gives a property of a row another value, lets the row stand by its key, and the watches and the mapping of the view follow: in place, where
+/// the row stays where it is and no other goes.
+fn set_in(
+    alloc: Global,
+    store: &mut Store,
+    watches: &mut Following,
+    mappings: &mut Mappings,
+    path: &Path,
+    change: Change<'_>,
+    coming: Coming,
+) -> Result<(), Refusal>
+    requires sizes { FitsSizes change }
+    requires set { Sets coming.edit (edit_of change) }
+    requires here { path.now.steps ≡ [] }
+    requires stands { (row : List Datum) × StandsBy row path.now coming (edit_of change) mappings.old store.old.views }
+    requires watched { AreKept store.old.views watches.old }
+    requires kept { AreMapped store.old.views mappings.old }
+    requires mapped { is_mapped (mapped mappings.old) path.now.name ≡ true }
+    ensures memory { IfErr result (λ e. e ≡ Refusal.Memory) }
+    ensures views { (row : List Datum) → StandsBy row path.now coming (edit_of change.entry) mappings.old store.old.views → OnOk result (store.new ≡ with_views store.old (edited_in_turn store.old.views path.now (edit_of change.entry ∷ stand_edits row coming.edit))) }
+    ensures followed { OnOk result (followed watches.new ≡ followed_by (followed watches.old) path.now.name (count_all (edits_of coming.edit))) }
+    ensures mapped { mapped mappings.new ≡ mapped mappings.old }
+    ensures watched { AreKept store.new.views watches.new }
+    ensures kept { AreMapped store.new.views mappings.new }
+    ensures err_store { OnErr result (store.new ≡ store.old) }
+    ensures err_watches { OnErr result (followed watches.new ≡ followed watches.old) }
+{
+    if let KeyedEdit::Change { other: None, .. } = coming.edit {
+        return come(store, watches, mappings, path, change, coming);
+    }
+    let mut views = views_with(store.views(), path, change)?;
+    let row = row_that_moves(alloc, &views, path.name(), coming.edit)?;
+    stand(&mut views, path, &row, coming.edit)?;
+    follow_coming(alloc, store, watches, mappings, path.name(), views, coming)
+}
+
+/// Views once more, with a change of one. They share what it leaves.
+fn views_with(views: &Root, path: &Path, change: Change<'_>) -> Result<Root, Refusal>
+    requires sizes { FitsSizes change }
+    requires due { due views.now path.now (edit_of change) ≡ None }
+    ensures memory { IfErr result (λ e. e ≡ Refusal.Memory) }
+    ensures ok { IfOk result (λ new. new ≡ edited_views views.now path.now (edit_of change.entry)) }
+    ensures rests { IfOk result (λ new. ViewsRestOn new views.now) }
+{
+    let mut views = views.same().map_err(of_memory)?;
+    change.edit_views(&mut views, path).map_err(of_edit)?;
+    Ok(views)
 }
 
 /// Views once more, with a row put in by its key. They share what the line leaves.
@@ -341,6 +453,18 @@ fn stand(views: &mut Root, path: &Path, row: &Row, edit: KeyedEdit) -> Result<()
             replace_row(views, path, without(other, at), to, row)
         }
         _ => Ok(()),
+    }
+}
+
+/// The row that was given a value, if it moves; else no copy of it is made.
+fn row_that_moves(alloc: Global, views: &Root, name: &Name, edit: KeyedEdit) -> Result<Row, Refusal>
+    requires { (t : StoredTable) × (table_of views.now name.now ≡ Some t) × (place_of_set edit < length t.rows) }
+    ensures memory { IfErr result (λ e. e ≡ Refusal.Memory) }
+    ensures ok { IfOk result (λ row. (r : List Datum) → IsRowIn views.now name.now (place_of_set edit) r → stand_edits row edit ≡ stand_edits r edit) }
+{
+    match edit {
+        KeyedEdit::Move { at, .. } => row_in(alloc, views, name, at),
+        _ => Ok(Row::new(alloc)),
     }
 }
 

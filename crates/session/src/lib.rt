@@ -9,6 +9,7 @@
 #![tactic(auto)]
 
 mod asking;
+mod change;
 mod changes;
 mod computed;
 mod edits;

@@ -5,7 +5,8 @@ use Rattle.std.specs.Prelude.{IfOk}
 use Rattle.mappings.specs.declared.coming.Coming.{Coming}
 use Rattle.mappings.specs.declared.kept.Kept.{Kept}
 use Rattle.mappings.specs.Keeping.{AllBring, AreReady, Brings, IsKeptOver, IsReady, by_of}
-use Rattle.mappings.specs.Mapped.{MappedView, set_edit}
+use Rattle.mk_value.specs.Values.{datum_of}
+use Rattle.mappings.specs.Mapped.{MappedView, row_with, set_edit}
 use Rattle.mappings.proofs.Holding.{kept_stays}
 use Rattle.mappings.proofs.Whole.{is_mapped_is, mapping_one, named_one, named_set, same_mapped}
 use Rattle.mappings.proofs.mappings.Mappings.set_edit.Goals as goal
@@ -20,7 +21,7 @@ pub returns-clause-edit : goal.returns-clause-edit
 returns-clause-edit c = λ by keys is.
     let m : MappedView = record { view = c.args.view.now; by = by_of c.index_mut.result.now.mapping; keys = c.index_mut.result.now.keys } in
     let e = same_Some m (record { view = c.args.view.now; by = by; keys = keys }) (sym (mapping_one c.args.self.now c.self.inside.list.items c.deref.result.now c.args.view.now c.at-at.result c.index_mut.result.now c.self.invariant c.self.view_is c.deref.ensures.value c.at-at.ensures c.index_mut.ensures.value) ∙ is) in
-    subst (λ (m : MappedView). IfOk c.set.result (λ (x : Coming). x.edit ≡ set_edit m.by m.keys c.args.row.now c.args.place c.args.table.now.rows)) e c.set.ensures.edit
+    subst (λ (m : MappedView). IfOk c.set.result (λ (x : Coming). x.edit ≡ set_edit m.by m.keys (row_with c.args.table.now.schema c.args.table.now.rows c.args.place c.args.prop.now (datum_of c.args.value.now)) c.args.place c.args.table.now.rows)) e c.set.ensures.edit
 
 pub returns-clause-ready : goal.returns-clause-ready
 returns-clause-ready c =
@@ -30,8 +31,8 @@ returns-clause-ready c =
 
 pub returns-clause-brings : goal.returns-clause-brings
 returns-clause-brings c =
-    IfOk-weaker c.set.result (λ (x : Coming). Brings c.args.table.now.rows c.args.row.now x c.set.new.self) (λ (x : Coming). AllBring c.args.view.now c.args.table.now.rows c.args.row.now x _)
-    (λ x brings. named_set c.args.self.now c.self.inside.list.items c.deref.result.now c.args.view.now c.at-at.result c.index_mut.result.now c.self.invariant c.self.view_is c.deref.ensures.value c.at-at.ensures c.index_mut.ensures.value c.set.new.self c.set.ensures.view c.set.ensures.keys c.set.ensures.stays.by (Brings c.args.table.now.rows c.args.row.now x) brings)
+    IfOk-weaker c.set.result (λ (x : Coming). Brings c.args.table.now.rows (row_with c.args.table.now.schema c.args.table.now.rows c.args.place c.args.prop.now (datum_of c.args.value.now)) x c.set.new.self) (λ (x : Coming). AllBring c.args.view.now c.args.table.now.rows (row_with c.args.table.now.schema c.args.table.now.rows c.args.place c.args.prop.now (datum_of c.args.value.now)) x _)
+    (λ x brings. named_set c.args.self.now c.self.inside.list.items c.deref.result.now c.args.view.now c.at-at.result c.index_mut.result.now c.self.invariant c.self.view_is c.deref.ensures.value c.at-at.ensures c.index_mut.ensures.value c.set.new.self c.set.ensures.view c.set.ensures.keys c.set.ensures.stays.by (Brings c.args.table.now.rows (row_with c.args.table.now.schema c.args.table.now.rows c.args.place c.args.prop.now (datum_of c.args.value.now)) x) brings)
     c.set.ensures.brings
 
 pub returns-clause-same : goal.returns-clause-same

@@ -1,4 +1,4 @@
-use Rattle.std.proofs.Common.{◌≡◌, ℕ, map, ap, subst, sym, ◌∙◌}
+use Rattle.std.proofs.Common.{ℕ, map, ap, subst, sym, ◌∙◌}
 use Rattle.expr_text.specs.Meanings.{query_of}
 use Rattle.session.specs.Naming.{table_under}
 use Rattle.session.specs.Refusals.{AnswersDue}

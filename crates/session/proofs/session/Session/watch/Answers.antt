@@ -1,7 +1,6 @@
-use Rattle.std.proofs.Common.{◌≡◌, List, Some, map, ap, sym, subst, ◌∙◌}
+use Rattle.std.proofs.Common.{◌≡◌, map, ap, sym, subst, ◌∙◌}
 use Rattle.std.specs.Prelude.{IfOk, OnOk}
 use Rattle.cmd_text.specs.declared.reply.Reply.TheVariants.{Refused}
-use Rattle.expr_text.specs.Meanings.{query_of}
 use Rattle.session.specs.Commands.{computed_size, with_computation}
 use Rattle.session.specs.Naming.{computed_due}
 use Rattle.session.specs.Refusals.{AnswersDue}
