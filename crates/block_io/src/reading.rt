@@ -3,12 +3,15 @@ ghost use Rattle.std.specs.Prelude.{◌≡◌, ℕ, ◌+◌, ◌^◌, ◌<◌, �
 ghost use Rattle.host_io.specs.Calls.{CountsFaults, Looks};
 
 use crate::error::BlockError;
-use host_io::{Disk, MAX_WRITE};
-use mk_value::{Bytes, Span};
+use host_io::Disk;
+use mk_value::{Bytes, Memory, Span};
 use std::alloc::Global;
 
-/// Reads the bytes of a span. Memory is taken as they come, so that a span past the end of a file of an unknown length fails
-/// before it takes memory for its length.
+/// The length of the first piece.
+const FIRST: u64 = 4096;
+
+/// Reads the bytes of a span: a piece, and then as many again as were read. Memory is taken as they come, so that a span past the end of a file of
+/// an unknown length fails before it takes memory for its length.
 ///
 /// # Errors
 ///
@@ -21,10 +24,10 @@ pub fn read_block<D: Disk>(alloc: Global, disk: &mut D, span: Span) -> Result<By
     ensures len { IfOk result (λ b. length b.bytes ≡ span.len) }
     ensures bytes { D.tells → IfOk result (λ b. b.bytes ≡ take span.len (drop span.place (D.outside disk.old).now.disk.seen)) }
 {
-    let mut bytes = Bytes::new(alloc);
+    let mut bytes = Vec::new(alloc);
     let mut left = span.len;
     while left > 0 {
-        let count = left.min(MAX_WRITE as u64);
+        let count = left.min(FIRST.max(span.len - left));
         read_piece(
             disk,
             span.place + (span.len - left),
@@ -33,7 +36,7 @@ pub fn read_block<D: Disk>(alloc: Global, disk: &mut D, span: Span) -> Result<By
         )?;
         left -= count;
     }
-    Ok(bytes)
+    Ok(Bytes::from(bytes))
 }
 
 /// Appends so many bytes of the file from a place on.
@@ -41,18 +44,17 @@ fn read_piece<D: Disk>(
     disk: &mut D,
     place: u64,
     count: usize,
-    bytes: &mut Bytes,
+    bytes: &mut Vec<u8>,
 ) -> Result<(), BlockError>
-    requires short { count ≤ 4096 }
+    requires fits { length bytes.old.items + count < 2 ^ 64 }
     requires within { D.tells → place + count ≤ length (D.outside disk.old).now.disk.seen }
     ensures counts { CountsFaults (IsErrOf result BlockError.Failed) (D.outside disk.old) (D.outside disk.new) }
     ensures same { D.tells → Looks (D.outside disk.old) (D.outside disk.new) }
-    ensures len { OnOk result (length bytes.new.bytes ≡ length bytes.old.bytes + count) }
-    ensures bytes { D.tells → OnOk result (bytes.new.bytes ≡ bytes.old.bytes ++ take count (drop place (D.outside disk.old).now.disk.seen)) }
+    ensures len { OnOk result (length bytes.new.items ≡ length bytes.old.items + count) }
+    ensures bytes { D.tells → OnOk result (bytes.new.items ≡ bytes.old.items ++ take count (drop place (D.outside disk.old).now.disk.seen)) }
 {
-    let mut piece = [0; MAX_WRITE];
-    let front = &mut piece[..count];
-    disk.read_at(place, front)?;
-    bytes.push_slice(front)?;
+    let read = bytes.len();
+    bytes.resize(read + count, 0).map_err(Memory::from)?;
+    disk.read_at(place, &mut bytes[read..])?;
     Ok(())
 }
