@@ -35,6 +35,10 @@ alone name = record { name = name; steps = [] }
 abbrev pub value_of : List Named → List Meaning → ComputedWatch → Result Table EvalError
 value_of names viewers w = continued (at_path (view_at names (alone w.source))) (shown_of viewers w.shows)
 
+-- the counts of what a name stands for, by these keys and under this name
+abbrev pub counts_over : List Named → List ℕ → List (List ℕ) → List ℕ → Result Table EvalError
+counts_over names source keys count = continued (at_path (view_at names (alone source))) (counted keys count)
+
 -- what its name stands for: no steps may follow it
 abbrev pub named_by : List ℕ → Result Table EvalError → List Named
 named_by name (Ok t) = record { name = name; table = t; has_steps = false } ∷ []

@@ -1,24 +1,46 @@
 //! What the name of a computed watch stands for.
-ghost use Rattle.std.specs.Prelude.{◌≡◌, [], find, length, map};
+ghost use Rattle.std.specs.Prelude.{◌≡◌, [], List, find, length, map, Ok, IfOk, IfSome};
 ghost use Rattle.derived.specs.Layers.{table_of};
 ghost use Rattle.eval.specs.Names.{IsSeen, Named, seen_at};
 ghost use Rattle.eval.specs.Values.{Evaluates};
 ghost use Rattle.mk_value.specs.Names.{same_bytes};
 ghost use Rattle.computing.specs.Computed.{names_of, value_of};
+ghost use Rattle.viewers.specs.Meanings.{Meaning};
 
-use crate::computed::{Computed, shown};
+use crate::computed::{Computation, Computed, shown};
 use derived::Derived;
 use eval::{EvalError, NameError, Names};
-use mk_value::{Name, Path, Same, TableRead};
+use mk_value::{Memory, Name, Path, Same, TableRead};
 use std::alloc::Global;
 use viewers::Viewer;
+
+/// Names of which some may have counts of their rows at hand. No answer shows which have.
+pub trait CountsAtHand<T: TableRead + Same + Drop>: Names<T> {
+    ghost use Rattle.std.specs.Prelude.{◌≡◌, Ok, IfOk, IfSome};
+    ghost use Rattle.computing.specs.Computed.{counts_over};
+    ghost use Rattle.derived.specs.Layers.{table_of};
+
+    /// The counts of what a name stands for, by these keys and under this name, where they are at hand.
+    ///
+    /// # Errors
+    ///
+    /// `Memory`.
+    fn counts_at_hand(
+        &self,
+        alloc: Global,
+        name: &Name,
+        keys: &[Name],
+        count: &Name,
+    ) -> Result<Option<Derived<T>>, Memory>
+        ensures { IfOk result (λ found. IfSome found (λ d. counts_over (Self.named self.now) name.now keys.now count.now ≡ Ok (table_of d))) };
+}
 
 /// The table of the first computed watch of a name that has one.
 ///
 /// # Errors
 ///
 /// `NoName` where there is none. Else `Memory`.
-pub fn computed_table<T: TableRead + Same + Drop, S: Names<T>, V: Viewer>(
+pub fn computed_table<T: TableRead + Same + Drop, S: CountsAtHand<T>, V: Viewer>(
     alloc: Global,
     sources: &S,
     viewers: &[V],
@@ -41,7 +63,7 @@ pub fn computed_table<T: TableRead + Same + Drop, S: Names<T>, V: Viewer>(
 }
 
 /// What a computed watch shows now.
-fn value<T: TableRead + Same + Drop, S: Names<T>, V: Viewer>(
+fn value<T: TableRead + Same + Drop, S: CountsAtHand<T>, V: Viewer>(
     alloc: Global,
     sources: &S,
     viewers: &[V],
@@ -49,9 +71,28 @@ fn value<T: TableRead + Same + Drop, S: Names<T>, V: Viewer>(
 ) -> Result<Derived<T>, EvalError>
     ensures { Evaluates table_of (value_of (S.named sources.now) (map V.meaning viewers.now) watch.now) result }
 {
+    if let Some(table) = at_hand(alloc, sources, watch)? {
+        return Ok(table);
+    }
     let source = Path::new(alloc, watch.source().copy()?);
     match sources.view(&source) {
         Ok(base) => shown(alloc, base, viewers, watch.shows()),
         Err(error) => Err(EvalError::Name(error)),
+    }
+}
+
+/// What counts show now, where it is at hand.
+fn at_hand<T: TableRead + Same + Drop, S: CountsAtHand<T>>(
+    alloc: Global,
+    sources: &S,
+    watch: &Computed,
+) -> Result<Option<Derived<T>>, Memory>
+    ensures { IfOk result (λ found. IfSome found (λ d. (viewers : List Meaning) → value_of (S.named sources.now) viewers watch.now ≡ Ok (table_of d))) }
+{
+    match watch.shows() {
+        Computation::Counts(keys, count) => {
+            sources.counts_at_hand(alloc, watch.source(), keys.as_slice(), count)
+        }
+        Computation::Filter(_, _) => Ok(None),
     }
 }

@@ -3,7 +3,7 @@ ghost use Rattle.expr_text.specs.Meanings.{query_of};
 ghost use Rattle.eval.specs.Parts.{AreBases};
 
 use expr_text::Expr;
-use mk_value::Path;
+use mk_value::{Name, Path};
 
 /// A path, or one expression or two that an operator stands before.
 pub(crate) enum Bases<'a> {
@@ -41,5 +41,14 @@ pub(crate) fn bases_of(expr: &Expr) -> Bases<'_>
         | Expr::Different(first, second)
         | Expr::Join(first, second, _)
         | Expr::OuterJoin(first, second, _) => Bases::Two(first, second),
+    }
+}
+
+/// Whether an expression names what has this name.
+pub fn is_asked_of(expr: &Expr, name: &Name) -> bool {
+    match bases_of(expr) {
+        Bases::Path(path) => *path.name() == *name,
+        Bases::One(base) => is_asked_of(base, name),
+        Bases::Two(first, second) => is_asked_of(first, name) || is_asked_of(second, name),
     }
 }

@@ -14,6 +14,7 @@ mod on_one;
 mod on_two;
 mod sliced;
 
+pub use bases::is_asked_of;
 pub use error::{EvalError, NameError};
 pub use evaluation::eval;
 pub use literals::{Asked, bounds_asked, criteria_asked};

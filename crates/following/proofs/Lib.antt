@@ -6,6 +6,7 @@ pub mod Lines
 pub mod Listing
 pub mod Naming
 pub mod Numbering
+pub mod Permuted
 pub mod Placed
 pub mod Read
 pub mod Showing

@@ -3,7 +3,6 @@ use Rattle.std.proofs.Common.{◌≡◌, ℕ, zero, suc, ◌+◌, ◌<◌, Bool,
 use Rattle.std.specs.Prelude.{find}
 use Rattle.std.specs.Option.{option_map}
 use Rattle.std.specs.Cmp.{IsTotalOrder}
-use Rattle.std.specs.List.{position_or_len}
 use Rattle.std.specs.List.Sorted.{IsSorted}
 use Rattle.std.specs.Ordering.{is_gt, is_lt, ordering_reverse}
 use Rattle.std.specs.declared.cmp.Ordering.{Ordering}
@@ -11,7 +10,6 @@ use Rattle.std.specs.declared.cmp.Ordering.TheVariants.{Less, Equal, Greater}
 use Rattle.std.proofs.lemmas.Bool.{false≢true}
 use Rattle.live.specs.Laws.{shown}
 use Rattle.live.specs.Chains.{source_rows}
-use Rattle.live.specs.declared.op.WatchOp.{WatchOp}
 use Rattle.live.specs.declared.op.WatchOp.TheVariants as op
 use Rattle.mk_value.specs.Data.{Datum}
 use Rattle.mk_value.specs.Heading.{Attribute}
@@ -23,7 +21,7 @@ use Rattle.relations.specs.Sorting.{put, row_cmp, sorted}
 use Rattle.relations.specs.declared.criteria.Key.{Key}
 use Rattle.tables.specs.Tables.{StoredTable}
 use Rattle.view_store.specs.Views.{NamedTable, table_of}
-use Rattle.following.specs.Watches.{Followed, Shown, found, is_among, op_found, op_in, op_of, place_of, rows_shown, shown_at, shown_in, watch_table}
+use Rattle.following.specs.Watches.{Followed, Shown, found, op_found, op_in, op_of, place_of, rows_shown, shown_at, shown_in, watch_table}
 
 -- none of the elements is less than this one, which stands before them; and none is less than the one before it
 abbrev IsBefore : {X : Type 0} → (X → X → Ordering) → X → List X → Type 0

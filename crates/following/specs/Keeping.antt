@@ -1,5 +1,6 @@
 -- What is kept of the watches of views, and when that is what they show.
 use Rattle.std.specs.Prelude.{◌≡◌, ◌<◌, ◌≤◌, ℕ, true, false, List, [], ◌∷◌, find, length, map, slice_index_or, All, Option, Some, None, IsSome, IsNone}
+use Rattle.std.specs.List.Sorted.{IsPermutation}
 use Rattle.followers.specs.Following.{AreReady}
 use Rattle.live.specs.Chains.{AreNow, place_in_root}
 use Rattle.live.specs.Numbers.{place_of as place_numbered, watch_of}
@@ -12,7 +13,7 @@ use Rattle.mk_value.specs.Tables.{Table}
 use Rattle.row_edits.specs.declared.edit.RowEdit.{RowEdit}
 use Rattle.tables.specs.Tables.{StoredTable}
 use Rattle.view_store.specs.Views.{NamedTable, table_of}
-use Rattle.following.specs.Watches.{Followed, Shown, is_among, place_of}
+use Rattle.following.specs.Watches.{Followed, Shown, is_among, place_of, source_of, watch_table}
 
 -- the watches of a view: its name, their names in their order, and what each keeps
 pub record Kept : Type 0 where
@@ -122,6 +123,15 @@ pub record ChangesRows (view : List ℕ) (schema : List Attribute) (before after
   pub rows_before : old_table.rows ≡ before
   pub rows_after : new_table.rows ≡ after
   pub others : (name : List ℕ) → same_bytes name view ≡ false → table_of new name ≡ table_of old name
+
+-- a watch shows all rows of its view, in whatever order
+pub record ShowsAll (views : List NamedTable) (all : List Followed) (name : List ℕ) : Type 0 where
+  pub table : StoredTable
+  pub shown : Table
+  pub there : table_of views (source_of all name).view ≡ Some table
+  pub is : watch_table views all name ≡ Some shown
+  pub schema : shown.schema ≡ table.schema
+  pub rows : IsPermutation table.rows shown.rows
 
 -- the most watches, over all views
 abbrev pub max_watches : ℕ

@@ -1,11 +1,12 @@
 //! The watches of one view, by name.
 ghost use Rattle.std.specs.Prelude.{◌≡◌, ◌<◌, ◌≤◌, ◌+◌, [], List, false, true, length, position, vec_len, None, Some, IfOk, OnOk, OnErr};
 ghost use Rattle.std.specs.List.{list_any, position_or_len};
+ghost use Rattle.std.specs.List.Sorted.{IsPermutation};
 ghost use Rattle.std.specs.Option.{ForSome, option_map, unwrap_or};
 ghost use Rattle.std.specs.Vec.{vec_capacity};
 ghost use Rattle.derived.specs.Layers.{table_of as table_derived};
 ghost use Rattle.followers.specs.Following.{room_for, watch_due};
-ghost use Rattle.live.specs.Chains.{AreInOrder, AreNow, depth, source_depth};
+ghost use Rattle.live.specs.Chains.{AreInOrder, AreNow, depth, seen, source_depth};
 ghost use Rattle.live.specs.Edits.{room_of};
 ghost use Rattle.live.specs.Numbers.{over_of, place_of as place_numbered};
 ghost use Rattle.live.specs.Putting.{AnswersPut};
@@ -120,6 +121,15 @@ impl Followed {
         ensures { result ≡ source_depth (depths [] (followed_of self.now).watches) (Some (place_of (followed_of self.now).watches name.now)) }
     {
         depth_of(&self.watches, Some(self.place(name)))
+    }
+
+    /// Whether the first watch of the name shows all rows of the view: it sorts, and so does each over which it stands.
+    pub fn shows_all(&self, name: &Name) -> bool
+        requires { is_among (followed_of self.now).watches name.now ≡ true }
+        ensures { result ≡ true → (t : StoredTable) → IsKeptOver t.schema t.rows self.now
+            → IsPermutation t.rows (shown_at (followed_of self.now).watches (place_of (followed_of self.now).watches name.now) t).rows }
+    {
+        sorts(&self.watches, self.place(name))
     }
 
     /// The first watch of the name.
@@ -394,6 +404,20 @@ fn depth_of(watches: &Watches, source: Option<usize>) -> usize
     match source {
         None => 0,
         Some(place) => depth_of(watches, watches.source_at(place)) + 1,
+    }
+}
+
+/// Whether the watch at a place sorts, and so does each over which it stands.
+fn sorts(watches: &Watches, place: usize) -> bool
+    requires { place < length watches.now.watches }
+    ensures { result ≡ true → (schema : List Attribute) (rows : List (List Datum)) → AreNow schema rows watches.now.watches → IsPermutation rows (seen rows watches.now.watches (Some place)) }
+{
+    match watches.op_at(place) {
+        WatchOp::Range(_) => false,
+        WatchOp::Sort(_) => match watches.source_at(place) {
+            None => true,
+            Some(below) => sorts(watches, below),
+        },
     }
 }
 

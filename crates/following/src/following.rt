@@ -13,7 +13,7 @@ ghost use Rattle.row_edits.specs.Events.{count_all, count_of};
 ghost use Rattle.tables.specs.Tables.{StoredTable};
 ghost use Rattle.view_store.specs.Views.{NamedTable, table_of};
 ghost use Rattle.following.specs.Groups.{IsFirst};
-ghost use Rattle.following.specs.Keeping.{AreKept, AreKeptBut, AreKeptOver, ChangesRows, HaveNoted, HaveRoom, IsWatchOf, Kept, StandsAt, followed, followed_of};
+ghost use Rattle.following.specs.Keeping.{AreKept, AreKeptBut, AreKeptOver, ChangesRows, HaveNoted, HaveRoom, IsWatchOf, Kept, ShowsAll, StandsAt, followed, followed_of};
 ghost use Rattle.following.specs.Refusals.{depth_under, put_due};
 ghost use Rattle.following.specs.Rows.{table_read};
 ghost use Rattle.following.specs.Watches.{count, followed_by, has_over, is_among, is_watch as is_name_of_watch, is_watched as is_view_watched, op_of, rows_under, source_of, watch_table, watches_of, with_watch, without_watch};
@@ -131,6 +131,17 @@ impl Following {
         match find(&self.list, name) {
             Some(at) => Some(self.list[at].op(name)),
             None => None,
+        }
+    }
+
+    /// Whether a watch has the name and shows all rows of its view: it sorts, and so does each over which it stands.
+    pub fn shows_all(&self, name: &Name) -> bool
+        ensures watch { result ≡ true → is_name_of_watch (followed self.now) name.now ≡ true }
+        ensures rows { result ≡ true → (views : List NamedTable) → AreKept views self.now → ShowsAll views (followed self.now) name.now }
+    {
+        match find(&self.list, name) {
+            Some(at) => self.list[at].shows_all(name),
+            None => false,
         }
     }
 

@@ -1,5 +1,6 @@
 mod Answering
 mod Ascending
+mod AtHand
 mod Firsts
 mod Found
 mod Keys

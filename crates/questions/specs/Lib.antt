@@ -1,4 +1,5 @@
 pub mod Answers
+pub mod AtHand
 pub mod Cursors
 pub mod InOrder
 pub mod Kept

@@ -7,20 +7,25 @@ ghost use Rattle.expr_text.specs.Meanings.{query_of};
 ghost use Rattle.following.specs.Keeping.{AreKept, followed};
 ghost use Rattle.following.specs.Rows.{table_read};
 ghost use Rattle.following.specs.Watches.{is_watch as is_name_of_watch};
+ghost use Rattle.kept_counts.specs.Keeping.{AreCounted};
 ghost use Rattle.mappings.specs.Keeping.{AreKept as AreMapped, mapped};
 ghost use Rattle.mk_value.specs.Names.{same_bytes};
 ghost use Rattle.view_store.specs.Views.{table_of as view_named};
+ghost use Rattle.questions.specs.AtHand.{ShowsView};
 ghost use Rattle.questions.specs.InOrder.{IsWatchNamed};
 ghost use Rattle.questions.specs.Kept.{Kept, is_kept, stored, table_of, watched};
 
 use crate::snapshot::{Snapshot, is_snapshot};
 use crate::walk::inner_table;
+use computing::CountsAtHand;
 use derived::{Derived, leaf};
 use eval::{NameError, Names};
 use expr_text::Expr;
 use following::{Following, WatchRows, view_of};
+use kept_counts::KeptCounts;
 use mappings::Mappings;
-use mk_value::{Name, Path, Same};
+use mk_value::{Memory, Name, Path, Same};
+use std::alloc::Global;
 use std::marker::Model;
 use tables::Shared;
 use view_store::Root;
@@ -33,11 +38,14 @@ pub struct Known<'a> {
     pub(crate) snapshots: &'a [Snapshot],
     pub(crate) watches: &'a Following,
     pub(crate) mappings: &'a Mappings,
+    /// Counts of the views that are at hand.
+    pub(crate) counted: &'a KeptCounts,
 }
 
 impl<'a> Model for Known<'a> {
     ghost use Rattle.std.specs.Coded.{codes};
     ghost use Rattle.following.specs.Keeping.{AreKept, followed};
+    ghost use Rattle.kept_counts.specs.Keeping.{AreCounted};
     ghost use Rattle.mappings.specs.Keeping.{AreKept as AreMapped, mapped};
     ghost use Rattle.questions.specs.Kept.{Names, kept_code};
     ghost use Rattle.relations.specs.Criteria.{interval_code};
@@ -49,7 +57,7 @@ impl<'a> Model for Known<'a> {
 
     ghost view = { λ k. record { views = k.views.now; snapshots = k.snapshots.now; watches = followed k.watches.now; mappings = mapped k.mappings.now } };
 
-    ghost invariant = { λ k. AreKept k.views.now k.watches.now × AreMapped k.views.now k.mappings.now };
+    ghost invariant = { λ k. AreKept k.views.now k.watches.now × (AreMapped k.views.now k.mappings.now × AreCounted k.views.now k.counted.now) };
 }
 
 impl Names<Shared> for Known<'_> {
@@ -66,16 +74,35 @@ impl Names<Shared> for Known<'_> {
     }
 }
 
+impl CountsAtHand<Shared> for Known<'_> {
+    /// Those of a view, which are those of each sorting of it.
+    fn counts_at_hand(
+        &self,
+        alloc: Global,
+        name: &Name,
+        keys: &[Name],
+        count: &Name,
+    ) -> Result<Option<Derived<Shared>>, Memory> {
+        match self.view_shown(name) {
+            Some(view) => self.counted.table(alloc, self.views, view, keys, count),
+            None => Ok(None),
+        }
+    }
+}
+
 impl<'a> Known<'a> {
-    /// What names stand for, by these views and snapshots, and the watches and mappings of those views.
+    /// What names stand for, by these views and snapshots, and the watches and mappings of those views. The counts of the views that are kept
+    /// change no answer.
     pub fn of(
         views: &'a Root,
         snapshots: &'a [Snapshot],
         watches: &'a Following,
         mappings: &'a Mappings,
+        counted: &'a KeptCounts,
     ) -> Known<'a>
         requires kept { AreKept views.now watches.now }
         requires mapped { AreMapped views.now mappings.now }
+        requires counted { AreCounted views.now counted.now }
         ensures views { result.views ≡ views.now }
         ensures snapshots { result.snapshots ≡ snapshots.now }
         ensures watches { result.watches ≡ followed watches.now }
@@ -86,6 +113,7 @@ impl<'a> Known<'a> {
             snapshots,
             watches,
             mappings,
+            counted,
         }
     }
 
@@ -101,7 +129,24 @@ impl<'a> Known<'a> {
             snapshots: &[],
             watches: self.watches,
             mappings: self.mappings,
+            counted: self.counted,
         }
+    }
+
+    /// The name of the view all of whose rows, in whatever order, what has this name shows: a view, or a sorting of one.
+    fn view_shown<'b>(&'b self, name: &'b Name) -> Option<&'b Name>
+        ensures { IfSome result (λ view. ShowsView self.now view.now name.now) }
+    {
+        if self.view_of(name).is_some() {
+            return Some(name);
+        }
+        if self.is_stored(name) {
+            return None;
+        }
+        if !self.watches.shows_all(name) {
+            return None;
+        }
+        Some(self.watches.view_under(name))
     }
 
     /// Whether a view or a snapshot has the name.

@@ -2,10 +2,10 @@
 ghost use Rattle.std.specs.Prelude.{◌≡◌, ◌↔◌, IsTrue};
 ghost use Rattle.eval.specs.declared.error.NameError.TheVariants as name_error;
 
-use computing::{Computed, computed_table};
+use computing::{Computed, CountsAtHand, computed_table};
 use derived::Derived;
 use eval::{NameError, Names};
-use mk_value::Path;
+use mk_value::{Memory, Name, Path};
 use std::alloc::Global;
 use tables::Shared;
 use viewers::Viewer;
@@ -20,7 +20,7 @@ pub(crate) struct Level<'a, N: Names<Shared>, S: Names<Shared>, V: Viewer> {
     pub(crate) alloc: Global,
 }
 
-impl<N: Names<Shared>, S: Names<Shared>, V: Viewer> Names<Shared> for Level<'_, N, S, V> {
+impl<N: Names<Shared>, S: CountsAtHand<Shared>, V: Viewer> Names<Shared> for Level<'_, N, S, V> {
     ghost use Rattle.std.specs.Prelude.{◌++◌, map};
     ghost use Rattle.computing.specs.Computed.{names_of};
 
@@ -44,6 +44,20 @@ impl<N: Names<Shared>, S: Names<Shared>, V: Viewer> Names<Shared> for Level<'_, 
             }
             Err(error) => Err(error),
         }
+    }
+}
+
+impl<N: CountsAtHand<Shared>, S: CountsAtHand<Shared>, V: Viewer> CountsAtHand<Shared>
+    for Level<'_, N, S, V> {
+    /// Those of the names that come first; computed watches have none.
+    fn counts_at_hand(
+        &self,
+        alloc: Global,
+        name: &Name,
+        keys: &[Name],
+        count: &Name,
+    ) -> Result<Option<Derived<Shared>>, Memory> {
+        self.names.counts_at_hand(alloc, name, keys, count)
     }
 }
 

@@ -7,6 +7,7 @@ use Rattle.followers.specs.Keyed.{edits_of}
 use Rattle.followers.specs.declared.keyed.KeyedEdit.{KeyedEdit}
 use Rattle.following.specs.Keeping.{ChangesRows, HaveNoted, Kept}
 use Rattle.following.specs.Watches.{Followed, followed_by}
+use Rattle.kept_counts.specs.Keeping.{AllHaveNoted, Counted}
 use Rattle.live.specs.Edits.{room_of}
 use Rattle.mk_value.specs.Data.{Datum}
 use Rattle.mk_value.specs.Paths.{Route}
@@ -107,6 +108,15 @@ module _ (views new : List NamedTable) (route : Route) (edit : Edit) (free : due
           let row = made_row views route edit free t was_at u is_at in (
             t.rows,
             subst (λ s. HaveNoted name s t.rows e all) (same_schema views route edit free t was_at u is_at) noted,
+            (row, subst (λ x. u.rows ≡ edited row x t.rows) (sym is) (rows_made views route edit free t was_at u is_at)),
+          )
+
+      pub counted_made : (e : RowEdit) (all : List Counted) → e ≡ edit_at route.steps (row_edit_of edit) → AllHaveNoted name t.schema t.rows e all
+          → (before : List (List Datum)) × AllHaveNoted name u.schema before e all × ((row : List Datum) × (u.rows ≡ edited row e before))
+      counted_made e all is noted =
+          let row = made_row views route edit free t was_at u is_at in (
+            t.rows,
+            subst (λ s. AllHaveNoted name s t.rows e all) (same_schema views route edit free t was_at u is_at) noted,
             (row, subst (λ x. u.rows ≡ edited row x t.rows) (sym is) (rows_made views route edit free t was_at u is_at)),
           )
 

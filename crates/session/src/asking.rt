@@ -4,6 +4,7 @@ ghost use Rattle.cmd_text.specs.declared.command.Command.TheVariants as commands
 ghost use Rattle.eval.specs.Parts.{IsWhole};
 ghost use Rattle.expr_text.specs.Meanings.{query_of};
 ghost use Rattle.following.specs.Keeping.{AreKept, followed};
+ghost use Rattle.kept_counts.specs.Keeping.{AreCounted};
 ghost use Rattle.mappings.specs.Keeping.{AreKept as AreMapped, mapped};
 ghost use Rattle.session.specs.Answered.{Answered};
 ghost use Rattle.session.specs.World.{kept_names};
@@ -13,6 +14,7 @@ use cmd_text::Reply;
 use computing::Computing;
 use expr_text::{Crits, Expr};
 use following::Following;
+use kept_counts::KeptCounts;
 use mappings::Mappings;
 use questions::{Known, Scope, Snapshots};
 use storage::Store;
@@ -31,6 +33,7 @@ impl Session {
             &self.watches,
             &self.mappings,
             &self.computed,
+            &self.counted,
             viewers,
         )
     }
@@ -106,34 +109,44 @@ impl Session {
     }
 }
 
-/// What the names of a question stand for: the views of a store, snapshots, and watches and mappings of those views.
+/// What the names of a question stand for: the views of a store, snapshots, and watches, mappings and counts of those views.
 fn names_of<'a>(
     store: &'a Store,
     snapshots: &'a Snapshots,
     watches: &'a Following,
     mappings: &'a Mappings,
+    counted: &'a KeptCounts,
 ) -> Known<'a>
     requires kept { AreKept store.now.views watches.now }
     requires mapped { AreMapped store.now.views mappings.now }
+    requires counted { AreCounted store.now.views counted.now }
     ensures views { result.views ≡ store.now.views }
     ensures snapshots { result.snapshots ≡ snapshots.now }
     ensures watches { result.watches ≡ followed watches.now }
     ensures mappings { result.mappings ≡ mapped mappings.now }
 {
-    Known::of(store.views(), snapshots.as_slice(), watches, mappings)
+    Known::of(
+        store.views(),
+        snapshots.as_slice(),
+        watches,
+        mappings,
+        counted,
+    )
 }
 
-/// What a question may use: the views of a store, snapshots, watches and mappings of those views, computed watches, and viewers.
+/// What a question may use: the views of a store, snapshots, watches, mappings and counts of those views, computed watches, and viewers.
 pub(crate) fn scope_of<'a, V: Viewer>(
     store: &'a Store,
     snapshots: &'a Snapshots,
     watches: &'a Following,
     mappings: &'a Mappings,
     computed: &'a Computing,
+    counted: &'a KeptCounts,
     viewers: &'a [V],
 ) -> Scope<'a, V>
     requires kept { AreKept store.now.views watches.now }
     requires mapped { AreMapped store.now.views mappings.now }
+    requires counted { AreCounted store.now.views counted.now }
     ensures views { result.names.views ≡ store.now.views }
     ensures snapshots { result.names.snapshots ≡ snapshots.now }
     ensures watches { result.names.watches ≡ followed watches.now }
@@ -142,7 +155,7 @@ pub(crate) fn scope_of<'a, V: Viewer>(
     ensures viewers { result.viewers.now ≡ viewers.now }
 {
     Scope {
-        names: names_of(store, snapshots, watches, mappings),
+        names: names_of(store, snapshots, watches, mappings, counted),
         viewers,
         computed,
     }

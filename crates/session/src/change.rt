@@ -1,6 +1,7 @@
 //! What a line does to the rows that its path names, made in place, where no refusal is due.
 ghost use Rattle.std.specs.Prelude.{◌≡◌, IfErr, None, OnErr, OnOk};
 ghost use Rattle.following.specs.Keeping.{AreKept, followed};
+ghost use Rattle.kept_counts.specs.Keeping.{AreCounted};
 ghost use Rattle.following.specs.Watches.{followed_by};
 ghost use Rattle.row_edits.specs.Events.{count_of};
 ghost use Rattle.storage.specs.Stored.{with_views};
@@ -15,6 +16,7 @@ use crate::followed::{edit_at, view};
 use crate::refusals::{of_edit, of_memory};
 use cmd_text::Refusal;
 use following::Following;
+use kept_counts::KeptCounts;
 use mk_value::{Name, Path, Row, Value};
 use row_edits::RowEdit;
 use storage::Store;
@@ -89,30 +91,38 @@ impl Change<'_> {
 pub(crate) fn make(
     store: &mut Store,
     watches: &mut Following,
+    counted: &mut KeptCounts,
     path: &Path,
     change: Change<'_>,
 ) -> Result<(), Refusal>
     requires sizes { FitsSizes change }
     requires due { due store.old.views path.now (edit_of change) ≡ None }
     requires kept { AreKept store.old.views watches.old }
+    requires counted { AreCounted store.old.views counted.old }
     ensures memory { IfErr result (λ e. e ≡ Refusal.Memory) }
     ensures views { OnOk result (store.new ≡ with_views store.old (edited_views store.old.views path.now (edit_of change.entry))) }
     ensures followed { OnOk result (followed watches.new ≡ followed_by (followed watches.old) path.now.name (events_at path.now.steps (count_of (row_edit_of (edit_of change.entry))))) }
     ensures kept { AreKept store.new.views watches.new }
+    ensures counted { AreCounted store.new.views counted.new }
     ensures err_store { OnErr result (store.new ≡ store.old) }
     ensures err_watches { OnErr result (followed watches.new ≡ followed watches.old) }
 {
     let name = path.name();
     let edit = edit_at(path.steps(), change.rows());
     watches.reserve(name, &[edit]).map_err(of_memory)?;
-    watches.note(name, view(store.views(), name), edit);
+    let before = view(store.views(), name);
+    watches.note(name, before, edit);
+    counted.note(name, before, edit);
     match change.edit(store, path) {
         Ok(()) => {
-            watches.follow(name, view(store.views(), name), edit);
+            let after = view(store.views(), name);
+            watches.follow(name, after, edit);
+            counted.follow(name, after, edit);
             Ok(())
         }
         Err(error) => {
             watches.forget(name, view(store.views(), name), edit);
+            counted.forget(name);
             Err(of_edit(error))
         }
     }

@@ -31,7 +31,13 @@ impl Session {
         ensures ok { OnOk result (self.new ≡ with_line self.old (edited_views self.old.store.views path.now (edit_of change.entry)) path.now.name (events_at path.now.steps (count_of (row_edit_of (edit_of change.entry))))) }
         ensures err { OnErr result (self.new ≡ self.old) }
     {
-        make(&mut self.store, &mut self.watches, path, change)
+        make(
+            &mut self.store,
+            &mut self.watches,
+            &mut self.counted,
+            path,
+            change,
+        )
     }
 
     /// Removes rows, where no refusal is due.

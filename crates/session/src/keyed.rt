@@ -5,6 +5,7 @@ ghost use Rattle.std.specs.Option.{is_some};
 ghost use Rattle.std.specs.Result.{result_err};
 ghost use Rattle.followers.specs.Keyed.{IsInPlace, edits_of, home_of};
 ghost use Rattle.following.specs.Keeping.{AreKept, followed};
+ghost use Rattle.kept_counts.specs.Keeping.{AreCounted};
 ghost use Rattle.following.specs.Watches.{followed_by};
 ghost use Rattle.live.specs.Placing.{closed_by};
 ghost use Rattle.mappings.specs.Keeping.{AreKept as AreMapped, mapped};
@@ -39,6 +40,7 @@ use crate::values::make_whole_row;
 use cmd_text::Refusal;
 use followers::{KeyedEdit, keyed_edits_are_lines};
 use following::Following;
+use kept_counts::KeptCounts;
 use mappings::{ByKeys, Coming, Mappings};
 use mk_value::{Literal, Literals, MAX_ROWS, Name, Path, Row, Same, TableRead, Value};
 use relations::copy_row;
@@ -150,6 +152,7 @@ impl Session {
             &mut self.store,
             &mut self.watches,
             &mut self.mappings,
+            &mut self.counted,
             path,
             Change::Remove { at: place, rows },
             coming,
@@ -200,6 +203,7 @@ impl Session {
             &mut self.store,
             &mut self.watches,
             &mut self.mappings,
+            &mut self.counted,
             path,
             row,
             coming,
@@ -239,6 +243,7 @@ impl Session {
             &mut self.store,
             &mut self.watches,
             &mut self.mappings,
+            &mut self.counted,
             path,
             change,
             coming,
@@ -251,6 +256,7 @@ fn come(
     store: &mut Store,
     watches: &mut Following,
     mappings: &mut Mappings,
+    counted: &mut KeptCounts,
     path: &Path,
     change: Change<'_>,
     coming: Coming,
@@ -261,6 +267,7 @@ fn come(
     requires one { edits_of coming.edit ≡ row_edit_of (edit_of change) ∷ [] }
     requires watched { AreKept store.old.views watches.old }
     requires kept { AreMapped store.old.views mappings.old }
+    requires counted { AreCounted store.old.views counted.old }
     requires mapped { is_mapped (mapped mappings.old) path.now.name ≡ true }
     requires comes { Comes path.now.name coming mappings.old store.old.views (edited_views store.old.views path.now (edit_of change)) }
     ensures memory { IfErr result (λ e. e ≡ Refusal.Memory) }
@@ -269,10 +276,11 @@ fn come(
     ensures mapped { mapped mappings.new ≡ mapped mappings.old }
     ensures watched { AreKept store.new.views watches.new }
     ensures kept { AreMapped store.new.views mappings.new }
+    ensures counted { AreCounted store.new.views counted.new }
     ensures err_store { OnErr result (store.new ≡ store.old) }
     ensures err_watches { OnErr result (followed watches.new ≡ followed watches.old) }
 {
-    make(store, watches, path, change)?;
+    make(store, watches, counted, path, change)?;
     mappings.follow(path.name(), coming);
     Ok(())
 }
@@ -283,6 +291,7 @@ fn put_in(
     store: &mut Store,
     watches: &mut Following,
     mappings: &mut Mappings,
+    counted: &mut KeptCounts,
     path: &Path,
     row: &Row,
     coming: Coming,
@@ -292,6 +301,7 @@ fn put_in(
     requires allowed { AreAllowed store.old.views path.now (put_edits row.now coming.edit) }
     requires watched { AreKept store.old.views watches.old }
     requires kept { AreMapped store.old.views mappings.old }
+    requires counted { AreCounted store.old.views counted.old }
     requires mapped { is_mapped (mapped mappings.old) path.now.name ≡ true }
     requires comes { Comes path.now.name coming mappings.old store.old.views (edited_in_turn store.old.views path.now (put_edits row.now coming.edit)) }
     ensures memory { IfErr result (λ e. e ≡ Refusal.Memory) }
@@ -300,15 +310,25 @@ fn put_in(
     ensures mapped { mapped mappings.new ≡ mapped mappings.old }
     ensures watched { AreKept store.new.views watches.new }
     ensures kept { AreMapped store.new.views mappings.new }
+    ensures counted { AreCounted store.new.views counted.new }
     ensures err_store { OnErr result (store.new ≡ store.old) }
     ensures err_watches { OnErr result (followed watches.new ≡ followed watches.old) }
 {
     if let KeyedEdit::Put { at } = coming.edit {
         let change = Change::Insert { at, row, copies: 1 };
-        return come(store, watches, mappings, path, change, coming);
+        return come(store, watches, mappings, counted, path, change, coming);
     }
     let views = views_with_row(store.views(), path, row, coming.edit)?;
-    follow_coming(alloc, store, watches, mappings, path.name(), views, coming)
+    follow_coming(
+        alloc,
+        store,
+        watches,
+        mappings,
+        counted,
+        path.name(),
+        views,
+        coming,
+    )
 }
 
 /// Gives a property of a row another value, lets the row stand by its key, and the watches and the mapping of the view follow: in place, where
@@ -318,6 +338,7 @@ fn set_in(
     store: &mut Store,
     watches: &mut Following,
     mappings: &mut Mappings,
+    counted: &mut KeptCounts,
     path: &Path,
     change: Change<'_>,
     coming: Coming,
@@ -328,6 +349,7 @@ fn set_in(
     requires stands { (row : List Datum) × StandsBy row path.now coming (edit_of change) mappings.old store.old.views }
     requires watched { AreKept store.old.views watches.old }
     requires kept { AreMapped store.old.views mappings.old }
+    requires counted { AreCounted store.old.views counted.old }
     requires mapped { is_mapped (mapped mappings.old) path.now.name ≡ true }
     ensures memory { IfErr result (λ e. e ≡ Refusal.Memory) }
     ensures views { (row : List Datum) → StandsBy row path.now coming (edit_of change.entry) mappings.old store.old.views → OnOk result (store.new ≡ with_views store.old (edited_in_turn store.old.views path.now (edit_of change.entry ∷ stand_edits row coming.edit))) }
@@ -335,16 +357,26 @@ fn set_in(
     ensures mapped { mapped mappings.new ≡ mapped mappings.old }
     ensures watched { AreKept store.new.views watches.new }
     ensures kept { AreMapped store.new.views mappings.new }
+    ensures counted { AreCounted store.new.views counted.new }
     ensures err_store { OnErr result (store.new ≡ store.old) }
     ensures err_watches { OnErr result (followed watches.new ≡ followed watches.old) }
 {
     if let KeyedEdit::Change { other: None, .. } = coming.edit {
-        return come(store, watches, mappings, path, change, coming);
+        return come(store, watches, mappings, counted, path, change, coming);
     }
     let mut views = views_with(store.views(), path, change)?;
     let row = row_that_moves(alloc, &views, path.name(), coming.edit)?;
     stand(&mut views, path, &row, coming.edit)?;
-    follow_coming(alloc, store, watches, mappings, path.name(), views, coming)
+    follow_coming(
+        alloc,
+        store,
+        watches,
+        mappings,
+        counted,
+        path.name(),
+        views,
+        coming,
+    )
 }
 
 /// Views once more, with a change of one. They share what it leaves.
@@ -378,6 +410,7 @@ fn follow_coming(
     store: &mut Store,
     watches: &mut Following,
     mappings: &mut Mappings,
+    counted: &mut KeptCounts,
     name: &Name,
     views: Root,
     coming: Coming,
@@ -385,6 +418,7 @@ fn follow_coming(
     requires rests { ViewsRestOn views store.old.views }
     requires watched { AreKept store.old.views watches.old }
     requires kept { AreMapped store.old.views mappings.old }
+    requires counted { AreCounted store.old.views counted.old }
     requires mapped { is_mapped (mapped mappings.old) name.now ≡ true }
     requires comes { Comes name.now coming mappings.old store.old.views views }
     ensures memory { IfErr result (λ e. e ≡ Refusal.Memory) }
@@ -393,6 +427,7 @@ fn follow_coming(
     ensures mapped { mapped mappings.new ≡ mapped mappings.old }
     ensures watched { AreKept store.new.views watches.new }
     ensures kept { AreMapped store.new.views mappings.new }
+    ensures counted { AreCounted store.new.views counted.new }
     ensures err_store { OnErr result (store.new ≡ store.old) }
     ensures err_watches { OnErr result (followed watches.new ≡ followed watches.old) }
 {
@@ -401,6 +436,7 @@ fn follow_coming(
     let edits = edit.edits(alloc).map_err(of_memory)?;
     let before = shared_view(store.views(), name)?;
     watches.reserve(name, edits.as_slice()).map_err(of_memory)?;
+    counted.forget(name);
     store.put_views(views);
     let after = view(store.views(), name);
     let line = Line {

@@ -12,6 +12,7 @@ mod asking;
 mod change;
 mod changes;
 mod computed;
+mod counts;
 mod edits;
 mod followed;
 mod keyed;

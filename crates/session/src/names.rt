@@ -66,6 +66,7 @@ impl Session {
             &self.watches,
             &self.mappings,
             &self.computed,
+            &self.counted,
             viewers,
         )
         .table(self.alloc, expr)
@@ -176,6 +177,7 @@ impl Session {
             &self.watches,
             &self.mappings,
             &self.computed,
+            &self.counted,
             viewers,
         )
         .next(self.alloc, &mut self.cursors, name)
@@ -195,6 +197,7 @@ impl Session {
             &self.watches,
             &self.mappings,
             &self.computed,
+            &self.counted,
             viewers,
         )
         .previous(self.alloc, &mut self.cursors, name)

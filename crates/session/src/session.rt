@@ -28,6 +28,7 @@ use cmd_text::{Command, Refusal, Reply, Space, read_command};
 use computing::Computing;
 use following::Following;
 use host_io::Host;
+use kept_counts::KeptCounts;
 use lines::Flow;
 use mappings::{By, Mappings};
 use mk_value::{Memory, Name, TableRead, Text};
@@ -38,8 +39,8 @@ use storage::Store;
 use viewers::Viewer;
 
 /// A session: a store, whose views its lines edit and whose commits they make, the snapshots and cursors beside its views, the
-/// watches of its views, which keep the positions of their rows, the counts and filters whose rows are made when they are asked for, and
-/// the views whose rows are kept by key.
+/// watches of its views, which keep the positions of their rows, the counts and filters whose rows are made when they are asked for,
+/// the views whose rows are kept by key, and counts that are at hand, which no reply shows.
 #[derive(Drop)]
 pub struct Session {
     pub(crate) store: Store,
@@ -48,6 +49,7 @@ pub struct Session {
     pub(crate) watches: Following,
     pub(crate) computed: Computing,
     pub(crate) mappings: Mappings,
+    pub(crate) counted: KeptCounts,
     pub(crate) alloc: Global,
 }
 
@@ -60,6 +62,7 @@ pub struct Viewers<'a, V: Viewer> {
 impl Model for Session {
     ghost use Rattle.std.specs.Coded.{codes};
     ghost use Rattle.following.specs.Keeping.{AreKept, followed};
+    ghost use Rattle.kept_counts.specs.Keeping.{AreCounted};
     ghost use Rattle.mappings.specs.Keeping.{AreKept as AreMapped, mapped};
     ghost use Rattle.questions.specs.Cursors.{placed_code};
     ghost use Rattle.questions.specs.Kept.{kept_code};
@@ -73,7 +76,7 @@ impl Model for Session {
 
     ghost view = { λ s. record { store = s.store; snapshots = s.snapshots; cursors = s.cursors; watches = followed s.watches; computed = s.computed; mappings = mapped s.mappings } };
 
-    ghost invariant = { λ s. AreKept s.store.views s.watches × AreMapped s.store.views s.mappings };
+    ghost invariant = { λ s. (AreKept s.store.views s.watches × AreCounted s.store.views s.counted) × AreMapped s.store.views s.mappings };
 }
 
 impl Session {
@@ -88,6 +91,7 @@ impl Session {
             watches: Following::new(alloc),
             computed: Computing::new(alloc),
             mappings: Mappings::new(alloc),
+            counted: KeptCounts::new(alloc),
             alloc,
         }
     }
@@ -156,8 +160,18 @@ impl Session {
         self.store.is_shut() && !goes_when_shut(command)
     }
 
-    /// Carries a command out that reaches no disk, and gives the reply to it.
+    /// Carries a command out that reaches no disk, and gives the reply to it. What it asks to count is kept before.
     fn carry_out<V: Viewer>(&mut self, viewers: &[V], command: &Command) -> Reply
+        requires line { IsOfLine command.now }
+        requires no_disk { reach_of command.now ≡ off_disk }
+        ensures { Answered (map V.meaning viewers.now) command.now self.old result self.new }
+    {
+        self.keep_counts(command);
+        self.dispatch(viewers, command)
+    }
+
+    /// Carries a command out that reaches no disk, by the function for it.
+    fn dispatch<V: Viewer>(&mut self, viewers: &[V], command: &Command) -> Reply
         requires line { IsOfLine command.now }
         requires no_disk { reach_of command.now ≡ off_disk }
         ensures { Answered (map V.meaning viewers.now) command.now self.old result self.new }
@@ -207,6 +221,7 @@ impl Session {
         self.watches.clear();
         self.computed.clear();
         self.mappings.clear();
+        self.counted.clear();
         replies::rolled_back(self.store.number())
     }
 

@@ -69,6 +69,7 @@ impl Session {
         self.watches.clear();
         self.computed.clear();
         self.mappings.clear();
+        self.counted.clear();
         replies::reopened(number)
     }
 
@@ -93,6 +94,7 @@ impl Session {
         self.watches.clear();
         self.computed.clear();
         self.mappings.clear();
+        self.counted.clear();
         replies::reverted(number)
     }
 }

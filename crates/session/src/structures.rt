@@ -111,6 +111,7 @@ impl Session {
         ensures ok { OnOk result (self.new ≡ with_tables self.old (with_view self.old.store.views name.now table)) }
         ensures err { OnErr result (self.new ≡ self.old) }
     {
+        self.counted.clear();
         self.store.put_view(name, table).map_err(of_memory)
     }
 
@@ -130,6 +131,7 @@ impl Session {
         if self.is_view_used(name) {
             return Err(Refusal::InUse);
         }
+        self.counted.clear();
         self.store.drop_view(name).map_err(of_edit)
     }
 }

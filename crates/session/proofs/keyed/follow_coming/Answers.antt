@@ -3,6 +3,7 @@ use Rattle.followers.specs.Following.{room_for}
 use Rattle.followers.specs.Keyed.{edits_of}
 use Rattle.following.specs.Keeping.{ChangesRows}
 use Rattle.following.proofs.Holding.{kept_over}
+use Rattle.kept_counts.proofs.Holding.{counted_but}
 use Rattle.mappings.specs.Keeping.{EditsRows}
 use Rattle.row_edits.specs.declared.edit.RowEdit.{RowEdit}
 use Rattle.storage.specs.Stored.{Stored}
@@ -47,3 +48,17 @@ returns-clause-kept c =
     let put = ap (λ (s : Stored). s.views) c.put_views.ensures in
     c.follow.ensures.kept views c.put_views.new.self.views comes.rows comes.row c.requires.kept comes.brings
     (subst (λ v. EditsRows name comes.row (edits_of c.args.coming.edit) comes.rows views v) (sym put) comes.edits)
+
+pub returns-clause-counted : goal.returns-clause-counted
+returns-clause-counted c =
+    let views = c.args.store.now.views in
+    let name = c.args.name.now in
+    let put = ap (λ (s : Stored). s.views) c.put_views.ensures in
+    let before = c.in_ok-before.before in
+    let after = c.view-after.result.now in
+    let change : ChangesRows name before.schema before.rows after.rows views c.put_views.new.self.views =
+    subst (λ v. ChangesRows name before.schema before.rows after.rows views v) (sym put)
+    (comes_changes name c.args.coming c.args.mappings.now views c.args.views c.requires.comes before after
+    (ap (λ v. table_of v name) (sym c.views-2.ensures) ∙ c.in_ok-before.ensures.ok)
+    (ap (λ v. table_of v name) (sym put) ∙ ap (λ v. table_of v name) (sym c.views-3.ensures) ∙ c.view-after.ensures)) in
+    c.forget.ensures.kept views c.put_views.new.self.views (counted_but name views c.args.counted.now c.requires.counted) change.others

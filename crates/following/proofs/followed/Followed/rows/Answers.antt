@@ -1,9 +1,8 @@
 use Rattle.std.proofs.Common.{◌<◌, length, Some, ap, subst, sym, ◌∙◌}
 use Rattle.live.specs.Chains.{AreNow, seen}
 use Rattle.live.specs.Numbers.{place_of}
-use Rattle.following.specs.Keeping.{Kept, followed_of}
-use Rattle.following.specs.Watches.{shown_at}
-use Rattle.following.proofs.Grouped.{IsNamed, name_place, number_found, rows_at_name}
+use Rattle.following.specs.Keeping.{Kept}
+use Rattle.following.proofs.Grouped.{IsNamed, number_found, rows_at_name}
 use Rattle.following.proofs.followed.Followed.rows.Goals as goal
 
 pub invariant_of-result-clause-kept : goal.invariant_of-result-clause-kept

@@ -1,8 +1,6 @@
-use Rattle.std.proofs.Common.{Some, ap, subst, sym, ◌∙◌}
+use Rattle.std.proofs.Common.{Some, ap, sym, ◌∙◌}
 use Rattle.view_store.specs.Views.{table_of}
-use Rattle.following.specs.Keeping.{IsKept, followed, followed_of}
-use Rattle.following.specs.Watches.{is_among}
-use Rattle.following.proofs.Finding.{found_in}
+use Rattle.following.specs.Keeping.{followed, followed_of}
 use Rattle.following.proofs.Shown.{any_named, named_at, table_found}
 use Rattle.following.proofs.following.Following.rows.Goals as goal
 

@@ -1,6 +1,5 @@
 use Rattle.std.proofs.Common.{◌<◌, [], get_or, length, ap, subst, sym, ◌∙◌}
 use Rattle.live.specs.Numbers.{place_of}
-use Rattle.following.specs.Rows.{rows_of}
 use Rattle.following.proofs.Read.{row_kept, row_read}
 use Rattle.following.proofs.rows.WatchRows.place.Goals as goal
 

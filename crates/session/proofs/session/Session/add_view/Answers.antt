@@ -20,7 +20,7 @@ pub put_view-requires-clause-unwatched : goal.put_view-requires-clause-unwatched
 put_view-requires-clause-unwatched c =
     let name = c.args.name.now in
     subst (λ (w : World). is_watched w.watches name ≡ false) c.self.view_is
-    (absent_unwatched c.self.inside.store.views c.self.inside.watches name c.self.invariant.0
+    (absent_unwatched c.self.inside.store.views c.self.inside.watches name c.self.invariant.0.0
     (subst (λ (w : World). table_of w.store.views name ≡ None) (sym c.self.view_is) c.requires.absent))
 
 pub put_view-requires-clause-unmapped : goal.put_view-requires-clause-unmapped

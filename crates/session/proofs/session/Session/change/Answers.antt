@@ -17,7 +17,7 @@ invariant_of-self c =
     let edit = edit_of c.args.change in
     let due = subst (λ (w : World). due w.store.views path edit ≡ None) (sym c.self.view_is) c.requires.due in
     let apart = subst (λ (w : World). mapping_on w path ≡ None) (sym c.self.view_is) c.requires.apart in (
-      c.make.ensures.kept,
+      (c.make.ensures.kept, c.make.ensures.counted),
       by_answer (λ (s : Stored). AreMapped s.views c.self.inside.mappings) c.make.result c.make.new.store store (with_views store (edited_views store.views path edit)) c.make.ensures.views c.make.ensures.err_store
           (keeps_apart (mapped c.self.inside.mappings) store.views (edited_views store.views path edit) path edit refl apart due c.self.inside.mappings refl c.self.invariant.1) c.self.invariant.1,
     )

@@ -6,6 +6,8 @@ use Rattle.storage.specs.Stored.{Stored, committed, failed, is_shut}
 use Rattle.view_store.proofs.Editing.{by_answer}
 use Rattle.following.specs.Keeping.{AreKept}
 use Rattle.following.proofs.Holding.{kept_where_same}
+use Rattle.kept_counts.specs.Keeping.{AreCounted}
+use Rattle.kept_counts.proofs.Holding.{counted_where_same}
 use Rattle.mappings.specs.Keeping.{AreKept as AreMapped}
 use Rattle.mappings.proofs.Holding.{kept_where_same as mapped_where_same}
 use Rattle.session.proofs.Watched.{commit_same}
@@ -66,8 +68,11 @@ invariant_of-self g c =
     let note = c.args.note.now in
     let next = c.in-Ok.plan.next in
     let planned : IsPlannedNext store note c.in-Ok.plan = subst (λ (w : World). IsPlannedNext w.store note c.in-Ok.plan) (sym c.self.view_is) c.in-Ok.ensures.planned in
-    by_answer (λ (s : Stored). AreKept s.views c.self.inside.watches × AreMapped s.views c.self.inside.mappings) c.carry.result c.carry.new.self (failed store next) (committed store next) c.carry.ensures.ok c.carry.ensures.err (
-      kept_where_same store.views next.views c.self.inside.watches (commit_same store note c.in-Ok.plan planned.next) c.self.invariant.0,
+    by_answer (λ (s : Stored). (AreKept s.views c.self.inside.watches × AreCounted s.views c.self.inside.counted) × AreMapped s.views c.self.inside.mappings) c.carry.result c.carry.new.self (failed store next) (committed store next) c.carry.ensures.ok c.carry.ensures.err (
+      (
+        kept_where_same store.views next.views c.self.inside.watches (commit_same store note c.in-Ok.plan planned.next) c.self.invariant.0.0,
+        counted_where_same store.views next.views c.self.inside.counted (commit_same store note c.in-Ok.plan planned.next) c.self.invariant.0.1,
+      ),
       mapped_where_same store.views next.views c.self.inside.mappings (commit_same store note c.in-Ok.plan planned.next) c.self.invariant.1,
     )
     c.self.invariant

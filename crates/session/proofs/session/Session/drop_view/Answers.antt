@@ -1,6 +1,8 @@
 use Rattle.std.proofs.Common.{◌≡◌, ◌||◌, false, sym, subst, ◌∙◌}
 use Rattle.following.specs.Keeping.{AreKept}
 use Rattle.following.specs.Watches.{is_watched}
+use Rattle.kept_counts.specs.Keeping.{AreCounted}
+use Rattle.kept_counts.proofs.Holding.{nothing_counted}
 use Rattle.mappings.specs.Keeping.{AreKept as AreMapped}
 use Rattle.mappings.specs.Mapped.{is_mapped}
 use Rattle.questions.specs.Cursors.{has_cursor_on}
@@ -20,9 +22,12 @@ invariant_of-self c =
     let name = c.args.name.now in
     let w = c.args.self.now in
     let none = neither_of (has_cursor_on w.cursors View name) (is_watched w.watches name) (is_mapped w.mappings name || is_source w.computed name) (sym c.is_view_used.ensures ∙ c.if-is_view_used.false) in
-    by_answer (λ (s : Stored). AreKept s.views c.self.inside.watches × AreMapped s.views c.self.inside.mappings) c.drop_view.result c.drop_view.new.self store (with_views store (without_view store.views name))
+    by_answer (λ (s : Stored). (AreKept s.views c.self.inside.watches × AreCounted s.views c.clear.new.self) × AreMapped s.views c.self.inside.mappings) c.drop_view.result c.drop_view.new.self store (with_views store (without_view store.views name))
     c.drop_view.ensures.ok c.drop_view.ensures.err (
-      kept_without store.views c.self.inside.watches name (subst (λ (w : World). is_watched w.watches name ≡ false) (sym c.self.view_is) none.0) c.self.invariant.0,
+      (
+        kept_without store.views c.self.inside.watches name (subst (λ (w : World). is_watched w.watches name ≡ false) (sym c.self.view_is) none.0) c.self.invariant.0.0,
+        nothing_counted _ c.clear.new.self c.clear.ensures,
+      ),
       mapped_without store.views c.self.inside.mappings name (subst (λ (w : World). is_mapped w.mappings name ≡ false) (sym c.self.view_is) (first_false (is_mapped w.mappings name) (is_source w.computed name) none.1)) c.self.invariant.1,
     )
-    c.self.invariant
+    ((c.self.invariant.0.0, nothing_counted _ c.clear.new.self c.clear.ensures), c.self.invariant.1)

@@ -1,0 +1,7 @@
+pub mod Holding
+pub mod Keying
+pub mod Marking
+pub mod Placing
+pub mod Reordered
+pub mod Stepping
+pub mod Tabled

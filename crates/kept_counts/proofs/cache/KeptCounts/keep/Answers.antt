@@ -1,0 +1,14 @@
+use Rattle.kept_counts.proofs.Holding.{made_right, put_few, put_kept, put_there}
+use Rattle.kept_counts.proofs.cache.KeptCounts.keep.Goals as goal
+
+pub returns-clause-kept : goal.returns-clause-kept
+returns-clause-kept c =
+    let e = c.in_ok-make.field-0 in
+    put_kept c.args.views.now c.args.self.now c.put.new.self e c.put.result c.put.ensures.put c.put.ensures.err c.requires
+    (made_right c.args.views.now c.args.view.now c.in-Some.rows.now e c.in-Some.ensures c.in_ok-make.ensures.view c.in_ok-make.ensures.over)
+
+pub returns-clause-made : goal.returns-clause-made
+returns-clause-made c = put_there c.args.views.now c.args.self.now c.put.new.self c.in_ok-make.field-0 c.args.view.now c.args.keys.now c.put.result c.put.ensures.put c.in_ok-make.ensures.of
+
+pub returns-clause-few : goal.returns-clause-few
+returns-clause-few c = put_few c.args.self.now c.put.new.self c.in_ok-make.field-0 c.put.result c.put.ensures.put c.put.ensures.err

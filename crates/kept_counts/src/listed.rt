@@ -1,0 +1,73 @@
+//! A list of what is kept of views: what is found in it, and what is done to all.
+ghost use Rattle.std.specs.Prelude.{◌≡◌, ◌<◌, ◌≤◌, ◌++◌, ◌∷◌, [], List, true, length, position, IfSome, OnOk, OnErr};
+ghost use Rattle.std.specs.Option.{ForSome, is_none};
+ghost use Rattle.mk_value.specs.Data.{Datum};
+ghost use Rattle.mk_value.specs.Names.{same_bytes};
+ghost use Rattle.row_edits.specs.Edits.{IsInRange, edited};
+ghost use Rattle.kept_counts.specs.Following.{AreEach, Follows, Forgets, Notes};
+ghost use Rattle.kept_counts.specs.Keeping.{AllHaveNoted, AreCountedOver, Counted, is_kept, is_of};
+
+use crate::entry::Entry;
+use mk_value::{Memory, Name};
+use row_edits::RowEdit;
+use tables::Shared;
+
+/// Whether the counts of a view by these keys are kept.
+pub(crate) fn has(list: &[Entry], view: &Name, keys: &[Name]) -> bool
+    ensures { result ≡ is_kept list.now view.now keys.now }
+{
+    list.iter().any(|entry| entry.is_of(view, keys))
+}
+
+/// The place of the counts of a view by these keys.
+pub(crate) fn find(list: &[Entry], view: &Name, keys: &[Name]) -> Option<usize>
+    ensures { result ≡ position (is_of view.now keys.now) list.now }
+{
+    list.iter().position(|entry| entry.is_of(view, keys))
+}
+
+/// The place of the first that has no counts.
+pub(crate) fn find_blank(list: &[Entry]) -> Option<usize>
+    ensures { result ≡ position (λ (e : Counted). is_none e.counts) list.now }
+{
+    list.iter().position(|entry| entry.is_blank())
+}
+
+/// Puts one behind the others.
+pub(crate) fn push(list: &mut Vec<Entry>, entry: Entry) -> Result<(), Memory>
+    ensures ok { OnOk result (list.new.items ≡ list.old.items ++ entry ∷ []) }
+    ensures err { OnErr result (list.new.items ≡ list.old.items) }
+{
+    list.push(entry)?;
+    Ok(())
+}
+
+/// What is kept of a view notes an edit of its rows before it is made.
+pub(crate) fn note_all(list: &mut [Entry], view: &Name, rows: &Shared, edit: RowEdit)
+    requires kept { AreCountedOver view.now rows.now.schema rows.now.rows list.old }
+    requires range { IsInRange edit (length rows.now.rows) }
+    ensures { AreEach (Notes view.now rows.now.schema rows.now.rows edit) list.old list.new }
+{
+    for entry in list.iter_mut() {
+        entry.note(view, rows, edit);
+    }
+}
+
+/// What is kept of a view is dropped.
+pub(crate) fn forget_all(list: &mut [Entry], view: &Name)
+    ensures { AreEach (Forgets view.now) list.old list.new }
+{
+    for entry in list.iter_mut() {
+        entry.forget(view);
+    }
+}
+
+/// What is kept of a view follows the edit of its rows that it noted.
+pub(crate) fn follow_all(list: &mut [Entry], view: &Name, rows: &Shared, edit: RowEdit)
+    requires noted { (before : List (List Datum)) × AllHaveNoted view.now rows.now.schema before edit list.old × ((row : List Datum) × (rows.now.rows ≡ edited row edit before)) }
+    ensures { AreEach (Follows view.now rows.now.schema rows.now.rows) list.old list.new }
+{
+    for entry in list.iter_mut() {
+        entry.follow(view, rows, edit);
+    }
+}
