@@ -59,7 +59,7 @@ fn table_body(alloc: Global, table: &Table) -> Result<DirBody, Memory>
 fn cols_entries(alloc: Global, cols: &Cols) -> Result<DirCols, Memory>
     ensures { IfOk result (λ entries. entries ≡ map stored_entry cols.now) }
 {
-    let mut entries = DirCols::new(alloc);
+    let mut entries = DirCols::with_capacity(alloc, cols.as_slice().len())?;
     'cols: for col in cols.as_slice() {
         entries.push(col_entry(alloc, col)?)?;
     }

@@ -8,12 +8,12 @@ ghost use Rattle.commit_plan.specs.Settling.{IsGivenHome, SettlesColumn, Settles
 use crate::places::Places;
 use bytes_col::{BytesCol, BytesHome};
 use int_col::IntCol;
-use mk_value::{Memory, Span, Spans, TableRead};
+use mk_value::{Memory, Span, Spans};
 use std::alloc::Global;
-use tables::{Col, Cols, Shared, Tables, from_cols, share};
+use tables::{Col, Cols, Shared, Tables, share};
 
-/// The table with the next spans as the homes of its columns that have none. The values are shared, and a table of which no column is
-/// without a home is shared as it is.
+/// The table with the next spans as the homes of its columns that have none. The values and the schema are shared, and a table of which no
+/// column is without a home is shared as it is.
 ///
 /// # Errors
 ///
@@ -33,9 +33,7 @@ pub(crate) fn settle_table(
     if places.left() == left {
         return same_table(shared);
     }
-    let schema = table.schema().copy()?;
-    let rows = table.len() as u32;
-    share(alloc, from_cols(alloc, schema, rows, cols)?)
+    share(alloc, table.with_cols(cols)?)
 }
 
 /// One more holder of a table.
@@ -51,7 +49,7 @@ fn settle_cols(alloc: Global, cols: &Cols, places: &mut Places<'_>) -> Result<Co
     requires { counted column_count cols.now ≤ length places.old }
     ensures { IfOk result (SettlesColumns cols.now places.old places.new) }
 {
-    let mut settled = Cols::new(alloc);
+    let mut settled = Cols::with_capacity(alloc, cols.as_slice().len())?;
     'cols: for col in cols.as_slice() {
         settled.push(settle_col(alloc, col, places)?)?;
     }

@@ -1,6 +1,6 @@
 //! Computed watches, by name: counts and filters that stand over views, over other watches, and counts over filters.
 //!
-//! Unlike the watches of `following` they keep no positions: what one shows is made of the rows of its source when it is asked for, so that
+//! Unlike the watches of `watches` they keep no positions: what one shows is made of the rows of its source when it is asked for, so that
 //! an edit costs nothing for it and a question as much as its operator. Where the names of the sources have counts at hand, these are given;
 //! no answer shows which have.
 //!

@@ -1,5 +1,5 @@
 // Directories as values.
-ghost use Rattle.std.specs.Prelude.{◌≡◌, ◌++◌, ◌∷◌, [], length, map, OnErr, OnOk};
+ghost use Rattle.std.specs.Prelude.{◌≡◌, ◌++◌, ◌∷◌, [], length, map, IfOk, OnErr, OnOk};
 
 use bit_pack::Width;
 use mk_value::{Memory, Name, Schema, Sequence, Span, Text};
@@ -108,6 +108,19 @@ impl DirCols {
         DirCols {
             items: Vec::new(alloc),
         }
+    }
+
+    /// No columns, with room for so many and no more: a directory has those of each table inside a row.
+    ///
+    /// # Errors
+    ///
+    /// `Memory`.
+    pub fn with_capacity(alloc: Global, count: usize) -> Result<DirCols, Memory>
+        ensures { IfOk result (λ cols. cols ≡ []) }
+    {
+        Ok(DirCols {
+            items: Vec::with_capacity(alloc, count)?,
+        })
     }
 
     /// Appends a column.

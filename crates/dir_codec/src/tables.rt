@@ -57,7 +57,7 @@ fn read_columns(
     ensures { (number : ℕ) → GivesPart number end (columns_due rows (heading_of schema.now)) bytes.now at
         (λ columns. AreEntries end rows (heading_of schema.now) (entries_from columns)) (λ columns. spelled_entries (entries_from columns)) result }
 {
-    let mut columns = DirCols::new(alloc);
+    let mut columns = DirCols::with_capacity(alloc, schema.len())?;
     let mut place = at;
     for prop in schema.as_slice() {
         let (column, next) = read_column(alloc, bytes, place, end, rows, &prop.kind)?;

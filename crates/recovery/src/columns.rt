@@ -187,7 +187,7 @@ fn read_columns<D: Disk>(
 {
     let props = schema.as_slice();
     let items = columns.as_slice();
-    let mut cols = Cols::new(alloc);
+    let mut cols = Cols::with_capacity(alloc, props.len())?;
     let mut next = at;
     for k in 0..props.len() {
         let prop = &props[k];

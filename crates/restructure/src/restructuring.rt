@@ -60,7 +60,7 @@ fn restructure_cols(alloc: Global, old: &Table, new: &Schema) -> Result<Cols, Me
     ensures { IfOk result (AreColumnsIn (restructured old.now new.now)) }
 {
     let props = new.as_slice();
-    let mut cols = Cols::new(alloc);
+    let mut cols = Cols::with_capacity(alloc, props.len())?;
     for at in 0..props.len() {
         let prop = &props[at];
         let place = old.schema().find(prop.name.as_str());

@@ -16,6 +16,7 @@ pub mod Rebuilding
 pub mod Rested
 pub mod Resting
 pub mod RowHomes
+pub mod SameHomes
 pub mod Setting
 pub mod Values
 pub mod Edited

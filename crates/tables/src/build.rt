@@ -44,15 +44,51 @@ pub fn empty_table(alloc: Global, schema: &Schema) -> Result<Table, Memory>
     from_rows(alloc, schema.copy()?, &Rows::new(alloc))
 }
 
-/// The table of the rows in a value of a view property, to be shared.
-pub(crate) fn inner_of_rows(alloc: Global, kind: &Kind, rows: &Rows) -> Result<Shared, Memory>
+/// The table of the rows in a value of a view property, to be shared. It has the schema together with one that stands beside it in the
+/// column, if there is one.
+pub(crate) fn inner_of_rows(
+    alloc: Global,
+    kind: &Kind,
+    rows: &Rows,
+    beside: Option<&Shared>,
+) -> Result<Shared, Memory>
     requires { IsOf (datum_of (Value.V rows.now)) (domain_of kind.now) }
     ensures { IfOk result (IsTableOfRows (domain_of kind.now) rows.now) }
 {
     let Kind::V(schema) = kind else {
         unreachable!()
     };
-    share(alloc, from_rows(alloc, schema.copy()?, rows)?)
+    let schema = shared_schema(alloc, schema, beside)?;
+    share(alloc, table_of_rows(alloc, &schema, rows)?)
+}
+
+/// The schema, together with a table that has the same, or as a copy.
+fn shared_schema(
+    alloc: Global,
+    schema: &Schema,
+    beside: Option<&Shared>,
+) -> Result<segments::Shared<Schema>, Memory>
+    ensures { IfOk result (λ shared. shared ≡ schema.now) }
+{
+    match beside {
+        Some(table) => schema_beside(alloc, schema, table.table()),
+        None => segments::Shared::of(alloc, schema.copy()?),
+    }
+}
+
+/// The schema of the table, if it is this one, or else a copy of this.
+fn schema_beside(
+    alloc: Global,
+    schema: &Schema,
+    table: &Table,
+) -> Result<segments::Shared<Schema>, Memory>
+    ensures { IfOk result (λ shared. shared ≡ schema.now) }
+{
+    let same = table.shared_schema();
+    if same.get().is_same(schema) {
+        return Ok(same.clone()?);
+    }
+    segments::Shared::of(alloc, schema.copy()?)
 }
 
 /// The table of these rows, which has the schema together with others.
@@ -76,7 +112,7 @@ fn cols_of_rows(alloc: Global, schema: &Schema, rows: &Rows) -> Result<Cols, Mem
     ensures { IfOk result (AreColumnsIn (table_without_homes schema.now rows.now)) }
 {
     let props = schema.as_slice();
-    let mut cols = Cols::new(alloc);
+    let mut cols = Cols::with_capacity(alloc, props.len())?;
     for at in 0..props.len() {
         let prop = &props[at];
         cols.push(col_of_rows(alloc, &prop.kind, rows, at)?)?;

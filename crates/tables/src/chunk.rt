@@ -115,13 +115,29 @@ impl TableList {
         &self.items[at]
     }
 
-    /// Adds a table behind the others.
+    /// Adds a table behind the others. Where it has no rows, and the last one is the same, it is that one once more.
     pub(crate) fn push(&mut self, table: Shared) -> Result<(), Memory>
         ensures ok { OnOk result (self.new ≡ self.old ++ table ∷ []) }
         ensures err { OnErr result (self.new ≡ self.old) }
     {
+        let table = self.or_last(table)?;
         self.items.push(table)?;
         Ok(())
+    }
+
+    /// The last table once more in place of one that is the same and has no rows, and any other as it is.
+    fn or_last(&self, table: Shared) -> Result<Shared, Memory>
+        ensures { IfOk result (λ same. same ≡ table) }
+    {
+        match self.last() {
+            Some(last) => last.or_same(table),
+            None => Ok(table),
+        }
+    }
+
+    /// The last table, if there is one.
+    pub(crate) fn last(&self) -> Option<&Shared> {
+        self.items.last()
     }
 
     /// Takes the last table away.
@@ -233,8 +249,7 @@ impl Chunk {
         ensures err { OnErr result (self.new ≡ self.old) }
     {
         let list = Rc::make_mut(&mut self.list)?;
-        list.items.push(table)?;
-        Ok(())
+        list.push(table)
     }
 
     /// Puts a table in place of the one at a place.

@@ -4,7 +4,8 @@ ghost use Rattle.mk_value.specs.Data.{IsOf};
 ghost use Rattle.mk_value.specs.Kinds.{domain_of};
 ghost use Rattle.mk_value.specs.Values.{datum_of};
 ghost use Rattle.tables.specs.Cells.{IsWholeColumn, IsSet, IsSetIn, HasNumber, HasString, HasView, with_number, with_string, with_view};
-ghost use Rattle.tables.specs.Columns.{column_values, no_column};
+ghost use Rattle.std.specs.Bool.{OnTrue};
+ghost use Rattle.tables.specs.Columns.{column_values, home_of, no_column};
 ghost use Rattle.tables.specs.Homes.{empty_homes_in};
 ghost use Rattle.tables.specs.Edits.{ArePutIn, AreWithout, HaveSome};
 ghost use Rattle.tables.specs.Prepared.{AreReady, ArePushed};
@@ -14,9 +15,9 @@ use crate::build::inner_of_rows;
 use crate::edits::{insert_rows, remove_rows};
 use crate::prepared::push_row;
 use crate::{Shared, Tables};
-use bytes_col::BytesCol;
+use bytes_col::{BytesCol, BytesHome};
 use int_col::IntCol;
-use mk_value::{Kind, Memory, Prop, Value};
+use mk_value::{Kind, Memory, Prop, Span, Value};
 use std::alloc::Global;
 use std::marker::Model;
 
@@ -69,6 +70,19 @@ impl Cols {
         Cols {
             items: Vec::new(alloc),
         }
+    }
+
+    /// No columns, with room for so many and no more: a table inside a row has columns of its own, and there may be many.
+    ///
+    /// # Errors
+    ///
+    /// `Memory`.
+    pub fn with_capacity(alloc: Global, count: usize) -> Result<Cols, Memory>
+        ensures { IfOk result (λ cols. cols ≡ []) }
+    {
+        Ok(Cols {
+            items: Vec::with_capacity(alloc, count)?,
+        })
     }
 
     /// Adds a column behind the others.
@@ -184,7 +198,7 @@ impl Cols {
     pub fn same(&self) -> Result<Cols, Memory>
         ensures { IfOk result (λ cols. cols ≡ self.now) }
     {
-        let mut cols = Cols::new(self.allocator());
+        let mut cols = Cols::with_capacity(self.allocator(), self.items.len())?;
         for col in self.items.iter() {
             cols.push(col.same()?)?;
         }
@@ -209,6 +223,70 @@ impl Col {
             Col::Views(tables) => Ok(Col::Views(tables.same()?)),
         }
     }
+
+    /// The last table of a column of tables, if there is one.
+    pub(crate) fn last_table(&self) -> Option<&Shared> {
+        match self {
+            Col::Views(tables) => tables.last(),
+            _ => None,
+        }
+    }
+
+    /// Whether both columns have the same home, and that is a home of a column without values.
+    fn has_same_empty_home(&self, other: &Col) -> bool
+        ensures { OnTrue result (home_of (stored_of self.now) ≡ home_of (stored_of other.now)) }
+    {
+        match (self, other) {
+            (Col::Ints(one), Col::Ints(two)) => is_same_span(one.home(), two.home()),
+            (Col::Blobs(one), Col::Blobs(two)) => have_same_empty_home(one, two),
+            (Col::Views(one), Col::Views(two)) => one.is_empty() && two.is_empty(),
+            _ => false,
+        }
+    }
+}
+
+/// Whether columns without values have the same homes.
+pub(crate) fn have_same_empty_homes(ones: &[Col], twos: &[Col]) -> bool
+    ensures { OnTrue result (map home_of (map stored_of ones.now) ≡ map home_of (map stored_of twos.now)) }
+{
+    if ones.len() != twos.len() {
+        return false;
+    }
+    for at in 0..ones.len() {
+        if !ones[at].has_same_empty_home(&twos[at]) {
+            return false;
+        }
+    }
+    true
+}
+
+/// Whether both are none, or the same span.
+fn is_same_span(one: Option<Span>, two: Option<Span>) -> bool
+    ensures { OnTrue result (one ≡ two) }
+{
+    match (one, two) {
+        (None, None) => true,
+        (Some(one), Some(two)) => one == two,
+        _ => false,
+    }
+}
+
+/// Whether both columns have no home, or the same one without blocks of long values.
+fn have_same_empty_home(one: &BytesCol, two: &BytesCol) -> bool
+    ensures { OnTrue result (one.now.home ≡ two.now.home) }
+{
+    match (one.home(), two.home()) {
+        (None, None) => true,
+        (Some(one), Some(two)) => is_same_empty_home(one, two),
+        _ => false,
+    }
+}
+
+/// Whether two homes are the same, and have no blocks of long values.
+fn is_same_empty_home(one: &BytesHome, two: &BytesHome) -> bool
+    ensures { OnTrue result (one.now ≡ two.now) }
+{
+    one.sizes == two.sizes && one.short == two.short && one.memos.is_empty() && two.memos.is_empty()
 }
 
 /// Sets a number in a column of numbers.
@@ -267,7 +345,7 @@ fn set_value(
         Value::S(text) => set_blob(col, row, text.as_str().as_bytes()),
         Value::B(bytes) => set_blob(col, row, bytes.as_slice()),
         Value::V(rows) => {
-            let table = inner_of_rows(alloc, kind, rows)?;
+            let table = inner_of_rows(alloc, kind, rows, col.last_table())?;
             set_view(col, row, table)
         }
     }

@@ -248,7 +248,7 @@ impl Column<'_> {
                 Ok(Col::Blobs(blobs_inserted(self.blobs(), at, bytes, count)?))
             }
             Value::V(rows) => {
-                let table = inner_of_rows(alloc, self.kind, rows)?;
+                let table = inner_of_rows(alloc, self.kind, rows, self.col.last_table())?;
                 Ok(Col::Views(views_inserted(self.views(), at, &table, count)?))
             }
         }

@@ -105,6 +105,15 @@ impl Growing {
         self.last.allocator()
     }
 
+    /// The last table, if there is one.
+    pub(crate) fn last(&self) -> Option<&Shared> {
+        let len = self.len();
+        if len == 0 {
+            return None;
+        }
+        Some(self.get(len - 1))
+    }
+
     /// The table at a place.
     pub(crate) fn get(&self, at: usize) -> &Shared
         requires { at < length self.now }

@@ -21,5 +21,5 @@ pub use build::{empty_table, from_rows};
 pub use cols::{Col, Cols};
 pub use column::{Column, default_column};
 pub use shared::{Shared, share};
-pub use table::{Table, from_cols};
+pub use table::Table;
 pub use tables::Tables;

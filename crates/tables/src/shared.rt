@@ -69,6 +69,17 @@ impl Shared {
         Rc::get_mut(&mut self.table)
     }
 
+    /// This table once more in place of one that is the same and has no rows, so that there is one of them in memory, and any other as it
+    /// is.
+    pub(crate) fn or_same(&self, table: Shared) -> Result<Shared, Memory>
+        ensures { IfOk result (λ same. same ≡ table) }
+    {
+        if self.table().is_same_empty(table.table()) {
+            return Ok(self.clone()?);
+        }
+        Ok(table)
+    }
+
     /// The table that is shared.
     pub fn table(&self) -> &Table
         ensures { result.now ≡ self.now }

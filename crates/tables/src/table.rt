@@ -1,5 +1,6 @@
 //! A table.
 ghost use Rattle.std.specs.Prelude.{◌≡◌, ◌+◌, ◌<◌, ◌≤◌, [], length, slice_index_or, IfOk, OnOk, OnErr};
+ghost use Rattle.std.specs.Bool.{OnTrue};
 ghost use Rattle.mk_value.specs.Data.{IsOf, IsRowOf};
 ghost use Rattle.mk_value.specs.Heading.{Domain, heading_of};
 ghost use Rattle.mk_value.specs.Kinds.{domain_of};
@@ -14,6 +15,7 @@ ghost use Rattle.tables.specs.Shapes.{HasHomes};
 ghost use Rattle.tables.specs.Stored.{stored_of};
 ghost use Rattle.tables.specs.Tables.{IsTable, inner_table, with_inner, with_value};
 
+use crate::cols::have_same_empty_homes;
 use crate::column::Column;
 use crate::{Cols, Shared};
 use mk_value::{Lent, Memory, Row, Rows, Schema, TableRead, Value};
@@ -50,22 +52,6 @@ impl Model for Table {
     ghost size_decreases = { λ t h. table_falls t h };
 }
 
-/// The table of these columns, with their homes.
-///
-/// # Errors
-///
-/// `Memory`.
-pub fn from_cols(alloc: Global, schema: Schema, rows: u32, cols: Cols) -> Result<Table, Memory>
-    requires { AreColumnsOf rows schema cols }
-    ensures { IfOk result (λ table. table ≡ table_of_columns rows schema cols) }
-{
-    Ok(Table {
-        schema: segments::Shared::of(alloc, schema)?,
-        rows,
-        cols,
-    })
-}
-
 impl Table {
     /// The table of these columns, with their homes. It has the schema together with others.
     ///
@@ -85,6 +71,18 @@ impl Table {
             rows: rows as u32,
             cols,
         })
+    }
+
+    /// The table of these columns in place of its own. It has the schema together with this one.
+    ///
+    /// # Errors
+    ///
+    /// `Memory`.
+    pub fn with_cols(&self, cols: Cols) -> Result<Table, Memory>
+        requires { AreColumnsOf (length self.now.rows) self.now.schema cols }
+        ensures { IfOk result (λ table. table ≡ table_of_columns (length self.now.rows) self.now.schema cols) }
+    {
+        Table::of_columns(self.shared_schema(), self.len(), cols)
     }
 
     /// How many rows there are, at most 16,777,216.
@@ -315,6 +313,28 @@ impl Table {
         ensures homes { HasHomes self.now }
     {
         self.schema.get().len()
+    }
+
+    /// The schema, to be had together with this table.
+    pub(crate) fn shared_schema(&self) -> &segments::Shared<Schema>
+        ensures { result.now ≡ self.now.schema }
+    {
+        &self.schema
+    }
+
+    /// Whether both tables have no rows, and have the same schema and homes.
+    pub(crate) fn is_same_empty(&self, other: &Table) -> bool
+        ensures { OnTrue result (self.now ≡ other.now) }
+    {
+        if self.rows > 0 || other.rows > 0 {
+            return false;
+        }
+        let ours = self.schema.get();
+        let theirs = other.schema.get();
+        if !ours.is_same(theirs) {
+            return false;
+        }
+        have_same_empty_homes(self.cols.as_slice(), other.cols.as_slice())
     }
 
     /// The allocator of the columns.

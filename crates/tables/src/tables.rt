@@ -1,5 +1,6 @@
 //! The tables in the rows of a view column.
 ghost use Rattle.std.specs.Prelude.{◌≡◌, ◌+◌, ◌-◌, ◌<◌, ◌≤◌, [], ◌∷◌, ◌++◌, length, slice_get, slice_set, Some, IfOk, IfErr, OnOk, OnErr};
+ghost use Rattle.std.specs.Bool.{OnTrue};
 ghost use Rattle.segments.specs.Joined.{joined};
 ghost use Rattle.tables.specs.Rows.{inserted, removed};
 
@@ -67,6 +68,21 @@ impl Tables {
         }
     }
 
+    /// Whether there are no tables.
+    pub(crate) fn is_empty(&self) -> bool
+        ensures { OnTrue result (self.now ≡ []) }
+    {
+        self.len() == 0
+    }
+
+    /// The last table, if there is one.
+    pub(crate) fn last(&self) -> Option<&Shared> {
+        match &self.kind {
+            Kind::One(chunk) => chunk.list().last(),
+            Kind::Growing(list) => list.last(),
+        }
+    }
+
     /// The table at a place.
     pub fn get(&self, at: usize) -> &Shared
         requires { at < length self.now }
@@ -78,7 +94,8 @@ impl Tables {
         }
     }
 
-    /// Adds a table behind the others. No copy of the list is changed.
+    /// Adds a table behind the others. No copy of the list is changed. A table without rows that is the same as the last one becomes that
+    /// very table, in memory.
     ///
     /// # Errors
     ///

@@ -1,7 +1,7 @@
 use Rattle.std.proofs.Common.{◌≡◌, ℕ, ◌<◌, List, length, drop, get_or, map, ap, sym, subst, ◌∙◌, arith}
 use Rattle.std.proofs.lemmas.List.{get_or-map, length-map}
 use Rattle.std.proofs.lemmas.Option.{get_or_from_slice_get, slice_get_within}
-use Rattle.tables.specs.Columns.{StoredColumn, AreColumnsOf, table_of_columns, views}
+use Rattle.tables.specs.Columns.{StoredColumn, table_of_columns, views}
 use Rattle.tables.specs.Shapes.{HasHomes}
 use Rattle.tables.specs.Sizes.{column_size}
 use Rattle.tables.specs.Stored.{stored_of}
@@ -61,21 +61,17 @@ settle_table-settle_cols-requires t c =
     let enough = c.requires in
     (omega (arith, lighter), omega (arith, count, same, enough))
 
-pub settle_table-from_cols-requires : goal.settle_table-from_cols-requires
-settle_table-from_cols-requires t c =
+pub settle_table-with_cols-requires : goal.settle_table-with_cols-requires
+settle_table-with_cols-requires t c =
     let table = c.table-table.result.now in
-    let kept = columns_kept (length table.rows) table.schema c.cols.result.now c.in_ok-cols.cols c.args.places.now c.settle_cols.new.places c.cols.ensures.whole c.in_ok-cols.ensures in
-    subst (λ s. AreColumnsOf c.len-rows.result s c.in_ok-cols.cols) (sym (c.in_ok-schema.ensures ∙ c.schema.ensures.value))
-    (subst (λ n. AreColumnsOf n table.schema c.in_ok-cols.cols) (sym c.len-rows.ensures.value) kept)
+    columns_kept (length table.rows) table.schema c.cols.result.now c.in_ok-cols.cols c.args.places.now c.settle_cols.new.places c.cols.ensures.whole c.in_ok-cols.ensures
 
 pub settle_table-returns : goal.settle_table-returns
 settle_table-returns t c =
     let table = c.table-table.result.now in
     let settled = table_settled (length table.rows) table.schema c.cols.result.now c.in_ok-cols.cols c.args.places.now c.settle_cols.new.places c.cols.ensures.whole c.in_ok-cols.ensures in
     let old : table_of_columns (length table.rows) table.schema c.cols.result.now ≡ c.args.shared.now = sym c.cols.ensures.value ∙ c.table-table.ensures in
-    let made : c.in_ok-from_cols.field-0 ≡ table_of_columns (length table.rows) table.schema c.in_ok-cols.cols =
-    c.in_ok-from_cols.ensures ∙ ap (λ n. table_of_columns n c.in_ok-schema.schema c.in_ok-cols.cols) c.len-rows.ensures.value
-    ∙ ap (λ s. table_of_columns (length table.rows) s c.in_ok-cols.cols) (c.in_ok-schema.ensures ∙ c.schema.ensures.value) in
+    let made : c.in_ok-with_cols.field-0 ≡ table_of_columns (length table.rows) table.schema c.in_ok-cols.cols = c.in_ok-with_cols.ensures in
     IfOk-then c.share.result c.share.ensures
     (λ u e. subst (λ x. SettlesTable c.args.shared.now c.args.places.now c.settle_cols.new.places x) (sym (e ∙ made))
     (subst (λ x. SettlesTable x c.args.places.now c.settle_cols.new.places (table_of_columns (length table.rows) table.schema c.in_ok-cols.cols)) old settled))

@@ -81,7 +81,7 @@ read_column-returns-in_ok-bodies-in-V t c = λ number. rw c.in-V.is (c.in_ok-bod
 -- ---- the columns of a table
 
 pub read_columns-loop-prop-init : goal.read_columns-loop-prop-init
-read_columns-loop-prop-init t c = rw c.new-columns.ensures (columns.begins c.args.end c.args.bytes.now c.args.rows c.args.at c.as_slice-prop-items.result.now c.requires.within)
+read_columns-loop-prop-init t c = rw c.in_ok-columns.ensures (columns.begins c.args.end c.args.bytes.now c.args.rows c.args.at c.as_slice-prop-items.result.now c.requires.within)
 
 pub read_columns-read_column-requires : goal.read_columns-read_column-requires
 read_columns-read_column-requires t c =
@@ -91,7 +91,7 @@ read_columns-read_column-requires t c =
 
 pub read_columns-returns-in_err-column : goal.read_columns-returns-in_err-column
 read_columns-returns-in_err-column t c = λ number.
-    let p = err_from_is_err_and c.from_residual.result c.from_residual.ensures.1 in
+    let p = err_from_is_err_and c.from_residual-in_err-column.result c.from_residual-in_err-column.ensures.1 in
     let props = c.as_slice-prop-items.result.now in
     let next = columns.next_read props c.loop-prop.prop-index c.prop-item.result c.loop-prop-test.true c.prop-item.is in
     rw (p.1, p.2, ← c.as_slice-prop-items.ensures.value)

@@ -207,7 +207,7 @@ read_column-returns-in_ok-tables-in-Views-clause-column g t c = λ tells.
 
 pub read_columns-loop-k-init : goal.read_columns-loop-k-init
 read_columns-loop-k-init g t c =
-    rw c.new-cols.ensures
+    rw c.in_ok-cols.ensures
     (record {
       counts = CountsFaults-begins (g.D.Disk.outside c.args.disk.now) ⊥ (λ failed. failed);
       same = λ tells. record { still = record { now = refl; past = refl }; input = refl };
@@ -263,7 +263,7 @@ read_columns-returns-in_err-col-clause-unreadable g t c = λ tells.
     let there = items_within c.requires.fits.end c.args.rows c.loop-k.k c.args.schema.now props c.args.columns.now items c.requires.fits.has c.as_slice-props.ensures.value c.as_slice-items.ensures c.loop-k-test.true in
     let next : IsNext props own c.loop-k.k a e = next_read props items c.loop-k.k a c.index-items-k.result c.loop-k-test.true c.index-props-k.is there c.index-items-k.is in
     let domain : domain_of c.prop.inside.kind ≡ a.domain = ap (λ (x : Attribute). x.domain) c.prop.view_is in
-    let p = err_from_is_err_and c.from_residual.result c.from_residual.ensures.1 in
+    let p = err_from_is_err_and c.from_residual-in_err-col.result c.from_residual-in_err-col.ensures.1 in
     rw (p.1, p.2, ← c.as_slice-items.ensures, ← c.as_slice-props.ensures.value)
     (column_unread g.D.Disk.tells image c.args.rows c.args.at props own c.loop-k.k c.loop-k.next c.loop-k.cols c.loop-k.invariant.so a e next c.in_err-col.field-0.0 tells
     (subst (λ d. NamesUnreadable image (plain_entry e d c.loop-k.next c.args.rows) c.in_err-col.field-0.0) domain

@@ -114,7 +114,7 @@ cols_of_rows-col_of_rows-requires t c =
     (omega (arith, weight, ap domain_weight domain), subst (λ e. AreCells c.args.rows.now c.loop-at.at e) domain (cells_of_rows c.args.rows.now c.args.schema.now c.loop-at.at whole within))
 
 pub cols_of_rows-loop-at-init : goal.cols_of_rows-loop-at-init
-cols_of_rows-loop-at-init t c = no_first_columns (table_without_homes c.args.schema.now c.args.rows.now) c.new-cols.result c.new-cols.ensures
+cols_of_rows-loop-at-init t c = no_first_columns (table_without_homes c.args.schema.now c.args.rows.now) c.in_ok-cols.cols c.in_ok-cols.ensures
 
 pub cols_of_rows-loop-at-preserved : goal.cols_of_rows-loop-at-preserved
 cols_of_rows-loop-at-preserved t c =
