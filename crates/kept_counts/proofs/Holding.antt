@@ -5,7 +5,7 @@ use Rattle.std.specs.Option.{ForSome}
 use Rattle.std.proofs.lemmas.Bool.{cases_Bool}
 use Rattle.std.proofs.lemmas.List.Elements.{All-contains}
 use Rattle.std.proofs.lemmas.Option.{none-some}
-use Rattle.following.specs.Keeping.{ChangesRows, HaveSameRows}
+use Rattle.watches.specs.Keeping.{ChangesRows, HaveSameRows}
 use Rattle.live_counts.specs.States.{CountsState}
 use Rattle.mk_value.specs.Data.{Datum}
 use Rattle.mk_value.specs.Heading.{Attribute}

@@ -101,3 +101,15 @@ follows_others view schema rows old new is same = record {
   over = λ e. absurd (let f : true ≡ false = sym e ∙ is in cc);
   others = λ _. same;
 }
+
+-- and has followed a line
+pub follows_line : (view : List ℕ) (schema : List Attribute) (before after : List (List Datum)) (old new : Counted) → same_bytes old.view view ≡ true → new.view ≡ old.view → new.keys ≡ old.keys
+    → IsCountedOver schema before old → ForSome new.counts (HaveFollowed schema after old.counts) → Follows view schema after old new
+follows_line view schema before after old new is of keys kept followed = record {
+  of = of;
+  over = λ _ c some.
+      let f = followed c some in
+      let was = kept f.before f.was in
+      subst (λ ks. AreWaiting schema after ks c) (sym keys) (record { by = record { keyed = was.by.keyed; op = f.op ∙ was.by.op; now = f.now }; noted = f.noted });
+  others = λ e. absurd (let f : true ≡ false = sym is ∙ e in cc);
+}

@@ -9,7 +9,7 @@ use Rattle.std.proofs.lemmas.List.{get_or-set_same, get_or_default, get_or_push,
 use Rattle.std.proofs.lemmas.List.Elements.{All-contains, All-push, All-set}
 use Rattle.std.proofs.lemmas.List.Folds.{list_any_at, list_any_none}
 use Rattle.std.proofs.lemmas.Slice.Eq.{slice_eq-Decides}
-use Rattle.following.proofs.Finding.{first_at, none_at}
+use Rattle.watches.proofs.Finding.{first_at, none_at}
 use Rattle.live_counts.specs.States.{CountsState}
 use Rattle.mk_value.specs.Names.{same_bytes}
 use Rattle.kept_counts.specs.Following.{IsPut}

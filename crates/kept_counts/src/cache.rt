@@ -1,6 +1,6 @@
 //! All counts that are kept.
 ghost use Rattle.std.specs.Prelude.{◌≡◌, ◌≤◌, [], ℕ, List, true, false, length, None, Some, IfOk, IfSome, OnErr, OnOk};
-ghost use Rattle.following.specs.Keeping.{ChangesRows};
+ghost use Rattle.watches.specs.Keeping.{ChangesRows};
 ghost use Rattle.mk_value.specs.Data.{Datum};
 ghost use Rattle.mk_value.specs.Names.{same_bytes};
 ghost use Rattle.row_edits.specs.Edits.{IsInRange, edited};
@@ -10,18 +10,20 @@ ghost use Rattle.kept_counts.specs.Following.{IsPut};
 ghost use Rattle.kept_counts.specs.Keeping.{AllHaveNoted, AreCounted, AreCountedBut, AreCountedOver, IsCountsOf, NoneIsKept, has_place, is_kept, max_kept, may_key as may_be_key};
 
 use crate::entry::Entry;
-use crate::listed::{find, find_blank, follow_all, forget_all, has, note_all, push};
+use crate::listed::{
+    find, find_blank, follow_all, follow_line_all, forget_all, has, note_all, push,
+};
 use crate::making::may_key;
 use crate::showing::{counted, may_count};
 use derived::Derived;
-use following::view_of;
 use mk_value::{Memory, Name, TableRead};
-use row_edits::RowEdit;
+use row_edits::{Line, RowEdit};
 use std::alloc::Global;
 use std::marker::Model;
 use std::mem::replace;
 use tables::Shared;
 use view_store::Root;
+use watches::view_of;
 
 /// The most counts that are kept.
 pub const MAX_KEPT: usize = 64;
@@ -167,5 +169,14 @@ impl KeptCounts {
         ensures kept { (before : List (List Datum)) (old new : List NamedTable) → AreCountedBut view.now old self.old → ChangesRows view.now rows.now.schema before rows.now.rows old new → AreCounted new self.new }
     {
         follow_all(&mut self.list, view, rows, edit);
+    }
+
+    /// What is kept of a view follows a line on it, edit by edit, where each is of one row; else, or where memory is wanting, it is dropped.
+    pub fn follow_line(&mut self, view: &Name, line: &Line<'_, Shared>)
+        requires kept { AreCountedOver view.now line.now.before.now.schema line.now.before.now.rows self.old }
+        ensures over { AreCountedOver view.now line.now.before.now.schema line.now.after.now.rows self.new }
+        ensures kept { (old new : List NamedTable) → AreCountedBut view.now old self.old → ChangesRows view.now line.now.before.now.schema line.now.before.now.rows line.now.after.now.rows old new → AreCounted new self.new }
+    {
+        follow_line_all(&mut self.list, view, line);
     }
 }

@@ -8,10 +8,10 @@ ghost use Rattle.kept_counts.specs.Following.{Follows, Forgets, Notes};
 ghost use Rattle.kept_counts.specs.Keeping.{HaveNoted, IsCountedOver, is_of as is_kept_of, may_key};
 
 use crate::making::{copy_names, counts_of};
-use crate::noting::{followed, noted};
+use crate::noting::{followed, followed_line, noted};
 use live_counts::LiveCounts;
 use mk_value::{Memory, Name, Sequence};
-use row_edits::RowEdit;
+use row_edits::{Line, RowEdit};
 use std::alloc::Global;
 use std::marker::Model;
 use std::mem::replace;
@@ -100,6 +100,17 @@ impl Entry {
     {
         if self.view == *view {
             let counts = followed(self.counts.take(), rows, edit);
+            drop(replace(&mut self.counts, counts));
+        }
+    }
+
+    /// Follows a line on its view, where the view has the name. Where it cannot, it drops its counts.
+    pub fn follow_line(&mut self, view: &Name, line: &Line<'_, Shared>)
+        requires kept { same_bytes self.old.view view.now ≡ true → IsCountedOver line.now.before.now.schema line.now.before.now.rows self.old }
+        ensures { Follows view.now line.now.before.now.schema line.now.after.now.rows self.old self.new }
+    {
+        if self.view == *view {
+            let counts = followed_line(self.counts.take(), line);
             drop(replace(&mut self.counts, counts));
         }
     }

@@ -9,7 +9,7 @@ ghost use Rattle.kept_counts.specs.Keeping.{AllHaveNoted, AreCountedOver, Counte
 
 use crate::entry::Entry;
 use mk_value::{Memory, Name};
-use row_edits::RowEdit;
+use row_edits::{Line, RowEdit};
 use tables::Shared;
 
 /// Whether the counts of a view by these keys are kept.
@@ -69,5 +69,15 @@ pub(crate) fn follow_all(list: &mut [Entry], view: &Name, rows: &Shared, edit: R
 {
     for entry in list.iter_mut() {
         entry.follow(view, rows, edit);
+    }
+}
+
+/// What is kept of a view follows a line on it.
+pub(crate) fn follow_line_all(list: &mut [Entry], view: &Name, line: &Line<'_, Shared>)
+    requires kept { AreCountedOver view.now line.now.before.now.schema line.now.before.now.rows list.old }
+    ensures { AreEach (Follows view.now line.now.before.now.schema line.now.after.now.rows) list.old list.new }
+{
+    for entry in list.iter_mut() {
+        entry.follow_line(view, line);
     }
 }

@@ -6,11 +6,14 @@ use Rattle.std.specs.declared.cmp.Ordering.TheVariants.{Less, Equal, Greater}
 use Rattle.std.specs.Ordering.{ordering_reverse}
 use Rattle.std.specs.Cmp.{IsTotalOrder, on_total}
 use Rattle.std.proofs.lemmas.Bool.{cases_lt, cases_eq}
-use Rattle.std.proofs.lemmas.Bool.Decides.{nat_tests}
+use Rattle.std.proofs.lemmas.Bool.Decides.{Decides-eqb, nat_tests}
 use Rattle.std.proofs.lemmas.List.{take-append-drop, drop_more, get_or-set_other, length-set}
 use Rattle.std.proofs.lemmas.List.Edits.{length-insert, length-remove, get_or-insert_below, get_or-insert_above, get_or-remove_below, get_or-remove_above}
 use Rattle.std.proofs.lemmas.List.Quantifiers.{all_pairs_remove}
 use Rattle.std.proofs.lemmas.Cmp.{tied_itself}
+use Rattle.std.proofs.lemmas.Map.Made.{IsDistinct-from_AllPairs}
+use Rattle.std.proofs.lemmas.Map.Steps.{length-le_from_distinct_below}
+use Rattle.std.proofs.lemmas.Map.Views.{Contains-from_any}
 use Rattle.mk_value.specs.Data.{Datum}
 use Rattle.relations.specs.WholeOrder.{whole_row_cmp}
 use Rattle.relations.specs.OrderLaws.{whole_row_cmp_total, whole_row_ties}
@@ -228,6 +231,12 @@ map_still : (f : ℕ → ℕ) (xs : List ℕ) → All (λ i. f i ≡ i) xs → x
 map_still f [] same = refl
 map_still f (x ∷ xs) same =
     ap (λ y. y ∷ xs) (sym (same 0 x (omega arith))) ∙ ap (λ ys. f x ∷ ys) (map_still f xs (λ k d p. same (suc k) d (omega arith)))
+
+-- an order has no more positions than there are keys
+pub few_ordered : (keys : List (List Datum)) (order : List ℕ) → AreOrdered keys order → length order ≤ length keys
+few_ordered keys order h = length-le_from_distinct_below order (length keys)
+    (IsDistinct-from_AllPairs Decides-eqb order (λ i j d p q e. not_less (at_total keys) (get_or order j d) (ap (λ x. key_at_cmp keys x (get_or order j d)) (sym e) ∙ h.ascends i j d p q)))
+    (λ q found. all_in (λ i. i < length keys) order q h.within (in_from_contains order q (Contains-from_any (λ x y e. (Decides-eqb x y).0 e) q order found)))
 
 pub still_closed : (at size : ℕ) (order : List ℕ) → All (λ i. i ≤ size) order → size ≤ at → order ≡ map (closed at) order
 still_closed at size order within last = map_still (closed at) order (λ k d p. let q = within k d p in grind (arith, nat_tests))

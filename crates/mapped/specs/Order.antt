@@ -1,5 +1,5 @@
 -- The order in which an index keeps positions, which no public clause names.
-use Rattle.std.specs.Prelude.{◌≡◌, ◌≢◌, ◌<◌, ◌+◌, ◌-◌, ℕ, min, nat_lt, if◌then◌else◌, List, [], length, slice_index_or, All, Contains, Option, Some, None}
+use Rattle.std.specs.Prelude.{◌≡◌, ◌≢◌, ◌<◌, ◌+◌, ℕ, min, List, [], length, slice_index_or, All, Contains, Option, Some, None}
 use Rattle.std.specs.declared.cmp.Ordering.{Ordering}
 use Rattle.std.specs.declared.cmp.Ordering.TheVariants.{Less}
 use Rattle.std.specs.Ordering.{on}
@@ -7,6 +7,7 @@ use Rattle.std.specs.List.{AllPairs}
 use Rattle.mk_value.specs.Data.{Datum}
 use Rattle.relations.specs.Positions.{place_cmp}
 use Rattle.relations.specs.WholeOrder.{whole_row_cmp}
+use Rattle.row_edits.specs.Runs.{moved_down, moved_up}
 use Rattle.mapped.specs.Index.{AreKeys}
 
 -- the order of two positions: that of the keys that stand there
@@ -42,10 +43,10 @@ pub record IsSortOf (keys : List (List Datum)) (order : List ℕ) : Type 0 where
 
 -- where a position moves when another goes, and when one comes
 abbrev pub closed : ℕ → ℕ → ℕ
-closed at i = if nat_lt at i then i - 1 else i
+closed at = moved_down (at + 1) 1
 
 abbrev pub opened : ℕ → ℕ → ℕ
-opened at i = if nat_lt i at then i else i + 1
+opened at = moved_up at 1
 
 -- the lesser of two positions, the one of which may be missing
 abbrev pub least : Option ℕ → ℕ → ℕ

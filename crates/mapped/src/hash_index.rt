@@ -1,6 +1,7 @@
 //! An index that finds the row of a key.
 ghost use Rattle.std.specs.Prelude.{◌≡◌, ◌+◌, ◌<◌, ◌≤◌, ℕ, [], List, ◌++◌, drop, length, take, IsOk, IfOk, OnOk, IfSome, IfNone, Contains, Some, slice_get};
 ghost use Rattle.mk_value.specs.Data.{Datum};
+ghost use Rattle.mk_value.specs.Limits.{max_rows};
 ghost use Rattle.mapped.specs.Events.{HasKey, IsInRange, IsKeyOfEvent, LeadsTo, keys_after};
 ghost use Rattle.mapped.specs.Index.{AreKeys, row_of};
 ghost use Rattle.mapped.specs.Keys.{keys_of};
@@ -11,17 +12,19 @@ use crate::order::{change, find, insert, remove, remove_many};
 use crate::ordered::check_count;
 use crate::{Event, MapError};
 use mk_value::{Memory, Row, TableRead};
+use places::Places;
 use std::alloc::Global;
 use std::marker::Model;
 
 /// An index that finds the row of a key. It keeps the keys of all rows, in the rows' order, and contracts see these.
 ///
-/// Beside the keys it keeps the positions of the rows in the order of their keys. A key is found by halving, so with one comparison more
+/// Beside the keys it keeps the positions of the rows in the order of their keys, in chunks, so that a key that comes or goes moves those
+/// of one chunk. A key is found by halving, so with one comparison more
 /// than the number of rows has binary digits, whichever keys strangers choose: there is no hash that they could make collide.
-#[derive(Debug, Drop)]
+#[derive(Drop)]
 pub struct HashIndex {
     keys: Vec<Row>,
-    order: Vec<u32>,
+    order: Places,
 }
 
 impl Model for HashIndex {
@@ -36,10 +39,10 @@ impl Model for HashIndex {
 
     ghost view = { λ x. record {
       keys = x.keys.items;
-      spare = min (vec_capacity x.keys - vec_len x.keys) (vec_capacity x.order - vec_len x.order);
+      spare = min (vec_capacity x.keys - vec_len x.keys) x.order.spare;
     } };
 
-    ghost invariant = { λ x. IsIndexOf x.keys.items x.order.items };
+    ghost invariant = { λ x. IsIndexOf x.keys.items x.order.list };
 }
 
 impl HashIndex {
@@ -54,7 +57,10 @@ impl HashIndex {
         let order = order_of(alloc, &keys)?;
         match first_repeated(&keys, &order) {
             Some(row) => Err(MapError::KeysBroken(row as u64)),
-            None => Ok(HashIndex { keys, order }),
+            None => Ok(HashIndex {
+                keys,
+                order: placed(alloc, &order)?,
+            }),
         }
     }
 
@@ -83,12 +89,14 @@ impl HashIndex {
         ensures succeeds { more ≤ self.old.spare → IsOk result }
     {
         self.keys.reserve(more)?;
-        self.order.reserve(more)?;
+        if self.order.spare() < more {
+            self.order.reserve(more)?;
+        }
         Ok(())
     }
 
     /// Keeps the index with its rows over an event, where `key` is the key of the row that came or changed. It takes no memory. It costs
-    /// one halving, and one pass over what stands behind the event's position and behind the key's place.
+    /// one halving and what a chunk holds, and one pass over what stands behind the event's position.
     pub fn follow(&mut self, event: &Event, key: Option<Row>)
         requires reserved { 0 < self.old.spare }
         requires there { IsInRange event.now (length self.old.keys) }
@@ -123,4 +131,12 @@ impl HashIndex {
             remove_many(&mut self.keys, &mut self.order, at, count);
         }
     }
+}
+
+/// Positions in chunks.
+fn placed(alloc: Global, order: &[u32]) -> Result<Places, Memory>
+    requires { length order.now ≤ max_rows }
+    ensures { IfOk result (λ places. places.list ≡ order.now) }
+{
+    Ok(Places::of(alloc, order)?)
 }

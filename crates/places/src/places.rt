@@ -78,6 +78,13 @@ impl Places {
         edits::get(&self.chunks, &self.ends, at)
     }
 
+    /// How many empty chunks lie aside.
+    pub fn spare(&self) -> usize
+        ensures { result ≡ self.now.spare }
+    {
+        self.spare.len()
+    }
+
     /// Lays so many empty chunks aside.
     ///
     /// # Errors

@@ -13,8 +13,8 @@ use Rattle.eval.specs.declared.error.EvalError.{EvalError}
 use Rattle.eval.specs.declared.error.EvalError.TheVariants.{Name}
 use Rattle.eval.specs.declared.error.NameError.{NameError}
 use Rattle.eval.specs.Values.{at_path, at_size, counted}
-use Rattle.following.specs.Keeping.{ShowsAll}
-use Rattle.following.specs.Watches.{is_watch, source_of}
+use Rattle.watches.specs.Keeping.{ShowsAll}
+use Rattle.watches.specs.Watches.{is_watch, source_of}
 use Rattle.kept_counts.specs.Keeping.{IsCountsOf}
 use Rattle.mk_value.specs.Tables.{Table}
 use Rattle.relations.specs.Answers.{outcome}

@@ -9,7 +9,7 @@ use Rattle.mk_value.specs.Names.{same_bytes}
 use Rattle.mk_value.specs.Tables.{Table}
 use Rattle.mk_value.specs.Paths.{Route}
 use Rattle.mk_value.specs.declared.path.Step.{Step}
-use Rattle.following.specs.Watches.{Followed, Shown, is_among, is_watch, watch_table}
+use Rattle.watches.specs.Watches.{Followed, Shown, is_among, is_watch, watch_table}
 use Rattle.eval.specs.Names.{Named, seen_at, table_at, view_at}
 use Rattle.eval.specs.declared.error.NameError.{NameError}
 use Rattle.eval.specs.declared.error.NameError.TheVariants.{NoName}

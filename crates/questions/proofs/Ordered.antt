@@ -15,12 +15,12 @@ use Rattle.computing.specs.Computed.{Computations, computed_names}
 use Rattle.mapped.specs.Keys.{AscendByKey}
 use Rattle.mapped.specs.Refusals.{count_due}
 use Rattle.mapped.proofs.Keyed.{count_from}
-use Rattle.mappings.proofs.Holding.{kept_over}
-use Rattle.mappings.specs.Keeping.{AreKept as AreMapped, IsKeptOver, Keeps, by_of, mapped}
-use Rattle.mappings.specs.Mapped.{MappedView, mapping_of, order_by, order_in}
-use Rattle.mappings.specs.declared.kept.Kept.{Kept as MappedKept}
-use Rattle.mappings.specs.declared.mapping.Mapping.{Mapping}
-use Rattle.mappings.specs.declared.mapping.Mapping.TheVariants.{Hashed, InOrder}
+use Rattle.keyed_views.proofs.Holding.{kept_over}
+use Rattle.keyed_views.specs.Keeping.{AreKept as AreMapped, IsKeptOver, Keeps, by_of, mapped}
+use Rattle.keyed_views.specs.Mapped.{MappedView, mapping_of, order_by, order_in}
+use Rattle.keyed_views.specs.declared.kept.Kept.{Kept as MappedKept}
+use Rattle.keyed_views.specs.declared.mapping.Mapping.{Mapping}
+use Rattle.keyed_views.specs.declared.mapping.Mapping.TheVariants.{Hashed, InOrder}
 use Rattle.mk_value.specs.Data.{AreRowsOf, Datum}
 use Rattle.mk_value.specs.Heading.{Attribute, IsHeading}
 use Rattle.mk_value.proofs.Relations.{row_fits_length}
@@ -48,7 +48,7 @@ use Rattle.questions.specs.declared.error.QuestionError.{QuestionError}
 use Rattle.questions.specs.declared.error.QuestionError.TheVariants.{Unsorted}
 use Rattle.questions.proofs.Ascending.{ascending_sorted}
 use Rattle.questions.proofs.Found.{find_behind, is_this, standing, stored_view}
-use Rattle.following.specs.Watches.{op_of}
+use Rattle.watches.specs.Watches.{op_of}
 
 some_none : {X P : Type 0} (x : X) → Some x ≡ None → P
 some_none x e = absurd (let f : ◌≡◌ {A = Option _} (Some x) None = e in cc)

@@ -6,8 +6,8 @@ use Rattle.std.specs.Option.{option_map, unwrap_or}
 use Rattle.eval.specs.Names.{Named, seen_at, table_at}
 use Rattle.eval.specs.declared.error.NameError.{NameError}
 use Rattle.eval.specs.declared.error.NameError.TheVariants.{NoName, Memory}
-use Rattle.following.specs.Keeping.{StandsAt}
-use Rattle.following.specs.Watches.{Followed, is_among, is_watch, found, place_of, shown_at, shown_in, source_in, source_of}
+use Rattle.watches.specs.Keeping.{StandsAt}
+use Rattle.watches.specs.Watches.{Followed, is_among, is_watch, found, place_of, shown_at, shown_in, source_in, source_of}
 use Rattle.mk_value.specs.Data.{Datum}
 use Rattle.mk_value.specs.Tables.{Table}
 use Rattle.relations.proofs.Faults.{cases}

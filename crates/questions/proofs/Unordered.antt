@@ -25,8 +25,8 @@ use Rattle.eval.specs.Values.{asked, at_size, key_of, of_one, value}
 use Rattle.eval.specs.declared.error.EvalError.{EvalError}
 use Rattle.questions.specs.Answers.{Answers, answer}
 use Rattle.questions.specs.Places.{AnswersUnordered, HasRowsOf, before_values, begin, known_keys, locate_due, located, unless_due, values_of, where_sorted}
-use Rattle.following.specs.Watches.{Followed}
-use Rattle.mappings.specs.Mapped.{MappedView}
+use Rattle.watches.specs.Watches.{Followed}
+use Rattle.keyed_views.specs.Mapped.{MappedView}
 use Rattle.questions.specs.Told.{told}
 use Rattle.questions.specs.declared.error.QuestionError.{QuestionError}
 use Rattle.questions.specs.declared.error.QuestionError.TheVariants.{Unsorted}

@@ -15,8 +15,8 @@ use Rattle.eval.specs.declared.error.NameError.{NameError}
 use Rattle.eval.specs.declared.error.NameError.TheVariants.{NoName}
 use Rattle.expr_text.specs.Arguments.{Criterion}
 use Rattle.expr_text.specs.Queries.{Query}
-use Rattle.following.specs.Watches.{Followed, op_of, watch_table}
-use Rattle.following.proofs.Sortings.{watch_in_order}
+use Rattle.watches.specs.Watches.{Followed, op_of, watch_table}
+use Rattle.watches.proofs.Sortings.{watch_in_order}
 use Rattle.live.specs.declared.op.WatchOp.{WatchOp}
 use Rattle.live.specs.declared.op.WatchOp.TheVariants as op
 use Rattle.mk_value.specs.Data.{Datum}

@@ -5,7 +5,7 @@ use Rattle.std.specs.List.{list_any}
 use Rattle.std.specs.Option.{is_some, option_map, unwrap_or}
 use Rattle.computing.specs.Computed.{Computations, computed_names, is_computed}
 use Rattle.eval.specs.Names.{Named}
-use Rattle.following.specs.Watches.{Followed, is_watch, watch_table}
+use Rattle.watches.specs.Watches.{Followed, is_watch, watch_table}
 use Rattle.mk_value.specs.Data.{Datum}
 use Rattle.mk_value.specs.Literals.{row_text}
 use Rattle.mk_value.specs.Names.{same_bytes}

@@ -4,7 +4,7 @@ use Rattle.eval.specs.Names.{view_at}
 use Rattle.eval.specs.Values.{asked}
 use Rattle.expr_text.specs.Arguments.{Criterion}
 use Rattle.expr_text.specs.Queries.{Query, path}
-use Rattle.following.specs.Watches.{watch_table}
+use Rattle.watches.specs.Watches.{watch_table}
 use Rattle.mapped.specs.Keys.{AscendByKey}
 use Rattle.mapped.specs.Refusals.{count_due}
 use Rattle.mk_value.specs.Paths.{Route}

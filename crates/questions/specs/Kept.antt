@@ -7,8 +7,8 @@ use Rattle.mk_value.specs.Names.{same_bytes}
 use Rattle.mk_value.specs.Tables.{Table, table_code}
 use Rattle.eval.specs.Names.{Named}
 use Rattle.computing.specs.Computed.{Computations, with_computed}
-use Rattle.following.specs.Watches.{Followed, Shown, watch_table}
-use Rattle.mappings.specs.Mapped.{MappedView}
+use Rattle.watches.specs.Watches.{Followed, Shown, watch_table}
+use Rattle.keyed_views.specs.Mapped.{MappedView}
 use Rattle.tables.specs.Tables.{StoredTable}
 use Rattle.viewers.specs.Meanings.{Meaning}
 use Rattle.view_store.specs.Views.{NamedTable}

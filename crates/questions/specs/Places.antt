@@ -20,8 +20,8 @@ use Rattle.viewers.specs.Meanings.{Meaning}
 use Rattle.expr_text.specs.declared.operator.Operator.TheVariants as operators
 use Rattle.eval.specs.Names.{Named, continued}
 use Rattle.eval.specs.Values.{asked, key_of}
-use Rattle.following.specs.Watches.{Followed, op_of}
-use Rattle.mappings.specs.Mapped.{MappedView, mapping_of, order_in}
+use Rattle.watches.specs.Watches.{Followed, op_of}
+use Rattle.keyed_views.specs.Mapped.{MappedView, mapping_of, order_in}
 use Rattle.live.specs.declared.op.WatchOp.{WatchOp}
 use Rattle.live.specs.declared.op.WatchOp.TheVariants as shows
 use Rattle.questions.specs.declared.error.QuestionError.{QuestionError}

@@ -15,11 +15,11 @@ use crate::known::Known;
 use crate::located::{Located, tested};
 use crate::sorted::{begin, upwards};
 use expr_text::{Crit, Expr};
-use following::view_of;
 use mk_value::TableRead;
 use relations::{Criterion, Key, is_in_range, lower};
 use std::alloc::Global;
 use tables::Shared;
+use watches::view_of;
 
 /// A view whose rows stand in the order of their first values, so many.
 #[derive(Clone, Copy, Drop)]

@@ -4,11 +4,11 @@ ghost use Rattle.std.specs.Option.{is_some};
 ghost use Rattle.eval.specs.Names.{IsSeen, Named, view_at};
 ghost use Rattle.eval.specs.declared.error.NameError.TheVariants as name_error;
 ghost use Rattle.expr_text.specs.Meanings.{query_of};
-ghost use Rattle.following.specs.Keeping.{AreKept, followed};
-ghost use Rattle.following.specs.Rows.{table_read};
-ghost use Rattle.following.specs.Watches.{is_watch as is_name_of_watch};
+ghost use Rattle.watches.specs.Keeping.{AreKept, followed};
+ghost use Rattle.watches.specs.Rows.{table_read};
+ghost use Rattle.watches.specs.Watches.{is_watch as is_name_of_watch};
 ghost use Rattle.kept_counts.specs.Keeping.{AreCounted};
-ghost use Rattle.mappings.specs.Keeping.{AreKept as AreMapped, mapped};
+ghost use Rattle.keyed_views.specs.Keeping.{AreKept as AreMapped, mapped};
 ghost use Rattle.mk_value.specs.Names.{same_bytes};
 ghost use Rattle.view_store.specs.Views.{table_of as view_named};
 ghost use Rattle.questions.specs.AtHand.{ShowsView};
@@ -21,14 +21,14 @@ use computing::CountsAtHand;
 use derived::{Derived, leaf};
 use eval::{NameError, Names};
 use expr_text::Expr;
-use following::{Following, WatchRows, view_of};
 use kept_counts::KeptCounts;
-use mappings::Mappings;
+use keyed_views::Mappings;
 use mk_value::{Memory, Name, Path, Same};
 use std::alloc::Global;
 use std::marker::Model;
 use tables::Shared;
 use view_store::Root;
+use watches::{Following, WatchRows, view_of};
 
 /// Views, snapshots and watches by name, of which a view decides before a snapshot and a snapshot before a watch, and the first of
 /// several. The watches keep the positions of their rows in those of the views. Beside them it knows which views are kept by key.
@@ -44,9 +44,9 @@ pub struct Known<'a> {
 
 impl<'a> Model for Known<'a> {
     ghost use Rattle.std.specs.Coded.{codes};
-    ghost use Rattle.following.specs.Keeping.{AreKept, followed};
+    ghost use Rattle.watches.specs.Keeping.{AreKept, followed};
     ghost use Rattle.kept_counts.specs.Keeping.{AreCounted};
-    ghost use Rattle.mappings.specs.Keeping.{AreKept as AreMapped, mapped};
+    ghost use Rattle.keyed_views.specs.Keeping.{AreKept as AreMapped, mapped};
     ghost use Rattle.questions.specs.Kept.{Names, kept_code};
     ghost use Rattle.relations.specs.Criteria.{interval_code};
     ghost use Rattle.view_store.specs.Views.{views_code};

@@ -2,7 +2,7 @@
 //!
 //! The names of an expression are those of the views, then those of snapshots, which are tables that were kept under a name, and then those of watches. Beside them it has viewers that answer rows. A question is a size,
 //! the rows, a table of its own, or where a table has values that are asked for. It stands on `eval` for the value of an expression and
-//! on the views of `view_store`, on `following` for watches, and on `mappings` for which views are kept by key; it knows nothing of lines or of replies.
+//! on the views of `view_store`, on `watches`, and on `keyed_views` for which views are kept by key; it knows nothing of lines or of replies.
 #![tactic(auto)]
 
 mod cursor;

@@ -5,7 +5,7 @@ ghost use Rattle.expr_text.specs.Meanings.{query_of};
 ghost use Rattle.eval.specs.Values.{key_of};
 ghost use Rattle.mk_value.specs.Names.{same_bytes};
 ghost use Rattle.relations.specs.Sorting.{all_keys, keys_or_all};
-ghost use Rattle.following.specs.Watches.{op_of};
+ghost use Rattle.watches.specs.Watches.{op_of};
 ghost use Rattle.questions.specs.Places.{begin as begin_keys, first_keys as keys_once, keys_in_order, keys_shown, known_keys as keys_known, order_at as order_where, upwards as keys_upwards};
 
 use crate::known::Known;

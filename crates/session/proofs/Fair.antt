@@ -11,7 +11,7 @@ use Rattle.cmd_text.specs.declared.reply.Reply.TheVariants.{Count, Refused}
 use Rattle.expr_text.specs.Meanings.{query_of}
 use Rattle.expr_text.specs.Queries.{Query}
 use Rattle.computing.specs.declared.computed.Computation.{Computation}
-use Rattle.mappings.specs.Mapped.{MappedView}
+use Rattle.keyed_views.specs.Mapped.{MappedView}
 use Rattle.mk_value.specs.Data.{Datum}
 use Rattle.mk_value.specs.LiteralValues.{literal_of}
 use Rattle.mk_value.specs.Paths.{Route}

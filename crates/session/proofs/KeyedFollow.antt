@@ -1,10 +1,10 @@
 -- What comes to a view that is kept by key, as its watches follow it.
 use Rattle.std.proofs.Common.{◌≡◌, ℕ, ◌≤◌, List, length, Option, Some, IsSome, refl, ap, sym, subst, ◌∙◌}
-use Rattle.followers.specs.Keyed.{IsInPlace, edits_of, home_of}
-use Rattle.followers.specs.declared.keyed.KeyedEdit.{KeyedEdit}
-use Rattle.following.specs.Keeping.{ChangesRows}
-use Rattle.mappings.specs.declared.coming.Coming.{Coming}
-use Rattle.mappings.specs.declared.kept.Kept.{Kept}
+use Rattle.keyed_views.specs.Keyed.{IsInPlace, edits_of, home_of}
+use Rattle.keyed_views.specs.declared.keyed.KeyedEdit.{KeyedEdit}
+use Rattle.watches.specs.Keeping.{ChangesRows}
+use Rattle.keyed_views.specs.declared.coming.Coming.{Coming}
+use Rattle.keyed_views.specs.declared.kept.Kept.{Kept}
 use Rattle.mk_value.specs.Data.{Datum}
 use Rattle.mk_value.specs.Limits.{max_rows}
 use Rattle.row_edits.specs.Edits.{edited_by}

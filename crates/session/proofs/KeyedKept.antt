@@ -3,11 +3,11 @@ use Rattle.std.proofs.Common.{◌≡◌, ℕ, suc, Bool, true, false, ◌||◌, 
 use Rattle.std.specs.Option.{option_map, unwrap_or}
 use Rattle.std.specs.Result.{result_unwrap_or}
 use Rattle.std.proofs.lemmas.Bool.{false≢true}
-use Rattle.mappings.specs.Keeping.{AreKept, IsKept, mapped}
-use Rattle.mappings.specs.Mapped.{MappedView, is_mapped, mapping_of}
-use Rattle.mappings.specs.declared.kept.Kept.{Kept}
-use Rattle.mappings.proofs.Holding.{kept_where_others}
-use Rattle.mappings.proofs.Inside.{kept_inside}
+use Rattle.keyed_views.specs.Keeping.{AreKept, IsKept, mapped}
+use Rattle.keyed_views.specs.Mapped.{MappedView, is_mapped, mapping_of}
+use Rattle.keyed_views.specs.declared.kept.Kept.{Kept}
+use Rattle.keyed_views.proofs.Holding.{kept_where_others}
+use Rattle.keyed_views.proofs.Inside.{kept_inside}
 use Rattle.mk_value.specs.Names.{same_bytes}
 use Rattle.mk_value.specs.Paths.{Route}
 use Rattle.mk_value.specs.declared.path.Step.{Step}

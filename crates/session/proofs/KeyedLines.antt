@@ -6,9 +6,9 @@ use Rattle.std.proofs.Math.Nat.{eq-or-lt_of_le}
 use Rattle.std.proofs.lemmas.Bool.Decides.{nat_tests}
 use Rattle.std.proofs.lemmas.List.{append-nil, length-append, length-drop, length-set, length-take-le}
 use Rattle.std.proofs.lemmas.List.Elements.{All-contains}
-use Rattle.followers.specs.Keyed.{IsInPlace, edits_of, moved_to, put_by, put_ordered, set_ordered}
-use Rattle.followers.specs.declared.keyed.KeyedEdit.{KeyedEdit}
-use Rattle.followers.specs.declared.keyed.KeyedEdit.TheVariants.{Put, Replace, Change, Move, Remove}
+use Rattle.keyed_views.specs.Keyed.{IsInPlace, edits_of, moved_to, put_by, put_ordered, set_ordered}
+use Rattle.keyed_views.specs.declared.keyed.KeyedEdit.{KeyedEdit}
+use Rattle.keyed_views.specs.declared.keyed.KeyedEdit.TheVariants.{Put, Replace, Change, Move, Remove}
 use Rattle.live.specs.Placing.{closed, closed_by}
 use Rattle.mk_value.specs.Data.{Datum, IsRowOf, default_of}
 use Rattle.mk_value.specs.Heading.{Attribute}
@@ -31,10 +31,10 @@ use Rattle.view_store.specs.Views.{NamedTable, edited_views, table_of}
 use Rattle.view_store.specs.declared.error.EditError.TheVariants.{NoProp, WrongKind, OutOfRange, TooMany}
 use Rattle.mapped.specs.Index.{row_of}
 use Rattle.mapped.specs.Keys.{has_key, keys_of, rows_below}
-use Rattle.mappings.specs.Keeping.{EditsRows}
-use Rattle.mappings.specs.Mapped.{put_edit, set_edit}
-use Rattle.mappings.specs.declared.by.By.{By}
-use Rattle.mappings.specs.declared.by.By.TheVariants.{Hash, Order}
+use Rattle.keyed_views.specs.Keeping.{EditsRows}
+use Rattle.keyed_views.specs.Mapped.{put_edit, set_edit}
+use Rattle.keyed_views.specs.declared.by.By.{By}
+use Rattle.keyed_views.specs.declared.by.By.TheVariants.{Hash, Order}
 use Rattle.relations.proofs.Faults.{cases}
 use Rattle.session.specs.Keyed.{AreAllowed, IsPut, IsRowIn, IsSet, edited_in_turn, place_of_set, put_edits, stand_edits}
 use Rattle.session.proofs.LinesOn.{found_edited, other_edited}

@@ -4,18 +4,18 @@ use Rattle.std.specs.Result.{is_ok}
 use Rattle.std.proofs.lemmas.Bool.{false≢true}
 use Rattle.std.proofs.lemmas.List.{get_or-set_same, length-set}
 use Rattle.std.specs.Option.{is_some}
-use Rattle.followers.specs.Keyed.{IsInPlace, edits_of}
-use Rattle.followers.specs.declared.keyed.KeyedEdit.{KeyedEdit}
-use Rattle.followers.specs.declared.keyed.KeyedEdit.TheVariants.{Remove}
-use Rattle.following.specs.Watches.{Followed, followed_by}
-use Rattle.mappings.specs.Keeping.{AllBring, AreKept, AreKeptOver, AreReady, EditsRows, mapped}
-use Rattle.mappings.specs.Mapped.{MappedView, is_mapped, mapping_of, put_edit, row_with as row_of_set, set_edit}
-use Rattle.mappings.specs.declared.by.By.{By}
-use Rattle.mappings.specs.declared.coming.Coming.{Coming}
-use Rattle.mappings.specs.declared.kept.Kept.{Kept}
-use Rattle.mappings.specs.declared.mappings.ByKeys.{ByKeys}
-use Rattle.mappings.proofs.Holding.{kept_over}
-use Rattle.mappings.proofs.Placing.{put_in_place, set_in_place}
+use Rattle.keyed_views.specs.Keyed.{IsInPlace, edits_of}
+use Rattle.keyed_views.specs.declared.keyed.KeyedEdit.{KeyedEdit}
+use Rattle.keyed_views.specs.declared.keyed.KeyedEdit.TheVariants.{Remove}
+use Rattle.watches.specs.Watches.{Followed, followed_by}
+use Rattle.keyed_views.specs.Keeping.{AllBring, AreKept, AreKeptOver, AreReady, EditsRows, mapped}
+use Rattle.keyed_views.specs.Mapped.{MappedView, is_mapped, mapping_of, put_edit, row_with as row_of_set, set_edit}
+use Rattle.keyed_views.specs.declared.by.By.{By}
+use Rattle.keyed_views.specs.declared.coming.Coming.{Coming}
+use Rattle.keyed_views.specs.declared.kept.Kept.{Kept}
+use Rattle.keyed_views.specs.declared.mappings.ByKeys.{ByKeys}
+use Rattle.keyed_views.proofs.Holding.{kept_over}
+use Rattle.keyed_views.proofs.Placing.{put_in_place, set_in_place}
 use Rattle.mk_value.specs.Data.{AreRowsOf, Datum, IsRowOf}
 use Rattle.mk_value.specs.Limits.{max_rows}
 use Rattle.mk_value.specs.Paths.{Route}

@@ -1,12 +1,12 @@
 -- A row that is given a value, and then stands by its key: what that is as edits, and what the views are then.
 use Rattle.std.proofs.Common.{◌≡◌, ℕ, zero, suc, ◌<◌, List, [], ◌∷◌, length, get_or, set, Option, Some, None, IsSome, refl, ap, sym, subst, ◌∙◌}
 use Rattle.std.specs.Option.{option_or, unwrap_or}
-use Rattle.followers.specs.Keyed.{edits_of}
-use Rattle.followers.specs.declared.keyed.KeyedEdit.{KeyedEdit}
-use Rattle.followers.specs.declared.keyed.KeyedEdit.TheVariants.{Put, Replace, Change, Move, Remove}
-use Rattle.mappings.specs.declared.coming.Coming.{Coming}
-use Rattle.mappings.specs.declared.kept.Kept.{Kept}
-use Rattle.mappings.specs.Mapped.{row_with}
+use Rattle.keyed_views.specs.Keyed.{edits_of}
+use Rattle.keyed_views.specs.declared.keyed.KeyedEdit.{KeyedEdit}
+use Rattle.keyed_views.specs.declared.keyed.KeyedEdit.TheVariants.{Put, Replace, Change, Move, Remove}
+use Rattle.keyed_views.specs.declared.coming.Coming.{Coming}
+use Rattle.keyed_views.specs.declared.kept.Kept.{Kept}
+use Rattle.keyed_views.specs.Mapped.{row_with}
 use Rattle.mk_value.specs.Data.{AreRowsOf, Datum, IsOf, IsRowOf}
 use Rattle.mk_value.specs.Heading.{Attribute, find}
 use Rattle.mk_value.specs.Tables.{domain_at}

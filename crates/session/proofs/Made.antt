@@ -2,11 +2,11 @@
 use Rattle.std.proofs.Common.{◌≡◌, ℕ, ◌<◌, ◌^◌, List, [], ◌∷◌, length, Some, None, Result, Ok, Err, OnOk, IsSome, refl, ap, sym, subst, ◌∙◌, arith}
 use Rattle.std.specs.Result.{is_ok}
 use Rattle.std.proofs.lemmas.Bool.{false≢true}
-use Rattle.followers.specs.Following.{room_for}
-use Rattle.followers.specs.Keyed.{edits_of}
-use Rattle.followers.specs.declared.keyed.KeyedEdit.{KeyedEdit}
-use Rattle.following.specs.Keeping.{ChangesRows, HaveNoted, Kept}
-use Rattle.following.specs.Watches.{Followed, followed_by}
+use Rattle.watches.specs.Lines.{room_for}
+use Rattle.keyed_views.specs.Keyed.{edits_of}
+use Rattle.keyed_views.specs.declared.keyed.KeyedEdit.{KeyedEdit}
+use Rattle.watches.specs.Keeping.{ChangesRows, HaveNoted, Kept}
+use Rattle.watches.specs.Watches.{Followed, followed_by}
 use Rattle.kept_counts.specs.Keeping.{AllHaveNoted, Counted}
 use Rattle.live.specs.Edits.{room_of}
 use Rattle.mk_value.specs.Data.{Datum}

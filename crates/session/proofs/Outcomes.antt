@@ -4,7 +4,7 @@ use Rattle.std.specs.Prelude.{codes, not, if◌then◌else◌}
 use Rattle.computing.specs.Computed.{without_computed}
 use Rattle.computing.specs.declared.computed.Computation.{Computation}
 use Rattle.expr_text.specs.Queries.{Query}
-use Rattle.following.specs.Watches.{is_watch, without_watch}
+use Rattle.watches.specs.Watches.{is_watch, without_watch}
 use Rattle.questions.specs.Operations.{computed_by}
 use Rattle.cmd_text.specs.Replies.{lines_text, reply_bytes, reply_line}
 use Rattle.cmd_text.specs.declared.command.Command.{Command}
@@ -21,8 +21,8 @@ use Rattle.view_store.specs.Views.{NamedTable}
 use Rattle.viewers.specs.Meanings.{Meaning}
 use Rattle.session.specs.Answered.{Answered, IsGiven}
 use Rattle.expr_text.specs.Meanings.{query_of}
-use Rattle.followers.specs.declared.keyed.KeyedEdit.{KeyedEdit}
-use Rattle.mappings.specs.Mapped.{MappedView}
+use Rattle.keyed_views.specs.declared.keyed.KeyedEdit.{KeyedEdit}
+use Rattle.keyed_views.specs.Mapped.{MappedView}
 use Rattle.mk_value.specs.Data.{Datum}
 use Rattle.mk_value.specs.LiteralValues.{literal_of}
 use Rattle.mk_value.specs.Paths.{Route}

@@ -16,9 +16,9 @@ use Rattle.viewers.specs.Meanings.{Meaning}
 use Rattle.session.specs.Answered.{Answered, IsGiven, reply_of}
 use Rattle.session.specs.Saying.{IsOneLine}
 use Rattle.session.proofs.Asked.{one_line}
-use Rattle.followers.specs.Following.{watch_due as put_refused}
-use Rattle.following.specs.Refusals.{depth_under, put_due}
-use Rattle.following.specs.Watches.{Followed, rows_under, source_of, watches_of, with_watch}
+use Rattle.watches.specs.Lines.{watch_due as put_refused}
+use Rattle.watches.specs.Refusals.{depth_under, put_due}
+use Rattle.watches.specs.Watches.{Followed, rows_under, source_of, watches_of, with_watch}
 use Rattle.live.specs.Laws.{shown}
 use Rattle.live.specs.Putting.{AnswersPut, as_watch_error, spelled}
 use Rattle.live.specs.Watching.{op_due}

@@ -1,10 +1,10 @@
 -- The room that watches take for a line fits a word.
 use Rattle.std.proofs.Common.{ℕ, ◌+◌, ◌/◌, ◌<◌, ◌^◌, ◌∷◌, [], Some, None, arith}
 use Rattle.std.proofs.Math.Nat.{min-le_left}
-use Rattle.followers.specs.Following.{room_for}
-use Rattle.followers.specs.Keyed.{edits_of}
-use Rattle.followers.specs.declared.keyed.KeyedEdit.{KeyedEdit}
-use Rattle.followers.specs.declared.keyed.KeyedEdit.TheVariants as keyed
+use Rattle.watches.specs.Lines.{room_for}
+use Rattle.keyed_views.specs.Keyed.{edits_of}
+use Rattle.keyed_views.specs.declared.keyed.KeyedEdit.{KeyedEdit}
+use Rattle.keyed_views.specs.declared.keyed.KeyedEdit.TheVariants as keyed
 use Rattle.row_edits.specs.Edits.{IsInRange}
 use Rattle.row_edits.specs.declared.edit.RowEdit.{RowEdit}
 use Rattle.row_edits.specs.declared.edit.RowEdit.TheVariants.{Insert, Remove, Change}

@@ -5,8 +5,8 @@ use Rattle.std.specs.Option.{unwrap_or}
 use Rattle.cmd_text.specs.declared.refusal.Refusal.{Refusal}
 use Rattle.cmd_text.specs.declared.refusal.Refusal.TheVariants.{Exists, Memory}
 use Rattle.expr_text.specs.Queries.{Query}
-use Rattle.followers.specs.Following.{refusal_of}
-use Rattle.following.specs.Keeping.{max_watches}
+use Rattle.watches.specs.Lines.{refusal_of}
+use Rattle.watches.specs.Keeping.{max_watches}
 use Rattle.live.specs.declared.error.WatchError.{WatchError}
 use Rattle.live.specs.declared.error.WatchError.TheVariants as watching
 use Rattle.questions.specs.Operations.{operand, operation}

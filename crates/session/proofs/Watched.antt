@@ -6,17 +6,17 @@ use Rattle.std.proofs.lemmas.Bool.{false≢true}
 use Rattle.std.proofs.lemmas.List.{get_or-map}
 use Rattle.commit_plan.specs.Following.{NamedRows, rows_of_views}
 use Rattle.commit_plan.specs.Plans.{Planned}
-use Rattle.following.specs.Keeping.{AreKept, HaveSameRows, IsKept, IsWatchOf, Kept, followed, followed_of, shown_by}
-use Rattle.following.proofs.Holding.{kept_where_others}
-use Rattle.following.proofs.Shown.{found_kept, watch_shows}
-use Rattle.following.specs.Watches.{Shown, is_watch}
+use Rattle.watches.specs.Keeping.{AreKept, HaveSameRows, IsKept, IsWatchOf, Kept, followed, followed_of, shown_by}
+use Rattle.watches.proofs.Holding.{kept_where_others}
+use Rattle.watches.proofs.Shown.{found_kept, watch_shows}
+use Rattle.watches.specs.Watches.{Shown, is_watch}
 use Rattle.live.specs.Numbers.{place_of as place_numbered, watch_of}
 use Rattle.live.specs.States.{WatchState, Watching}
 use Rattle.view_store.proofs.Roots.{same_name}
 use Rattle.session.specs.Following.{KeepsPositions, events_followed, events_in}
 use Rattle.session.specs.World.{World}
 use Rattle.session.proofs.LinesOn.{other_name}
-use Rattle.following.specs.Watches.{is_watched}
+use Rattle.watches.specs.Watches.{is_watched}
 use Rattle.mk_value.specs.Names.{same_bytes}
 use Rattle.relations.proofs.Faults.{cases}
 use Rattle.session.specs.Disk.{IsNext}

@@ -18,13 +18,13 @@ use Rattle.expr_text.specs.Meanings.{query_of}
 use Rattle.expr_text.specs.Queries.{Query}
 use Rattle.computing.specs.Computed.{with_watch as with_watch_computed, without_computed}
 use Rattle.computing.specs.declared.computed.Computation.{Computation}
-use Rattle.following.specs.Watches.{is_watch, rows_under, source_of, watches_of, with_watch, without_watch}
-use Rattle.followers.specs.Keyed.{home_of}
+use Rattle.watches.specs.Watches.{is_watch, rows_under, source_of, watches_of, with_watch, without_watch}
+use Rattle.keyed_views.specs.Keyed.{home_of}
 use Rattle.live.specs.Laws.{shown}
 use Rattle.live.specs.Putting.{spelled}
-use Rattle.mappings.specs.Mapped.{MappedView, without_mapping}
-use Rattle.mappings.specs.declared.by.By.{By}
-use Rattle.mappings.specs.declared.by.By.TheVariants.{Hash, Order}
+use Rattle.keyed_views.specs.Mapped.{MappedView, without_mapping}
+use Rattle.keyed_views.specs.declared.by.By.{By}
+use Rattle.keyed_views.specs.declared.by.By.TheVariants.{Hash, Order}
 use Rattle.mk_value.specs.declared.path.Step.{Step}
 use Rattle.mk_value.specs.Tables.{Table}
 use Rattle.questions.specs.Answers.{answer, rows_due, shown_due, size_due}

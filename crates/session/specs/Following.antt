@@ -1,7 +1,7 @@
 -- A line that edits the view of a path, as an edit of the rows of the view itself; and what a watch keeps.
 use Rattle.std.specs.Prelude.{◌≡◌, ◌<◌, ℕ, false, List, [], ◌∷◌, length, map, slice_index_or, Option, None, Some}
-use Rattle.following.specs.Keeping.{ShowsRows, shown_by}
-use Rattle.following.specs.Watches.{Followed, Shown, found, place_of, watch_table}
+use Rattle.watches.specs.Keeping.{ShowsRows, shown_by}
+use Rattle.watches.specs.Watches.{Followed, Shown, found, place_of, watch_table}
 use Rattle.live.specs.Chains.{AreNow}
 use Rattle.live.specs.Numbers.{place_of as place_numbered, watch_of}
 use Rattle.live.specs.States.{WatchState, Watching}

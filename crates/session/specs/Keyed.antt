@@ -2,15 +2,15 @@
 use Rattle.std.specs.Prelude.{◌≡◌, ◌<◌, ◌≤◌, ℕ, ◌==◌, ◌||◌, if◌then◌else◌, nat_le, List, [], ◌∷◌, ◌++◌, length, slice_index_or, slice_set, Option, Some, None}
 use Rattle.cmd_text.specs.declared.refusal.Refusal.{Refusal}
 use Rattle.cmd_text.specs.declared.refusal.Refusal.TheVariants.{Limit}
-use Rattle.followers.specs.Keyed.{IsInPlace, edits_of}
-use Rattle.followers.specs.declared.keyed.KeyedEdit.{KeyedEdit}
-use Rattle.followers.specs.declared.keyed.KeyedEdit.TheVariants.{Put, Replace, Change, Move}
+use Rattle.keyed_views.specs.Keyed.{IsInPlace, edits_of}
+use Rattle.keyed_views.specs.declared.keyed.KeyedEdit.{KeyedEdit}
+use Rattle.keyed_views.specs.declared.keyed.KeyedEdit.TheVariants.{Put, Replace, Change, Move}
 use Rattle.live.specs.Placing.{closed_by}
-use Rattle.mappings.specs.Keeping.{AllBring, AreKept, AreReady, EditsRows, mapped}
-use Rattle.mappings.specs.Mapped.{MappedView, mapping_of, put_edit, set_edit}
-use Rattle.mappings.specs.declared.coming.Coming.{Coming}
-use Rattle.mappings.specs.declared.kept.Kept.{Kept}
-use Rattle.mappings.specs.declared.mappings.ByKeys.{ByKeys}
+use Rattle.keyed_views.specs.Keeping.{AllBring, AreKept, AreReady, EditsRows, mapped}
+use Rattle.keyed_views.specs.Mapped.{MappedView, mapping_of, put_edit, set_edit}
+use Rattle.keyed_views.specs.declared.coming.Coming.{Coming}
+use Rattle.keyed_views.specs.declared.kept.Kept.{Kept}
+use Rattle.keyed_views.specs.declared.mappings.ByKeys.{ByKeys}
 use Rattle.mk_value.specs.Data.{Datum, IsRowOf}
 use Rattle.mk_value.specs.Limits.{max_rows}
 use Rattle.mk_value.specs.Paths.{Route}

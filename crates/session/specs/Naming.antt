@@ -7,17 +7,17 @@ use Rattle.cmd_text.specs.declared.refusal.Refusal.TheVariants.{Memory, NoName, 
 use Rattle.computing.specs.Computed.{ComputedWatch, Computations, count as count_computed, is_computed, is_count, is_source}
 use Rattle.computing.specs.declared.computed.Computation.{Computation}
 use Rattle.computing.specs.declared.computed.Computation.TheVariants.{Counts, Filter}
-use Rattle.followers.specs.Following.{refusal_of}
-use Rattle.following.specs.Keeping.{max_watches}
-use Rattle.following.specs.Refusals.{depth_under, put_due}
-use Rattle.following.specs.Watches.{count, has_over, is_watch, is_watched, source_of}
+use Rattle.watches.specs.Lines.{refusal_of}
+use Rattle.watches.specs.Keeping.{max_watches}
+use Rattle.watches.specs.Refusals.{depth_under, put_due}
+use Rattle.watches.specs.Watches.{count, has_over, is_watch, is_watched, source_of}
 use Rattle.live.specs.declared.error.WatchError.{WatchError}
 use Rattle.live.specs.declared.error.WatchError.TheVariants as watching
-use Rattle.mappings.specs.Mapped.{MappedView, is_mapped}
-use Rattle.mappings.specs.Refusals.{put_due as put_mapping_due}
-use Rattle.mappings.specs.declared.by.By.{By}
-use Rattle.mappings.specs.declared.error.MappingError.{MappingError}
-use Rattle.mappings.specs.declared.error.MappingError.TheVariants as mapping
+use Rattle.keyed_views.specs.Mapped.{MappedView, is_mapped}
+use Rattle.keyed_views.specs.Refusals.{put_due as put_mapping_due}
+use Rattle.keyed_views.specs.declared.by.By.{By}
+use Rattle.keyed_views.specs.declared.error.MappingError.{MappingError}
+use Rattle.keyed_views.specs.declared.error.MappingError.TheVariants as mapping
 use Rattle.mk_value.specs.Heading.{Attribute}
 use Rattle.mk_value.specs.Limits.{max_views}
 use Rattle.mk_value.specs.Names.{same_bytes}

@@ -1,8 +1,8 @@
 -- What a session holds.
 use Rattle.std.specs.Prelude.{ℕ, List, [], length, Option, Some, None}
 use Rattle.computing.specs.Computed.{Computations, no_computations}
-use Rattle.following.specs.Watches.{Followed, followed_by}
-use Rattle.mappings.specs.Mapped.{MappedView}
+use Rattle.watches.specs.Watches.{Followed, followed_by}
+use Rattle.keyed_views.specs.Mapped.{MappedView}
 use Rattle.questions.specs.Cursors.{Placed}
 use Rattle.questions.specs.Kept.{Kept, Names}
 use Rattle.storage.specs.Stored.{Stored, with_views}

@@ -3,9 +3,9 @@ ghost use Rattle.std.specs.Prelude.{◌≡◌, map};
 ghost use Rattle.cmd_text.specs.declared.command.Command.TheVariants as commands;
 ghost use Rattle.eval.specs.Parts.{IsWhole};
 ghost use Rattle.expr_text.specs.Meanings.{query_of};
-ghost use Rattle.following.specs.Keeping.{AreKept, followed};
+ghost use Rattle.watches.specs.Keeping.{AreKept, followed};
 ghost use Rattle.kept_counts.specs.Keeping.{AreCounted};
-ghost use Rattle.mappings.specs.Keeping.{AreKept as AreMapped, mapped};
+ghost use Rattle.keyed_views.specs.Keeping.{AreKept as AreMapped, mapped};
 ghost use Rattle.session.specs.Answered.{Answered};
 ghost use Rattle.session.specs.World.{kept_names};
 
@@ -13,12 +13,12 @@ use crate::{Session, replies};
 use cmd_text::Reply;
 use computing::Computing;
 use expr_text::{Crits, Expr};
-use following::Following;
 use kept_counts::KeptCounts;
-use mappings::Mappings;
+use keyed_views::Mappings;
 use questions::{Known, Scope, Snapshots};
 use storage::Store;
 use viewers::Viewer;
+use watches::Following;
 
 impl Session {
     /// What a question may use.

@@ -1,8 +1,8 @@
 //! What a line does to the rows that its path names, made in place, where no refusal is due.
 ghost use Rattle.std.specs.Prelude.{◌≡◌, IfErr, None, OnErr, OnOk};
-ghost use Rattle.following.specs.Keeping.{AreKept, followed};
+ghost use Rattle.watches.specs.Keeping.{AreKept, followed};
 ghost use Rattle.kept_counts.specs.Keeping.{AreCounted};
-ghost use Rattle.following.specs.Watches.{followed_by};
+ghost use Rattle.watches.specs.Watches.{followed_by};
 ghost use Rattle.row_edits.specs.Events.{count_of};
 ghost use Rattle.storage.specs.Stored.{with_views};
 ghost use Rattle.view_store.specs.Refusals.{due};
@@ -15,12 +15,12 @@ ghost use Rattle.session.specs.Commands.{events_at};
 use crate::followed::{edit_at, view};
 use crate::refusals::{of_edit, of_memory};
 use cmd_text::Refusal;
-use following::Following;
 use kept_counts::KeptCounts;
 use mk_value::{Name, Path, Row, Value};
 use row_edits::RowEdit;
 use storage::Store;
 use view_store::{EditError, Root};
+use watches::Following;
 
 /// What a line does to the rows that its path names.
 #[derive(Clone, Copy)]

@@ -2,7 +2,7 @@
 ghost use Rattle.std.specs.Prelude.{◌≡◌, ◌<◌, find, map, true, IfErr, IfOk, MatchOption, OnErr, OnOk, None, Ok, Some};
 ghost use Rattle.std.specs.Result.{result_err};
 ghost use Rattle.computing.specs.Computed.{ComputedWatch, count as count_computed, has_keys};
-ghost use Rattle.following.specs.Keeping.{max_watches};
+ghost use Rattle.watches.specs.Keeping.{max_watches};
 ghost use Rattle.mk_value.specs.Names.{same_bytes};
 ghost use Rattle.session.specs.Commands.{computed_size, with_computation};
 ghost use Rattle.session.specs.Naming.{computed_due, computed_over_due, is_deep as is_chain_deep, may_stand as may_one_stand, shape_refusal};

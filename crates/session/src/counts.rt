@@ -7,54 +7,86 @@ use cmd_text::Command;
 use computing::{Computation, Computed};
 use eval::is_asked_of;
 use expr_text::Expr;
-use following::Following;
 use kept_counts::KeptCounts;
 use mk_value::Name;
+use questions::Cursor;
 use view_store::Root;
+use watches::Following;
+
+/// What a command asks of: all that an expression names, or what a cursor stands on.
+#[derive(Clone, Copy)]
+enum Asked<'a> {
+    Expression(&'a Expr),
+    Name(&'a Name),
+}
+
+impl Asked<'_> {
+    /// Whether it is asked of what has the name.
+    fn names(self, name: &Name) -> bool {
+        match self {
+            Asked::Expression(expr) => is_asked_of(expr, name),
+            Asked::Name(asked) => *asked == *name,
+        }
+    }
+}
 
 impl Session {
     /// Keeps the counts of views for which a question asks by the name of a watch, so that neither it nor a later one makes them anew.
     pub(crate) fn keep_counts(&mut self, command: &Command)
         ensures { self.new ≡ self.old }
     {
-        if let Some(expr) = question(command) {
+        if let Some(asked) = question(command, self.cursors.as_slice()) {
             keep_each(
                 &mut self.counted,
                 self.store.views(),
                 &self.watches,
                 self.computed.counts(),
-                expr,
+                asked,
             );
         }
     }
 }
 
-/// The expression of which a command asks something.
-fn question(command: &Command) -> Option<&Expr> {
+/// Of what a command asks something, where these cursors are set.
+fn question<'a>(command: &'a Command, cursors: &'a [Cursor]) -> Option<Asked<'a>> {
     match command {
         Command::Size(expr)
         | Command::Show(expr)
         | Command::Find(expr, _, _)
         | Command::Search(expr, _)
         | Command::Locate(expr, _)
-        | Command::Dup(_, expr) => Some(expr),
+        | Command::Dup(_, expr) => Some(Asked::Expression(expr)),
+        Command::Cursor(_, target) => Some(Asked::Name(target)),
+        Command::Next(name) | Command::Prev(name) | Command::Row(name) => {
+            Some(Asked::Name(target_of(cursors, name)?))
+        }
         _ => None,
     }
 }
 
-/// Keeps the counts of views that those of these watches show which an expression names.
+/// On what the cursor of a name stands.
+fn target_of<'a>(cursors: &'a [Cursor], name: &Name) -> Option<&'a Name> {
+    for cursor in cursors {
+        if cursor.name == *name {
+            return Some(&cursor.target);
+        }
+    }
+    None
+}
+
+/// Keeps the counts of views that those of these watches show of which is asked.
 fn keep_each(
     counted: &mut KeptCounts,
     views: &Root,
     following: &Following,
     watches: &[Computed],
-    expr: &Expr,
+    asked: Asked<'_>,
 )
     requires { AreCounted views.now counted.old }
     ensures { AreCounted views.now counted.new }
 {
     for watch in watches {
-        if is_asked_of(expr, watch.name()) {
+        if asked.names(watch.name()) {
             keep(counted, views, following, watch);
         }
     }

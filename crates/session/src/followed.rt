@@ -15,11 +15,11 @@ use crate::Session;
 use crate::change::{Change, make};
 use crate::refusals::of_memory;
 use cmd_text::Refusal;
-use following::view_of;
 use mk_value::{Name, Path, Same, Step};
 use row_edits::RowEdit;
 use tables::Shared;
 use view_store::Root;
+use watches::view_of;
 
 impl Session {
     /// Makes a change in a view, where no refusal is due and no mapping keeps its rows by key. The watches of the view follow.

@@ -3,13 +3,13 @@
 ghost use Rattle.std.specs.Prelude.{◌≡◌, ◌+◌, ◌<◌, ◌≤◌, [], ◌∷◌, List, All, IfErr, IfOk, MatchOption, None, OnErr, OnOk, Some, length, nat_le, true};
 ghost use Rattle.std.specs.Option.{is_some};
 ghost use Rattle.std.specs.Result.{result_err};
-ghost use Rattle.followers.specs.Keyed.{IsInPlace, edits_of, home_of};
-ghost use Rattle.following.specs.Keeping.{AreKept, followed};
+ghost use Rattle.keyed_views.specs.Keyed.{IsInPlace, edits_of, home_of};
+ghost use Rattle.watches.specs.Keeping.{AreKept, followed};
 ghost use Rattle.kept_counts.specs.Keeping.{AreCounted};
-ghost use Rattle.following.specs.Watches.{followed_by};
+ghost use Rattle.watches.specs.Watches.{followed_by};
 ghost use Rattle.live.specs.Placing.{closed_by};
-ghost use Rattle.mappings.specs.Keeping.{AreKept as AreMapped, mapped};
-ghost use Rattle.mappings.specs.Mapped.{is_mapped};
+ghost use Rattle.keyed_views.specs.Keeping.{AreKept as AreMapped, mapped};
+ghost use Rattle.keyed_views.specs.Mapped.{is_mapped};
 ghost use Rattle.mk_value.specs.Conversions.{IsProper, becomes};
 ghost use Rattle.mk_value.specs.Data.{Datum, IsRowOf};
 ghost use Rattle.mk_value.specs.Limits.{max_rows};
@@ -38,16 +38,15 @@ use crate::followed::{shared_view, view};
 use crate::refusals::{of_edit, of_memory};
 use crate::values::make_whole_row;
 use cmd_text::Refusal;
-use followers::{KeyedEdit, keyed_edits_are_lines};
-use following::Following;
 use kept_counts::KeptCounts;
-use mappings::{ByKeys, Coming, Mappings};
+use keyed_views::{ByKeys, Coming, KeyedEdit, Mappings, keyed_edits_are_lines};
 use mk_value::{Literal, Literals, MAX_ROWS, Name, Path, Row, Same, TableRead, Value};
 use relations::copy_row;
 use row_edits::Line;
 use std::alloc::Global;
 use storage::Store;
 use view_store::Root;
+use watches::Following;
 
 impl Session {
     /// The mapping of the view that a path names, if it has one. An edit inside a row changes no key of the view.
@@ -436,7 +435,6 @@ fn follow_coming(
     let edits = edit.edits(alloc).map_err(of_memory)?;
     let before = shared_view(store.views(), name)?;
     watches.reserve(name, edits.as_slice()).map_err(of_memory)?;
-    counted.forget(name);
     store.put_views(views);
     let after = view(store.views(), name);
     let line = Line {
@@ -446,6 +444,7 @@ fn follow_coming(
         home: edit.home(),
     };
     watches.follow_line(name, &line);
+    counted.follow_line(name, &line);
     mappings.follow(name, coming);
     Ok(())
 }

@@ -5,7 +5,7 @@
 //! further command is a case of both.
 //!
 //! It stands on the commands and replies of `cmd_text`, the store of `storage`, the views of `view_store`, the new structures of
-//! `restructure`, the questions, snapshots and cursors of `questions`, the watches of `following`, and the views of `mappings` whose rows are kept by key. A question may ask the viewers that each line is lent. The loop of the crate `lines` cuts the input, calls `answer` and says what it gave.
+//! `restructure`, the questions, snapshots and cursors of `questions`, the watches of `watches`, and the views of `keyed_views` whose rows are kept by key. A question may ask the viewers that each line is lent. The loop of the crate `lines` cuts the input, calls `answer` and says what it gave.
 #![tactic(auto)]
 
 mod asking;

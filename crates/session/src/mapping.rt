@@ -1,6 +1,6 @@
 //! Mappings: keeping the rows of views by key.
 ghost use Rattle.std.specs.Prelude.{◌≡◌, OnErr, OnOk};
-ghost use Rattle.mappings.specs.Mapped.{without_mapping};
+ghost use Rattle.keyed_views.specs.Mapped.{without_mapping};
 ghost use Rattle.session.specs.Commands.{with_mapping};
 ghost use Rattle.session.specs.Naming.{map_due, unmap_due};
 ghost use Rattle.session.specs.Refusals.{AnswersDue};
@@ -8,9 +8,9 @@ ghost use Rattle.session.specs.Refusals.{AnswersDue};
 use crate::Session;
 use crate::refusals::of_mapping;
 use cmd_text::Refusal;
-use following::view_of;
-use mappings::By;
+use keyed_views::By;
 use mk_value::Name;
+use watches::view_of;
 
 impl Session {
     /// Keeps the rows of a view by their first values, so many, as a key.

@@ -5,8 +5,8 @@ ghost use Rattle.session.specs.Questions.{refusal_of_question};
 ghost use Rattle.session.specs.Refusals.{refusal_of_edit, refusal_of_opening, refusal_of_plan, refusal_of_reading, refusal_of_revert};
 
 use cmd_text::{CmdError, Refusal};
+use keyed_views::MappingError;
 use live::WatchError;
-use mappings::MappingError;
 use mk_value::Memory;
 use questions::QuestionError;
 use recovery::OpenError;

@@ -26,17 +26,17 @@ use crate::saying::{refuse, say, say_quit};
 use crate::words::{is_blank, is_quit};
 use cmd_text::{Command, Refusal, Reply, Space, read_command};
 use computing::Computing;
-use following::Following;
 use host_io::Host;
 use kept_counts::KeptCounts;
+use keyed_views::{By, Mappings};
 use lines::Flow;
-use mappings::{By, Mappings};
 use mk_value::{Memory, Name, TableRead, Text};
 use questions::{Cursors, Snapshots};
 use std::alloc::Global;
 use std::marker::Model;
 use storage::Store;
 use viewers::Viewer;
+use watches::Following;
 
 /// A session: a store, whose views its lines edit and whose commits they make, the snapshots and cursors beside its views, the
 /// watches of its views, which keep the positions of their rows, the counts and filters whose rows are made when they are asked for,
@@ -61,9 +61,9 @@ pub struct Viewers<'a, V: Viewer> {
 
 impl Model for Session {
     ghost use Rattle.std.specs.Coded.{codes};
-    ghost use Rattle.following.specs.Keeping.{AreKept, followed};
+    ghost use Rattle.watches.specs.Keeping.{AreKept, followed};
     ghost use Rattle.kept_counts.specs.Keeping.{AreCounted};
-    ghost use Rattle.mappings.specs.Keeping.{AreKept as AreMapped, mapped};
+    ghost use Rattle.keyed_views.specs.Keeping.{AreKept as AreMapped, mapped};
     ghost use Rattle.questions.specs.Cursors.{placed_code};
     ghost use Rattle.questions.specs.Kept.{kept_code};
     ghost use Rattle.relations.specs.Criteria.{interval_code};

@@ -1,7 +1,7 @@
 //! Giving views structures, and dropping views.
 ghost use Rattle.std.specs.Prelude.{◌≡◌, ◌⊎◌, ◌<◌, ◌≤◌, [], false, length, IfErr, IfOk, IsSome, None, OnErr, OnOk};
-ghost use Rattle.following.specs.Watches.{is_watched};
-ghost use Rattle.mappings.specs.Mapped.{is_mapped};
+ghost use Rattle.watches.specs.Watches.{is_watched};
+ghost use Rattle.keyed_views.specs.Mapped.{is_mapped};
 ghost use Rattle.restructure.specs.Restructuring.{restructured};
 ghost use Rattle.struct_text.specs.Spelling.{spelling};
 ghost use Rattle.mk_value.specs.Limits.{max_structure, max_views};

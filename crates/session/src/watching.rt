@@ -3,9 +3,9 @@ ghost use Rattle.std.specs.Prelude.{◌≡◌, ◌⊎◌, false, map, nat_lt, no
 ghost use Rattle.cmd_text.specs.declared.command.Command.TheVariants as commands;
 ghost use Rattle.expr_text.specs.InLines.{IsOperation};
 ghost use Rattle.expr_text.specs.Meanings.{query_of};
-ghost use Rattle.followers.specs.Following.{refusal_of};
-ghost use Rattle.following.specs.Keeping.{max_watches};
-ghost use Rattle.following.specs.Watches.{has_over, is_watch};
+ghost use Rattle.watches.specs.Lines.{refusal_of};
+ghost use Rattle.watches.specs.Keeping.{max_watches};
+ghost use Rattle.watches.specs.Watches.{has_over, is_watch};
 ghost use Rattle.questions.specs.Operations.{computed_by as computation_of, operand as operand_of, operation as operation_of};
 ghost use Rattle.session.specs.Answered.{Answered};
 ghost use Rattle.session.specs.Commands.{put_over, unwatched, watch_size};
@@ -17,14 +17,13 @@ use crate::refusals::{of_memory, of_put, of_question, of_watch};
 use crate::{Session, replies};
 use cmd_text::{Refusal, Reply};
 use expr_text::Expr;
-use followers::check_watch;
-use following::{MAX_WATCHES, Watched};
 use live::{WatchError, WatchOp, Watches};
 use mk_value::{Name, Schema, TableRead};
 use questions::{Standing, computed_by, has_cursor_on, operand, operation};
 use std::alloc::Global;
 use tables::Table;
 use viewers::Viewer;
+use watches::{MAX_WATCHES, Watched, check_watch};
 
 impl Session {
     /// Puts a watch over what the operation is asked of, and answers the number of its rows.
@@ -148,6 +147,8 @@ impl Session {
             self.watches.take_out(name);
         } else {
             self.computed.take_out(name);
+            // Those that are still asked for are made anew.
+            self.counted.clear();
         }
     }
 

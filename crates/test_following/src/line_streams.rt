@@ -1,11 +1,11 @@
 //! Streams of lines over a chain of watches, each from a number.
 ghost use Rattle.std.specs.Prelude.{◌≡◌};
 ghost use Rattle.row_edits.specs.Events.{count_all};
-ghost use Rattle.followers.specs.Keyed.{edits_of};
+ghost use Rattle.keyed_views.specs.Keyed.{edits_of};
 
 use crate::lined::{Lined, begin_lines, follow_one, put_watch};
 use crate::streams::{Numbers, op, row, table};
-use followers::KeyedEdit;
+use keyed_views::KeyedEdit;
 use mk_value::{HeldRows, Same, TableRead};
 use std::alloc::Global;
 use std::test::Fail;

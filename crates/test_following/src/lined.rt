@@ -4,15 +4,16 @@ ghost use Rattle.live.specs.Chains.{AreNow};
 ghost use Rattle.row_edits.specs.Edits.{IsInRange, edited, edited_by};
 ghost use Rattle.row_edits.specs.Events.{count_all};
 ghost use Rattle.row_edits.specs.declared.edit.RowEdit.TheVariants.{Insert, Remove};
-ghost use Rattle.followers.specs.Keyed.{IsInPlace, edits_of};
-ghost use Rattle.followers.specs.declared.keyed.KeyedEdit.TheVariants.{Move};
+ghost use Rattle.keyed_views.specs.Keyed.{IsInPlace, edits_of};
+ghost use Rattle.keyed_views.specs.declared.keyed.KeyedEdit.TheVariants.{Move};
 
-use followers::{KeyedEdit, follow_line, keyed_edits_are_lines};
+use keyed_views::{KeyedEdit, keyed_edits_are_lines};
 use live::{WatchOp, Watches};
 use mk_value::{HeldRows, MAX_ROWS, Row, Rows, TableRead, rows_fit};
 use row_edits::Line;
 use std::alloc::Global;
 use std::test::Fail;
+use watches::follow_line;
 
 /// A table, and watches that keep the positions of their rows in it and have noted no event.
 #[derive(Drop)]

@@ -3,7 +3,7 @@
 ghost use Rattle.std.specs.Prelude.{◌≡◌, ◌<◌, length};
 
 use crate::sources::{Source, is_key_for, key, table};
-use followers::{KeyedEdit, put_ordered, set_ordered};
+use keyed_views::{KeyedEdit, put_ordered, set_ordered};
 use mapped::{HashIndex, Ordered};
 use mk_value::TableRead;
 use std::alloc::Global;

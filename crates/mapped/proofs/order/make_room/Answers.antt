@@ -1,21 +1,12 @@
-use Rattle.std.proofs.Common.{◌≡◌, ◌<◌, ℕ, length, get_or, set, arith, ap, ◌∙◌}
-use Rattle.std.proofs.lemmas.Bool.Decides.{nat_tests}
-use Rattle.std.proofs.lemmas.List.{get_or_default}
-use Rattle.std.proofs.lemmas.List.Edits.{map_over_more}
-use Rattle.mapped.specs.Order.{opened}
+use Rattle.std.proofs.Common.{arith}
 use Rattle.mapped.proofs.Moving.{still_opened}
 use Rattle.mapped.proofs.order.make_room.Goals as goal
-use Rattle.mapped.proofs.order.make_room.Goals.{then-position-at, else-position-at}
 
-pub loop-position-preserved : goal.loop-position-preserved
-loop-position-preserved c =
-    let i = c.loop-position.position-index in
-    let x : ℕ = get_or c.loop-position.order i 0 in
-    let same : c.if-position-at.position ≡ opened c.args.at x = elim c.if-position-at.branch [ then-position-at w ↦ grind (arith, nat_tests) | else-position-at w ↦ grind (arith, nat_tests) ] in
-    let t = c.loop-position-test.true in
-    let long = c.loop-position.auto.order in
-    let within : i < length c.loop-position.order = omega arith in
-    ap (set c.loop-position.order i) same ∙ map_over_more (opened c.args.at) c.args.order.now c.loop-position.order i x t c.loop-position.invariant (get_or_default c.loop-position.order i 0 x within)
+pub raise-requires : goal.raise-requires
+raise-requires c k d p =
+    let q = c.requires.within k d p in
+    let few = c.requires.few in
+    omega arith
 
-pub returns-else-at-size : goal.returns-else-at-size
-returns-else-at-size c = still_opened c.args.at c.args.size c.args.order.now c.requires.within (omega arith)
+pub returns-else-at-size-clause-list : goal.returns-else-at-size-clause-list
+returns-else-at-size-clause-list c = still_opened c.args.at c.args.size c.args.order.now.list c.requires.within (omega arith)

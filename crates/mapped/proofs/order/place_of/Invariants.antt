@@ -7,9 +7,9 @@ abbrev pub invariant-loop-low : goal.invariant-loop-low
 invariant-loop-low l =
     record {
       halves : l.low ≤ l.high;
-      within : l.high ≤ length l.order;
-      below : (k : ℕ) → k < l.low → whole_row_cmp (get_or l.keys (get_or l.order k 0) []) l.key ≡ Less;
-      from : (k : ℕ) → l.high ≤ k → k < length l.order → whole_row_cmp (get_or l.keys (get_or l.order k 0) []) l.key ≢ Less;
+      within : l.high ≤ length l.order.list;
+      below : (k : ℕ) → k < l.low → whole_row_cmp (get_or l.keys (get_or l.order.list k 0) []) l.key ≡ Less;
+      from : (k : ℕ) → l.high ≤ k → k < length l.order.list → whole_row_cmp (get_or l.keys (get_or l.order.list k 0) []) l.key ≢ Less;
     }
 
 abbrev pub decreases-loop-low : goal.decreases-loop-low

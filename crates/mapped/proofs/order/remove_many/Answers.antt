@@ -7,6 +7,6 @@ use Rattle.mapped.proofs.order.remove_many.Goals as goal
 pub returns-clause-index : goal.returns-clause-index
 returns-clause-index c =
     let keys : List (List Datum) = c.args.keys.now.items in
-    subst (λ (ks : List (List Datum)). IsIndexOf ks c.remove_run.new.kept.items) (sym c.cut_out.ensures.items)
-    (subst (λ (os : List ℕ). IsIndexOf (take c.args.at keys ++ drop (c.args.at + c.args.count) keys) os) (sym c.remove_run.ensures.items)
-    (left_index keys c.args.at c.args.count c.requires.there c.args.order.now.items c.requires.index))
+    subst (λ (ks : List (List Datum)). IsIndexOf ks c.remove_positions.new.self.list) (sym c.cut_out.ensures.items)
+    (subst (λ (os : List ℕ). IsIndexOf (take c.args.at keys ++ drop (c.args.at + c.args.count) keys) os) (sym c.remove_positions.ensures.list)
+    (left_index keys c.args.at c.args.count c.requires.there c.args.order.now.list c.requires.index))

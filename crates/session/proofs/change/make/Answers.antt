@@ -1,7 +1,7 @@
 use Rattle.std.proofs.Common.{◌≡◌, [], ◌∷◌, ◌<◌, ◌^◌, IsSome, ap, refl, subst, sym, ◌∙◌}
-use Rattle.followers.specs.Following.{room_for}
-use Rattle.following.proofs.Holding.{kept_over}
-use Rattle.following.specs.Keeping.{AreKept, HaveRoom, followed}
+use Rattle.watches.specs.Lines.{room_for}
+use Rattle.watches.proofs.Holding.{kept_over}
+use Rattle.watches.specs.Keeping.{AreKept, HaveRoom, followed}
 use Rattle.kept_counts.proofs.Holding.{over_view}
 use Rattle.row_edits.specs.declared.edit.RowEdit.{RowEdit}
 use Rattle.storage.specs.Stored.{Stored}

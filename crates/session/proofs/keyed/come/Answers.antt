@@ -1,9 +1,9 @@
 use Rattle.std.proofs.Common.{List, ap, subst, sym, ◌∙◌}
-use Rattle.following.specs.Keeping.{followed}
-use Rattle.following.specs.Watches.{followed_by}
-use Rattle.followers.specs.Keyed.{edits_of}
-use Rattle.mappings.specs.Keeping.{AllBring, AreKept as AreMapped, AreReady, EditsRows, mapped}
-use Rattle.mappings.specs.Mapped.{is_mapped}
+use Rattle.watches.specs.Keeping.{followed}
+use Rattle.watches.specs.Watches.{followed_by}
+use Rattle.keyed_views.specs.Keyed.{edits_of}
+use Rattle.keyed_views.specs.Keeping.{AllBring, AreKept as AreMapped, AreReady, EditsRows, mapped}
+use Rattle.keyed_views.specs.Mapped.{is_mapped}
 use Rattle.storage.specs.Stored.{Stored}
 use Rattle.view_store.specs.Views.{NamedTable}
 use Rattle.session.specs.Changes.{edit_of}

@@ -1,10 +1,10 @@
 use Rattle.std.proofs.Common.{◌≡◌, ◌<◌, ◌^◌, List, ap, sym, subst, ◌∙◌}
-use Rattle.followers.specs.Following.{room_for}
-use Rattle.followers.specs.Keyed.{edits_of}
-use Rattle.following.specs.Keeping.{ChangesRows}
-use Rattle.following.proofs.Holding.{kept_over}
-use Rattle.kept_counts.proofs.Holding.{counted_but}
-use Rattle.mappings.specs.Keeping.{EditsRows}
+use Rattle.watches.specs.Lines.{room_for}
+use Rattle.keyed_views.specs.Keyed.{edits_of}
+use Rattle.watches.specs.Keeping.{ChangesRows}
+use Rattle.watches.proofs.Holding.{kept_over}
+use Rattle.kept_counts.proofs.Holding.{counted_but, over_view}
+use Rattle.keyed_views.specs.Keeping.{EditsRows}
 use Rattle.row_edits.specs.declared.edit.RowEdit.{RowEdit}
 use Rattle.storage.specs.Stored.{Stored}
 use Rattle.view_store.specs.Views.{table_of}
@@ -26,6 +26,11 @@ follow_line-requires-clause-kept c =
     let views = c.args.store.now.views in
     kept_over views c.reserve.new.self c.args.name.now c.in_ok-before.before (c.reserve.ensures.kept views c.requires.watched)
     (ap (λ v. table_of v c.args.name.now) (sym c.views-2.ensures) ∙ c.in_ok-before.ensures.ok)
+
+pub follow_line-requires-2 : goal.follow_line-requires-2
+follow_line-requires-2 c = record {
+  kept = over_view c.args.store.now.views c.args.counted.now c.args.name.now c.in_ok-before.before c.requires.counted (ap (λ v. table_of v c.args.name.now) (sym c.views-2.ensures) ∙ c.in_ok-before.ensures.ok);
+}
 
 pub returns-clause-watched : goal.returns-clause-watched
 returns-clause-watched c =
@@ -61,4 +66,4 @@ returns-clause-counted c =
     (comes_changes name c.args.coming c.args.mappings.now views c.args.views c.requires.comes before after
     (ap (λ v. table_of v name) (sym c.views-2.ensures) ∙ c.in_ok-before.ensures.ok)
     (ap (λ v. table_of v name) (sym put) ∙ ap (λ v. table_of v name) (sym c.views-3.ensures) ∙ c.view-after.ensures)) in
-    c.forget.ensures.kept views c.put_views.new.self.views (counted_but name views c.args.counted.now c.requires.counted) change.others
+    c.follow_line-2.ensures.kept views c.put_views.new.self.views (counted_but name views c.args.counted.now c.requires.counted) change

@@ -1,7 +1,7 @@
 use Rattle.std.proofs.Common.{List, ap, subst, sym, ◌∙◌}
-use Rattle.followers.specs.Keyed.{edits_of}
-use Rattle.mappings.specs.Mapped.{is_mapped}
-use Rattle.mappings.specs.Keeping.{mapped}
+use Rattle.keyed_views.specs.Keyed.{edits_of}
+use Rattle.keyed_views.specs.Mapped.{is_mapped}
+use Rattle.keyed_views.specs.Keeping.{mapped}
 use Rattle.storage.specs.Stored.{with_views}
 use Rattle.view_store.specs.Rests.{ViewsRestOn}
 use Rattle.view_store.specs.Views.{NamedTable}

@@ -1,6 +1,6 @@
 use Rattle.std.proofs.Common.{◌≡◌, None, ap, subst, sym, ◌∙◌}
-use Rattle.mappings.specs.Mapped.{is_mapped}
-use Rattle.mappings.specs.Keeping.{mapped}
+use Rattle.keyed_views.specs.Mapped.{is_mapped}
+use Rattle.keyed_views.specs.Keeping.{mapped}
 use Rattle.storage.specs.Stored.{with_views}
 use Rattle.view_store.specs.Refusals.{due}
 use Rattle.view_store.specs.Rests.{ViewsRestOn}

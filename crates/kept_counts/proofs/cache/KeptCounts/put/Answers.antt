@@ -1,6 +1,6 @@
 use Rattle.std.proofs.Common.{◌≡◌, [], ◌∷◌, ◌++◌, length, set, position, Some, None, refl, ap, sym, ◌∙◌, arith}
 use Rattle.std.specs.Option.{is_none}
-use Rattle.following.proofs.Finding.{first_at}
+use Rattle.watches.proofs.Finding.{first_at}
 use Rattle.kept_counts.specs.Keeping.{Counted}
 use Rattle.kept_counts.proofs.Placing.{put_at, put_last, put_nowhere}
 use Rattle.kept_counts.proofs.cache.KeptCounts.put.Goals as goal

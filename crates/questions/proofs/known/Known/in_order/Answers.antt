@@ -1,7 +1,7 @@
 use Rattle.std.proofs.Common.{◌≡◌, Some, ap, sym, subst, ◌∙◌}
 use Rattle.expr_text.specs.Meanings.{query_of}
 use Rattle.expr_text.specs.Queries.{Query}
-use Rattle.mappings.specs.Keeping.{AreKept as AreMapped}
+use Rattle.keyed_views.specs.Keeping.{AreKept as AreMapped}
 use Rattle.view_store.specs.Views as views
 use Rattle.questions.specs.InOrder.{IsInOrder}
 use Rattle.questions.specs.Kept.{Names}

@@ -1,6 +1,6 @@
 use Rattle.std.proofs.Common.{◌≡◌, length, ap, sym, subst, ◌∙◌}
-use Rattle.following.specs.Keeping.{followed}
-use Rattle.following.specs.Watches.{watch_table}
+use Rattle.watches.specs.Keeping.{followed}
+use Rattle.watches.specs.Watches.{watch_table}
 use Rattle.questions.specs.Cursors.{rows_watched}
 use Rattle.questions.specs.Kept.{Names}
 use Rattle.questions.proofs.RowsUnder.{no_rows, size_shown}

@@ -1,6 +1,6 @@
 use Rattle.std.proofs.Common.{◌≡◌, true, ap, sym, subst, ◌∙◌}
-use Rattle.following.specs.Keeping.{ShowsAll, followed}
-use Rattle.following.specs.Watches.{is_watch, source_of}
+use Rattle.watches.specs.Keeping.{ShowsAll, followed}
+use Rattle.watches.specs.Watches.{is_watch, source_of}
 use Rattle.questions.specs.AtHand.{ShowsView}
 use Rattle.questions.specs.Kept.{Names}
 use Rattle.questions.proofs.AtHand.{shows_through, shows_viewed}

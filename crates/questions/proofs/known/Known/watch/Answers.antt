@@ -1,11 +1,11 @@
 use Rattle.std.proofs.Common.{true, length, eqb, Some, ap, inr, refl, sym, subst, ◌∙◌}
-use Rattle.following.specs.Watches.{is_watch, watch_table}
+use Rattle.watches.specs.Watches.{is_watch, watch_table}
 use Rattle.std.proofs.lemmas.Bool.{false≢true}
 use Rattle.eval.specs.Names.{view_at}
 use Rattle.eval.specs.declared.error.NameError.TheVariants as name_error
 use Rattle.std.proofs.Common.{◌≡◌, Ok, Err}
 use Rattle.derived.specs.Layers.{table_of}
-use Rattle.following.specs.Keeping.{followed}
+use Rattle.watches.specs.Keeping.{followed}
 use Rattle.questions.specs.Kept.{Names, watched}
 use Rattle.questions.proofs.Found.{no_steps_left, watch_seen, watch_unknown, watch_with_steps}
 use Rattle.questions.proofs.known.Known.watch.Goals as goal

@@ -2,9 +2,9 @@ use Rattle.std.proofs.Common.{◌≡◌, [], true, Ok, Some, ap, sym, subst, ◌
 use Rattle.eval.specs.Names.{view_at}
 use Rattle.expr_text.specs.Meanings.{query_of}
 use Rattle.expr_text.specs.Queries.{Query}
-use Rattle.following.specs.Keeping.{followed}
-use Rattle.following.specs.Rows.{table_read}
-use Rattle.following.specs.Watches.{is_watch, watch_table}
+use Rattle.watches.specs.Keeping.{followed}
+use Rattle.watches.specs.Rows.{table_read}
+use Rattle.watches.specs.Watches.{is_watch, watch_table}
 use Rattle.questions.specs.InOrder.{IsWatchNamed}
 use Rattle.questions.specs.Kept.{Names, stored, watched}
 use Rattle.questions.specs.Places.{order_at}

@@ -1,7 +1,7 @@
 use Rattle.std.proofs.Common.{ℕ, map, sym, subst}
 use Rattle.std.specs.Prelude.{Result}
 use Rattle.expr_text.specs.Meanings.{query_of}
-use Rattle.following.specs.Rows.{table_read}
+use Rattle.watches.specs.Rows.{table_read}
 use Rattle.questions.specs.Answers.{Answers}
 use Rattle.questions.specs.declared.error.QuestionError.{QuestionError}
 use Rattle.questions.proofs.Watched.{search_named, watch_sorted}

@@ -2,7 +2,7 @@ use Rattle.std.proofs.Common.{length, map, Result, Ok, ap, sym, ◌∙◌}
 use Rattle.mk_value.specs.Tables.{Table}
 use Rattle.eval.specs.Names.{continued}
 use Rattle.expr_text.specs.Meanings.{query_of}
-use Rattle.following.specs.Rows.{table_read}
+use Rattle.watches.specs.Rows.{table_read}
 use Rattle.questions.specs.declared.error.QuestionError.{QuestionError}
 use Rattle.questions.proofs.Unordered.{as_many_rows}
 use Rattle.questions.proofs.Watched.{watch_sized}

@@ -1,8 +1,8 @@
 use Rattle.std.proofs.Common.{◌≡◌, [], None, false, refl, ap, sym, subst, ◌∙◌}
-use Rattle.following.specs.Watches.{is_watched}
+use Rattle.watches.specs.Watches.{is_watched}
 use Rattle.view_store.specs.Views.{table_of}
 use Rattle.session.specs.World.{World}
-use Rattle.mappings.specs.Mapped.{is_mapped}
+use Rattle.keyed_views.specs.Mapped.{is_mapped}
 use Rattle.session.proofs.KeyedKept.{absent_unmapped}
 use Rattle.session.proofs.Watched.{absent_unwatched}
 use Rattle.tables.specs.Rests.{homed_columns}

@@ -1,6 +1,6 @@
 use Rattle.std.proofs.Common.{ap, refl}
 use Rattle.cmd_text.specs.declared.command.Command.TheVariants as commands
-use Rattle.followers.specs.Keyed.{home_of}
+use Rattle.keyed_views.specs.Keyed.{home_of}
 use Rattle.session.specs.Commands.{add_in, inserted}
 use Rattle.session.specs.Keyed.{add_by_key_due, mapping_as, put_by_key, put_line, row_for}
 use Rattle.session.specs.Refusals.{add_due}

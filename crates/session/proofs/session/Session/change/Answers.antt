@@ -1,5 +1,5 @@
 use Rattle.std.proofs.Common.{◌≡◌, None, refl, subst, sym}
-use Rattle.mappings.specs.Keeping.{AreKept as AreMapped, mapped}
+use Rattle.keyed_views.specs.Keeping.{AreKept as AreMapped, mapped}
 use Rattle.storage.specs.Stored.{Stored, with_views}
 use Rattle.view_store.specs.Refusals.{due}
 use Rattle.view_store.specs.Views.{edited_views}

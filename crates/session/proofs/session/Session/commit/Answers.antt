@@ -4,18 +4,18 @@ use Rattle.cmd_text.specs.declared.command.Command.TheVariants as commands
 use Rattle.lines.specs.Served.{state_of}
 use Rattle.storage.specs.Stored.{Stored, committed, failed, is_shut}
 use Rattle.view_store.proofs.Editing.{by_answer}
-use Rattle.following.specs.Keeping.{AreKept}
-use Rattle.following.proofs.Holding.{kept_where_same}
+use Rattle.watches.specs.Keeping.{AreKept}
+use Rattle.watches.proofs.Holding.{kept_where_same}
 use Rattle.kept_counts.specs.Keeping.{AreCounted}
 use Rattle.kept_counts.proofs.Holding.{counted_where_same}
-use Rattle.mappings.specs.Keeping.{AreKept as AreMapped}
-use Rattle.mappings.proofs.Holding.{kept_where_same as mapped_where_same}
+use Rattle.keyed_views.specs.Keeping.{AreKept as AreMapped}
+use Rattle.keyed_views.proofs.Holding.{kept_where_same as mapped_where_same}
 use Rattle.session.proofs.Watched.{commit_same}
 use Rattle.session.specs.Carried.{Carried}
 use Rattle.session.specs.Going.{GoesOn}
 use Rattle.session.specs.Planning.{IsPlannedNext}
-use Rattle.following.specs.Keeping.{followed}
-use Rattle.mappings.specs.Keeping.{mapped}
+use Rattle.watches.specs.Keeping.{followed}
+use Rattle.keyed_views.specs.Keeping.{mapped}
 use Rattle.session.specs.World.{World, with_store}
 use Rattle.session.proofs.OnDisk.{commit_failed, commit_goes, commit_goes_wrong, commit_made}
 use Rattle.session.proofs.session.Session.commit.Goals.{in-Ok-carry, in-Err-carry}

@@ -3,8 +3,8 @@ use Rattle.std.proofs.lemmas.Bool.{false≢true}
 use Rattle.view_store.specs.Views.{table_of, with_view}
 use Rattle.view_store.proofs.Editing.{IfOk-then}
 use Rattle.session.specs.Naming.{declare_due, is_view_used}
-use Rattle.following.specs.Keeping.{followed}
-use Rattle.mappings.specs.Keeping.{mapped}
+use Rattle.watches.specs.Keeping.{followed}
+use Rattle.keyed_views.specs.Keeping.{mapped}
 use Rattle.session.specs.World.{World, with_tables}
 use Rattle.session.proofs.Structured.{declare-in_use, structured-other}
 use Rattle.session.proofs.session.Session.declare.Goals as goal

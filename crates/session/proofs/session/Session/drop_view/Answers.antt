@@ -1,10 +1,10 @@
 use Rattle.std.proofs.Common.{◌≡◌, ◌||◌, false, sym, subst, ◌∙◌}
-use Rattle.following.specs.Keeping.{AreKept}
-use Rattle.following.specs.Watches.{is_watched}
+use Rattle.watches.specs.Keeping.{AreKept}
+use Rattle.watches.specs.Watches.{is_watched}
 use Rattle.kept_counts.specs.Keeping.{AreCounted}
 use Rattle.kept_counts.proofs.Holding.{nothing_counted}
-use Rattle.mappings.specs.Keeping.{AreKept as AreMapped}
-use Rattle.mappings.specs.Mapped.{is_mapped}
+use Rattle.keyed_views.specs.Keeping.{AreKept as AreMapped}
+use Rattle.keyed_views.specs.Mapped.{is_mapped}
 use Rattle.questions.specs.Cursors.{has_cursor_on}
 use Rattle.questions.specs.declared.cursor.Standing.TheVariants.{View}
 use Rattle.storage.specs.Stored.{Stored, with_views}

@@ -1,10 +1,10 @@
 use Rattle.std.proofs.Common.{◌≡◌, ◌≤◌, leb, length, Some, IfOk, ap, refl, sym, subst, ◌∙◌, rules}
 use Rattle.cmd_text.specs.declared.refusal.Refusal.TheVariants.{Limit}
-use Rattle.followers.specs.Keyed.{IsInPlace, edits_of, home_of}
-use Rattle.following.specs.Keeping.{followed}
-use Rattle.mappings.specs.Keeping.{AllBring, AreKeptOver, AreReady, mapped}
-use Rattle.mappings.specs.Mapped.{is_mapped, mapping_of, put_edit}
-use Rattle.mappings.specs.declared.coming.Coming.{Coming}
+use Rattle.keyed_views.specs.Keyed.{IsInPlace, edits_of, home_of}
+use Rattle.watches.specs.Keeping.{followed}
+use Rattle.keyed_views.specs.Keeping.{AllBring, AreKeptOver, AreReady, mapped}
+use Rattle.keyed_views.specs.Mapped.{is_mapped, mapping_of, put_edit}
+use Rattle.keyed_views.specs.declared.coming.Coming.{Coming}
 use Rattle.mk_value.specs.Limits.{max_rows}
 use Rattle.row_edits.specs.Edits.{size_by}
 use Rattle.view_store.specs.Views.{table_of}

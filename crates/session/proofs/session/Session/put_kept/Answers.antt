@@ -1,11 +1,11 @@
 use Rattle.std.proofs.Common.{◌≡◌, ℕ, Some, ap, inl, sym, subst, ◌∙◌}
 use Rattle.expr_text.specs.Meanings.{query_of}
-use Rattle.following.specs.Keeping.{followed}
-use Rattle.mappings.specs.Keeping.{mapped}
-use Rattle.following.specs.Watches.{source_of}
+use Rattle.watches.specs.Keeping.{followed}
+use Rattle.keyed_views.specs.Keeping.{mapped}
+use Rattle.watches.specs.Watches.{source_of}
 use Rattle.view_store.specs.Views.{table_of}
 use Rattle.questions.specs.Operations.{operand, operation}
-use Rattle.following.specs.Refusals.{put_due}
+use Rattle.watches.specs.Refusals.{put_due}
 use Rattle.live.specs.Putting.{AnswersPut}
 use Rattle.session.specs.Naming.{is_taken, table_under, told_of_put, kept_due}
 use Rattle.session.specs.Commands.{put_over, watch_size}

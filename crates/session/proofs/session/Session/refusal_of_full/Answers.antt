@@ -1,7 +1,7 @@
 use Rattle.std.proofs.Common.{◌≡◌, List, ap, subst, sym, ◌∙◌}
 use Rattle.std.specs.Prelude.{◌⊎◌}
 use Rattle.expr_text.specs.Meanings.{query_of}
-use Rattle.followers.specs.Following.{refusal_of}
+use Rattle.watches.specs.Lines.{refusal_of}
 use Rattle.live.specs.declared.error.WatchError.TheVariants as watching
 use Rattle.mk_value.specs.Heading.{Attribute}
 use Rattle.questions.specs.Operations.{operation}

@@ -1,8 +1,8 @@
 use Rattle.std.proofs.Common.{◌≡◌, [], None, ap, refl, sym, subst, ◌∙◌}
-use Rattle.followers.specs.Keyed.{edits_of}
-use Rattle.mappings.specs.Keeping.{AllBring, AreReady, mapped}
-use Rattle.mappings.specs.Mapped.{is_mapped}
-use Rattle.mappings.proofs.Holding.{kept_over}
+use Rattle.keyed_views.specs.Keyed.{edits_of}
+use Rattle.keyed_views.specs.Keeping.{AllBring, AreReady, mapped}
+use Rattle.keyed_views.specs.Mapped.{is_mapped}
+use Rattle.keyed_views.proofs.Holding.{kept_over}
 use Rattle.view_store.specs.Edits.{Edit}
 use Rattle.view_store.specs.Refusals.{due}
 use Rattle.view_store.specs.Views.{edited_views, table_of}

@@ -8,8 +8,8 @@ use Rattle.storage.specs.Stored.{Stored, is_shut, reopened}
 use Rattle.session.specs.Disk.{IsSteady}
 use Rattle.session.specs.Carried.{Carried}
 use Rattle.session.specs.Going.{GoesOn}
-use Rattle.following.specs.Keeping.{followed}
-use Rattle.mappings.specs.Keeping.{mapped}
+use Rattle.watches.specs.Keeping.{followed}
+use Rattle.keyed_views.specs.Keeping.{mapped}
 use Rattle.session.specs.World.{World, with_store}
 use Rattle.session.proofs.OnDisk.{reopen_made, reopen_refused, reopened_goes, synced_goes}
 use Rattle.session.proofs.session.Session.reopen.Goals as goal

@@ -10,8 +10,8 @@ use Rattle.storage.specs.Stored.{Stored, is_shut}
 use Rattle.session.specs.Disk.{IsSteady}
 use Rattle.session.specs.Carried.{Carried}
 use Rattle.session.specs.Going.{GoesOn}
-use Rattle.following.specs.Keeping.{followed}
-use Rattle.mappings.specs.Keeping.{mapped}
+use Rattle.watches.specs.Keeping.{followed}
+use Rattle.keyed_views.specs.Keeping.{mapped}
 use Rattle.session.specs.World.{World, with_store}
 use Rattle.session.proofs.OnDisk.{looked_goes, revert_made, revert_refused, views_same}
 use Rattle.session.proofs.session.Session.revert.Goals as goal

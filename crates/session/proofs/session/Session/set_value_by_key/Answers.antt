@@ -1,8 +1,8 @@
 use Rattle.std.proofs.Common.{◌≡◌, ◌∷◌, List, Some, IfOk, ap, refl, sym, subst, ◌∙◌}
-use Rattle.following.specs.Keeping.{followed}
-use Rattle.mappings.specs.Keeping.{AllBring, AreKeptOver, AreReady, mapped}
-use Rattle.mappings.specs.Mapped.{is_mapped, mapping_of, row_with, set_edit}
-use Rattle.mappings.specs.declared.coming.Coming.{Coming}
+use Rattle.watches.specs.Keeping.{followed}
+use Rattle.keyed_views.specs.Keeping.{AllBring, AreKeptOver, AreReady, mapped}
+use Rattle.keyed_views.specs.Mapped.{is_mapped, mapping_of, row_with, set_edit}
+use Rattle.keyed_views.specs.declared.coming.Coming.{Coming}
 use Rattle.mk_value.specs.Data.{Datum}
 use Rattle.mk_value.specs.Values.{datum_of}
 use Rattle.view_store.specs.Edits.{Edit}

@@ -1,7 +1,7 @@
 use Rattle.std.proofs.Common.{◌≡◌, false, MatchOption, refl, subst}
-use Rattle.following.specs.Keeping.{followed}
-use Rattle.mappings.specs.Keeping.{mapped}
-use Rattle.following.specs.Watches.{is_watch}
+use Rattle.watches.specs.Keeping.{followed}
+use Rattle.keyed_views.specs.Keeping.{mapped}
+use Rattle.watches.specs.Watches.{is_watch}
 use Rattle.session.specs.Following.{KeepsPositions}
 use Rattle.session.specs.World.{World}
 use Rattle.session.proofs.Watched.{keeps_positions}

@@ -1,4 +1,0 @@
-use Rattle.followers.proofs.ordered.put_ordered.Given as goal
-
-abbrev pub ghosts-stands : goal.ghosts-stands
-ghosts-stands g a = record { name = a.blank.name; parts = a.blank.parts }

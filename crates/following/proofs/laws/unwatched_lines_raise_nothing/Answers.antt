@@ -1,5 +1,0 @@
-use Rattle.following.proofs.Holding.{raised_where_none}
-use Rattle.following.proofs.laws.unwatched_lines_raise_nothing.Goals as goal
-
-pub returns : goal.returns
-returns c all view n none = raised_where_none all view n none

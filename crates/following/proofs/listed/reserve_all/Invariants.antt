@@ -1,6 +1,0 @@
-use Rattle.following.specs.Groups.{IsReserved}
-use Rattle.following.proofs.Stepping.{AreDone}
-use Rattle.following.proofs.listed.reserve_all.Given as goal
-
-abbrev pub invariant-loop-watches : goal.invariant-loop-watches
-invariant-loop-watches l = AreDone (IsReserved l.view l.more) l.fn.list l.list l.watches-index

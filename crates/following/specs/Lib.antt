@@ -1,6 +1,0 @@
-pub mod Groups
-pub mod Histories
-pub mod Keeping
-pub mod Refusals
-pub mod Rows
-pub mod Watches

@@ -1,0 +1,4 @@
+use Rattle.keyed_views.proofs.ordered.set_ordered.Given as goal
+
+abbrev pub ghosts-stands : goal.ghosts-stands
+ghosts-stands g a = record { name = a.blank.name; parts = a.blank.parts }

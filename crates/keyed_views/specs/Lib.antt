@@ -1,0 +1,4 @@
+pub mod Keeping
+pub mod Keyed
+pub mod Mapped
+pub mod Refusals

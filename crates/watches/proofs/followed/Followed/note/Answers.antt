@@ -1,0 +1,15 @@
+use Rattle.std.proofs.Common.{ap, subst, sym, ◌∙◌}
+use Rattle.mk_value.specs.Names.{same_bytes}
+use Rattle.live.specs.Chains.{AreSame}
+use Rattle.watches.specs.Keeping.{Kept}
+use Rattle.watches.proofs.Grouped.{notes_edit}
+use Rattle.watches.proofs.followed.Followed.note.Goals as goal
+
+pub returns-then-eq : goal.returns-then-eq
+returns-then-eq c =
+    let e = c.note_edit.ensures in
+    let view = c.args.view.now in
+    let here = ap (λ (k : Kept). same_bytes k.view view) (sym c.self.view_is) ∙ sym c.eq.ensures ∙ c.if-eq.true in
+    notes_edit view c.args.rows.now.schema c.args.rows.now.rows c.args.edit c.args.self.now _ here
+    (ap (λ (k : Kept). k.view) c.self.view_is) (ap (λ (k : Kept). k.names) c.self.view_is)
+    (subst (λ (k : Kept). AreSame k.watching.watches c.note_edit.new.watches.watches) c.self.view_is e.same) e.ready
