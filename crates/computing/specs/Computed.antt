@@ -4,9 +4,11 @@ use Rattle.std.specs.List.{list_any}
 use Rattle.mk_value.specs.Names.{same_bytes}
 use Rattle.mk_value.specs.Paths.{Route}
 use Rattle.mk_value.specs.Tables.{Table}
+use Rattle.derived.specs.Viewing.{keep, keep_due}
 use Rattle.eval.specs.Names.{Named, continued, view_at}
-use Rattle.eval.specs.Values.{at_path, counted, kept}
+use Rattle.eval.specs.Values.{at_path, at_size, counted, kept}
 use Rattle.eval.specs.declared.error.EvalError.{EvalError}
+use Rattle.relations.specs.Answers.{outcome}
 use Rattle.viewers.specs.Meanings.{Meaning}
 use Rattle.computing.specs.declared.computed.Computation.{Computation}
 use Rattle.computing.specs.declared.computed.Computation.TheVariants.{Counts, Filter}
@@ -38,6 +40,13 @@ value_of names viewers w = continued (at_path (view_at names (alone w.source))) 
 -- the counts of what a name stands for, by these keys and under this name
 abbrev pub counts_over : List Named → List ℕ → List (List ℕ) → List ℕ → Result Table EvalError
 counts_over names source keys count = continued (at_path (view_at names (alone source))) (counted keys count)
+
+-- the rows on which a viewer's answer is not 0; and those of what a name stands for
+abbrev pub kept_of : Meaning → List (List ℕ) → Table → Result Table EvalError
+kept_of viewer props t = at_size t (outcome (keep_due viewer.name viewer.takes props t.schema) (keep viewer.gives props t))
+
+abbrev pub rows_over : List Named → List ℕ → Meaning → List (List ℕ) → Result Table EvalError
+rows_over names source viewer props = continued (at_path (view_at names (alone source))) (kept_of viewer props)
 
 -- what its name stands for: no steps may follow it
 abbrev pub named_by : List ℕ → Result Table EvalError → List Named

@@ -27,7 +27,7 @@ both true b h = (refl_true, h)
     refl_true = cc
 both false b h = absurd (let f : false ≡ true = h in cc)
 
-none_from : {X : Type 0} (o : Option X) → is_none o ≡ true → o ≡ None
+pub none_from : {X : Type 0} (o : Option X) → is_none o ≡ true → o ≡ None
 none_from None h = cc
 none_from (Some x) h = absurd (let f : false ≡ true = h in cc)
 

@@ -1,6 +1,6 @@
 -- One after another of what is kept becomes something else.
-use Rattle.std.proofs.Common.{◌≡◌, ℕ, ◌+◌, ◌<◌, ◌≤◌, List, length, get_or, set, refl, ap, sym, subst, ◌∙◌, arith, inl, inr}
-use Rattle.std.specs.List.{All}
+use Rattle.std.proofs.Common.{◌≡◌, ℕ, suc, ◌+◌, ◌<◌, ◌≤◌, Bool, ◌||◌, List, [], ◌∷◌, length, get_or, set, refl, ap, sym, subst, ◌∙◌, arith, inl, inr}
+use Rattle.std.specs.List.{All, list_any}
 use Rattle.std.proofs.lemmas.Bool.{cases_lt}
 use Rattle.std.proofs.lemmas.List.{get_or_read, get_or-set_other, get_or-set_same, length-set}
 use Rattle.kept_counts.specs.Following.{AreEach}
@@ -41,3 +41,14 @@ module _ (R : Counted → Counted → Type 0) (old : List Counted) where
 
   pub each_new : (new : List Counted) (Q : Counted → Type 0) → AreEach R old new → ((a b : Counted) → R a b → Q b) → All Q new
   each_new new Q h step k d p = let long = h.long in let q : k < length old = omega arith in step (get_or old k d) (get_or new k d) (h.each k d q)
+
+-- where each passes as it did, one passes as one did
+pub each_any : (R : Counted → Counted → Type 0) (p : Counted → Bool) → ((a b : Counted) → R a b → p b ≡ p a) → (old new : List Counted) → AreEach R old new → list_any p new ≡ list_any p old
+each_any R p same [] [] h = refl
+each_any R p same [] (y ∷ ys) h = let long = h.long in absurd (omega arith)
+each_any R p same (x ∷ xs) [] h = let long = h.long in absurd (omega arith)
+each_any R p same (x ∷ xs) (y ∷ ys) h =
+    let long : suc (length ys) ≡ suc (length xs) = h.long in
+    let rest = each_any R p same xs ys (record { long = omega arith; each = λ k d q. h.each (suc k) d (omega arith) }) in
+    let first = same x y (h.each 0 x (omega arith)) in
+    ap (λ b. b || list_any p ys) first ∙ ap (λ b. p x || b) rest

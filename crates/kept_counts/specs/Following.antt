@@ -9,7 +9,7 @@ use Rattle.mk_value.specs.Names.{same_bytes}
 use Rattle.relations.specs.Columns.{values_at}
 use Rattle.row_edits.specs.declared.edit.RowEdit.{RowEdit}
 use Rattle.row_edits.specs.declared.event.Event.{Event}
-use Rattle.kept_counts.specs.Keeping.{Counted, HaveNoted, IsCountedOver, has_place, max_kept, single}
+use Rattle.kept_counts.specs.Keeping.{Counted, HasNoted, IsCountedOver, has_place, max_kept, single, what_kept}
 
 -- what is kept has become something else, one after another
 pub record AreEach (R : Counted → Counted → Type 0) (old new : List Counted) : Type 0 where
@@ -19,13 +19,13 @@ pub record AreEach (R : Counted → Counted → Type 0) (old new : List Counted)
 -- where the view has the name, an edit of its rows is noted, or nothing is kept any more
 pub record Notes (view : List ℕ) (schema : List Attribute) (rows : List (List Datum)) (edit : RowEdit) (old new : Counted) : Type 0 where
   pub of : new.view ≡ old.view
-  pub noted : same_bytes old.view view ≡ true → ForSome new.counts (HaveNoted schema rows edit new.keys)
+  pub noted : same_bytes old.view view ≡ true → ForSome new.kept (HasNoted schema rows edit)
   pub others : same_bytes old.view view ≡ false → new ≡ old
 
 -- where the view has the name, nothing is kept any more
 pub record Forgets (view : List ℕ) (old new : Counted) : Type 0 where
   pub of : new.view ≡ old.view
-  pub gone : same_bytes old.view view ≡ true → new.counts ≡ None
+  pub gone : same_bytes old.view view ≡ true → new.kept ≡ None
   pub others : same_bytes old.view view ≡ false → new ≡ old
 
 -- where the view has the name, what is kept is that of these rows now
@@ -34,15 +34,10 @@ pub record Follows (view : List ℕ) (schema : List Attribute) (rows : List (Lis
   pub over : same_bytes old.view view ≡ true → IsCountedOver schema rows new
   pub others : same_bytes old.view view ≡ false → new ≡ old
 
--- counts of these rows have noted an event
-pub record HaveMarked (schema : List Attribute) (rows : List (List Datum)) (edit : RowEdit) (old : Option CountsState) (new : CountsState) : Type 0 where
-  pub before : CountsState
-  pub was : old ≡ Some before
-  pub op : new.op ≡ before.op
-  pub now : AreCounts schema rows new
-  pub event : Event
-  pub one : single edit ≡ Some event
-  pub noted : new.noted ≡ Some event
+-- and what was kept still is
+pub record FollowsOn (view : List ℕ) (schema : List Attribute) (rows : List (List Datum)) (old new : Counted) : Type 0 where
+  pub follows : Follows view schema rows old new
+  pub stays : what_kept new ≡ what_kept old
 
 -- counts can follow the edit that they noted, which made these rows
 pub record CanFollow (schema : List Attribute) (rows : List (List Datum)) (edit : RowEdit) (counts : CountsState) : Type 0 where
@@ -51,21 +46,13 @@ pub record CanFollow (schema : List Attribute) (rows : List (List Datum)) (edit 
   pub due : AreDue schema counts event rows
   pub noted : counts.noted ≡ Some event
 
--- counts have followed to these rows
-pub record HaveFollowed (schema : List Attribute) (rows : List (List Datum)) (old : Option CountsState) (new : CountsState) : Type 0 where
-  pub before : CountsState
-  pub was : old ≡ Some before
-  pub op : new.op ≡ before.op
-  pub now : AreCounts schema rows new
-  pub noted : new.noted ≡ None
-
 -- a run of equal keys as a row: the values of its first row in these columns, and how long it is
 abbrev pub counted_at : List ℕ → List (List Datum) → CountsState → ℕ → List Datum
 counted_at columns rows counts i =
     values_at columns (slice_index_or rows (slice_index counts.kept (slice_index counts.starts i)) [])
     ++ integer (pos (run_end counts i - slice_index counts.starts i)) ∷ []
 
--- one is put in the place of one that has no counts, or behind the others; or it is not, where there is no place
+-- one is put in the place of one that keeps nothing, or behind the others; or it is not, where there is no place
 pub record IsPut (old : List Counted) (entry : Counted) (new : List Counted) : Type 0 where
   pub from : All (λ (e : Counted). (e ≡ entry) ⊎ Contains old e) new
   pub there : has_place old ≡ true → Contains new entry

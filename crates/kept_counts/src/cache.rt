@@ -1,20 +1,23 @@
-//! All counts that are kept.
+//! All that is kept.
 ghost use Rattle.std.specs.Prelude.{◌≡◌, ◌≤◌, [], ℕ, List, true, false, length, None, Some, IfOk, IfSome, OnErr, OnOk};
+ghost use Rattle.derived.specs.Viewing.{keep_due};
 ghost use Rattle.watches.specs.Keeping.{ChangesRows};
 ghost use Rattle.mk_value.specs.Data.{Datum};
 ghost use Rattle.mk_value.specs.Names.{same_bytes};
 ghost use Rattle.row_edits.specs.Edits.{IsInRange, edited};
 ghost use Rattle.tables.specs.Tables.{StoredTable};
 ghost use Rattle.view_store.specs.Views.{NamedTable, table_of};
+ghost use Rattle.viewers.specs.Laws.{gives};
 ghost use Rattle.kept_counts.specs.Following.{IsPut};
-ghost use Rattle.kept_counts.specs.Keeping.{AllHaveNoted, AreCounted, AreCountedBut, AreCountedOver, IsCountsOf, NoneIsKept, has_place, is_kept, max_kept, may_key as may_be_key};
+ghost use Rattle.kept_counts.specs.Keeping.{AllHaveNoted, AreCounted, AreCountedBut, AreCountedOver, IsCountsOf, IsFilterOf, NoneIsKept, What, counted_by, has_place, is_kept, kept_by, max_kept, may_key as may_be_key};
 
 use crate::entry::Entry;
 use crate::listed::{
-    find, find_blank, follow_all, follow_line_all, forget_all, has, note_all, push,
+    find_blank, find_counts, find_filter, follow_all, follow_line_all, forget_all, has_counts,
+    has_filter, note_all, push,
 };
-use crate::making::may_key;
-use crate::showing::{counted, may_count};
+use crate::making::{may_ask, may_key};
+use crate::showing::{counted, kept_rows, may_count};
 use derived::Derived;
 use mk_value::{Memory, Name, TableRead};
 use row_edits::{Line, RowEdit};
@@ -23,13 +26,14 @@ use std::marker::Model;
 use std::mem::replace;
 use tables::Shared;
 use view_store::Root;
+use viewers::{Law, Viewer};
 use watches::view_of;
 
-/// The most counts that are kept.
+/// The most that is kept.
 pub const MAX_KEPT: usize = 64;
 
-/// Counts that are kept of views, each of one view by some keys. Any of them may be dropped at any time: it is made anew once it is asked
-/// for again.
+/// What is kept of views: counts, each of one view by some keys, and filters, each of one view by a law and some properties. Any of it may be
+/// dropped at any time: it is made anew once it is asked for again.
 #[derive(Drop)]
 pub struct KeptCounts {
     list: Vec<Entry>,
@@ -67,12 +71,19 @@ impl KeptCounts {
 
     /// Whether the counts of a view by these keys are kept.
     pub fn has(&self, view: &Name, keys: &[Name]) -> bool
-        ensures { result ≡ is_kept self.now view.now keys.now }
+        ensures { result ≡ is_kept self.now view.now (counted_by keys.now) }
     {
-        has(&self.list, view, keys)
+        has_counts(&self.list, view, keys)
     }
 
-    /// Keeps the counts of a view by these keys, if the view is there and may be counted by them, and fewer than 64 are kept.
+    /// Whether what the law keeps of a view by these properties is kept.
+    pub fn has_filter(&self, view: &Name, law: Law, props: &[Name]) -> bool
+        ensures { result ≡ is_kept self.now view.now (kept_by law props.now) }
+    {
+        has_filter(&self.list, view, law, props)
+    }
+
+    /// Keeps the counts of a view by these keys, if the view is there and may be counted by them, and there is a place for them.
     ///
     /// # Errors
     ///
@@ -80,7 +91,7 @@ impl KeptCounts {
     pub fn keep(&mut self, views: &Root, view: &Name, keys: &[Name]) -> Result<(), Memory>
         requires { AreCounted views.now self.old }
         ensures kept { AreCounted views.now self.new }
-        ensures made { OnOk result ((t : StoredTable) → table_of views.now view.now ≡ Some t → may_be_key t.schema keys.now ≡ true → has_place self.old ≡ true → is_kept self.new view.now keys.now ≡ true) }
+        ensures made { OnOk result ((t : StoredTable) → table_of views.now view.now ≡ Some t → may_be_key t.schema keys.now ≡ true → has_place self.old ≡ true → is_kept self.new view.now (counted_by keys.now) ≡ true) }
         ensures few { length self.old ≤ max_kept → length self.new ≤ max_kept }
         ensures err { OnErr result (self.new ≡ self.old) }
     {
@@ -94,10 +105,46 @@ impl KeptCounts {
             return Ok(());
         }
         let alloc = *self.list.allocator();
-        self.put(Entry::make(alloc, view, keys, rows)?)
+        self.put(Entry::of_counts(alloc, view, keys, rows)?)
     }
 
-    /// Puts one in the place of one without counts, or behind the others while they are fewer than 64.
+    /// Keeps the rows of a view that a viewer keeps by these properties, where it answers by this law, if the view is there, the viewer may be
+    /// asked of them, and there is a place for it. Each row is asked once.
+    ///
+    /// # Errors
+    ///
+    /// `Memory`, and what is kept is as before.
+    pub fn keep_filter<V: Viewer>(
+        &mut self,
+        views: &Root,
+        view: &Name,
+        viewer: &V,
+        law: Law,
+        props: &[Name],
+    ) -> Result<(), Memory>
+        requires kept { AreCounted views.now self.old }
+        requires law { (V.meaning viewer.now).gives ≡ gives law }
+        ensures kept { AreCounted views.now self.new }
+        ensures made { OnOk result ((t : StoredTable) → table_of views.now view.now ≡ Some t → keep_due (V.meaning viewer.now).name (V.meaning viewer.now).takes props.now t.schema ≡ None → has_place self.old ≡ true
+            → is_kept self.new view.now (kept_by law props.now) ≡ true) }
+        ensures few { length self.old ≤ max_kept → length self.new ≤ max_kept }
+        ensures err { OnErr result (self.new ≡ self.old) }
+    {
+        if self.has_filter(view, law, props) {
+            return Ok(());
+        }
+        let Some(rows) = view_of(views, view) else {
+            return Ok(());
+        };
+        let alloc = *self.list.allocator();
+        let may = may_ask(alloc, rows.schema(), viewer, props)?;
+        if !may {
+            return Ok(());
+        }
+        self.put(Entry::of_filter(alloc, view, viewer, law, props, rows)?)
+    }
+
+    /// Puts one in the place of one that keeps nothing, or behind the others while they are fewer than 64.
     fn put(&mut self, entry: Entry) -> Result<(), Memory>
         ensures put { OnOk result (IsPut self.old entry self.new) }
         ensures err { OnErr result (self.new ≡ self.old) }
@@ -127,7 +174,7 @@ impl KeptCounts {
         requires { AreCounted views.now self.now }
         ensures { IfOk result (λ found. IfSome found (IsCountsOf views.now view.now keys.now count.now)) }
     {
-        let Some(at) = find(&self.list, view, keys) else {
+        let Some(at) = find_counts(&self.list, view, keys) else {
             return Ok(None);
         };
         let Some(counts) = self.list[at].counts() else {
@@ -140,6 +187,42 @@ impl KeptCounts {
             return Ok(None);
         };
         Ok(Some(counted(alloc, rows, keys, count, counts)?))
+    }
+
+    /// The table of the rows of a view that a viewer keeps by these properties, where they are kept and it may be asked of them. It asks of no
+    /// row, and takes time for the rows that are kept.
+    ///
+    /// # Errors
+    ///
+    /// `Memory`.
+    pub fn filtered<V: Viewer>(
+        &self,
+        alloc: Global,
+        views: &Root,
+        view: &Name,
+        viewer: &V,
+        props: &[Name],
+    ) -> Result<Option<Derived<Shared>>, Memory>
+        requires { AreCounted views.now self.now }
+        ensures { IfOk result (λ found. IfSome found (IsFilterOf views.now view.now (V.meaning viewer.now) props.now)) }
+    {
+        let Some(law) = viewer.law() else {
+            return Ok(None);
+        };
+        let Some(at) = find_filter(&self.list, view, law, props) else {
+            return Ok(None);
+        };
+        let Some(filter) = self.list[at].filter() else {
+            return Ok(None);
+        };
+        let Some(rows) = view_of(views, view) else {
+            return Ok(None);
+        };
+        let may = may_ask(alloc, rows.schema(), viewer, props)?;
+        if !may {
+            return Ok(None);
+        }
+        Ok(Some(kept_rows(alloc, rows, filter)?))
     }
 
     /// What is kept of a view notes an edit of its rows before it is made. Where it cannot it is dropped.
@@ -162,11 +245,12 @@ impl KeptCounts {
         forget_all(&mut self.list, view);
     }
 
-    /// What is kept of a view follows the edit of its rows that it noted, now that it is made. It takes no memory.
+    /// What is kept of a view follows the edit of its rows that it noted, now that it is made. It takes no memory, and drops nothing.
     pub fn follow(&mut self, view: &Name, rows: &Shared, edit: RowEdit)
         requires noted { (before : List (List Datum)) × AllHaveNoted view.now rows.now.schema before edit self.old × ((row : List Datum) × (rows.now.rows ≡ edited row edit before)) }
         ensures over { AreCountedOver view.now rows.now.schema rows.now.rows self.new }
         ensures kept { (before : List (List Datum)) (old new : List NamedTable) → AreCountedBut view.now old self.old → ChangesRows view.now rows.now.schema before rows.now.rows old new → AreCounted new self.new }
+        ensures stays { (name : List ℕ) (what : What) → is_kept self.new name what ≡ is_kept self.old name what }
     {
         follow_all(&mut self.list, view, rows, edit);
     }

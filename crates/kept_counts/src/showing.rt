@@ -1,5 +1,5 @@
-//! The table of counts.
-ghost use Rattle.std.specs.Prelude.{◌≡◌, ◌<◌, ◌++◌, ◌∷◌, [], All, List, length, map, true, None, IfOk};
+//! The tables of counts and of filters.
+ghost use Rattle.std.specs.Prelude.{◌≡◌, ◌<◌, ◌≤◌, ◌++◌, ◌∷◌, [], All, List, length, map, true, None, IfOk};
 ghost use Rattle.std.specs.List.Sorted.{IsPermutation};
 ghost use Rattle.derived.specs.Grouping.{counts as counts_by};
 ghost use Rattle.derived.specs.Layers.{table_of};
@@ -8,18 +8,21 @@ ghost use Rattle.live.specs.declared.op.WatchOp.TheVariants.{Sort};
 ghost use Rattle.live_counts.specs.Counting.{AreCounts};
 ghost use Rattle.mk_value.specs.Data.{Datum};
 ghost use Rattle.mk_value.specs.Heading.{Domain};
+ghost use Rattle.mk_value.specs.Limits.{max_rows};
 ghost use Rattle.mk_value.specs.Tables.{Table};
 ghost use Rattle.relations.specs.declared.criteria.Key.{Key};
 ghost use Rattle.relations.specs.Columns.{column_of};
 ghost use Rattle.relations.specs.Positions.{numbers};
 ghost use Rattle.relations.specs.Refusals.{a_view, absent};
-ghost use Rattle.relations.specs.Rows.{once, properties_of};
+ghost use Rattle.relations.specs.Rows.{once, properties_of, rows_at};
 ghost use Rattle.kept_counts.specs.Following.{counted_at};
 ghost use Rattle.kept_counts.specs.Keeping.{AreCountsBy, table_stored};
 
-use derived::{Derived, held};
-use live_counts::LiveCounts;
-use mk_value::{Kind, MAX_PROPERTIES, Memory, Name, Prop, Rows, Schema, TableRead, Value};
+use derived::{Derived, held, pick};
+use live_counts::{LiveCounts, LiveFilter};
+use mk_value::{
+    Kind, MAX_PROPERTIES, Memory, Name, Positions, Prop, Rows, Same, Schema, TableRead, Value,
+};
 use relations::lookup::is_among;
 use relations::{Columns, count_distinct, named_columns, properties_in, values_in};
 use std::alloc::Global;
@@ -91,4 +94,31 @@ fn counted_rows(
         made.push(row)?;
     }
     Ok(made)
+}
+
+/// The table of the rows at the positions that a filter keeps. It takes time for these alone.
+pub(crate) fn kept_rows(
+    alloc: Global,
+    rows: &Shared,
+    filter: &LiveFilter,
+) -> Result<Derived<Shared>, Memory>
+    requires few { length filter.now.kept ≤ max_rows }
+    requires in_range { All (λ i. i < length rows.now.rows) filter.now.kept }
+    ensures { IfOk result (λ d. table_of d ≡ record { schema = rows.now.schema; rows = rows_at rows.now.rows filter.now.kept }) }
+{
+    let positions = positions_kept(alloc, rows.size(), filter)?;
+    pick(alloc, rows.same()?, positions)
+}
+
+/// The positions that a filter keeps, each below a size.
+fn positions_kept(alloc: Global, size: usize, filter: &LiveFilter) -> Result<Positions, Memory>
+    requires few { size ≤ max_rows }
+    requires in_range { All (λ i. i < size) filter.now.kept }
+    ensures { IfOk result (λ positions. positions ≡ filter.now.kept) }
+{
+    let mut positions = Positions::new(alloc);
+    for at in 0..filter.len() {
+        positions.push(filter.at(at) as u32)?;
+    }
+    Ok(positions)
 }

@@ -17,7 +17,7 @@ ghost use Rattle.questions.specs.Kept.{Kept, is_kept, stored, table_of, watched}
 
 use crate::snapshot::{Snapshot, is_snapshot};
 use crate::walk::inner_table;
-use computing::CountsAtHand;
+use computing::AtHand;
 use derived::{Derived, leaf};
 use eval::{NameError, Names};
 use expr_text::Expr;
@@ -28,6 +28,7 @@ use std::alloc::Global;
 use std::marker::Model;
 use tables::Shared;
 use view_store::Root;
+use viewers::Viewer;
 use watches::{Following, WatchRows, view_of};
 
 /// Views, snapshots and watches by name, of which a view decides before a snapshot and a snapshot before a watch, and the first of
@@ -38,7 +39,7 @@ pub struct Known<'a> {
     pub(crate) snapshots: &'a [Snapshot],
     pub(crate) watches: &'a Following,
     pub(crate) mappings: &'a Mappings,
-    /// Counts of the views that are at hand.
+    /// Counts of the views, and rows of them that laws keep, which are at hand.
     pub(crate) counted: &'a KeptCounts,
 }
 
@@ -74,7 +75,7 @@ impl Names<Shared> for Known<'_> {
     }
 }
 
-impl CountsAtHand<Shared> for Known<'_> {
+impl AtHand<Shared> for Known<'_> {
     /// Those of a view, which are those of each sorting of it.
     fn counts_at_hand(
         &self,
@@ -88,11 +89,23 @@ impl CountsAtHand<Shared> for Known<'_> {
             None => Ok(None),
         }
     }
+
+    /// Those of a view alone.
+    fn rows_at_hand<V: Viewer>(
+        &self,
+        alloc: Global,
+        name: &Name,
+        viewer: &V,
+        props: &[Name],
+    ) -> Result<Option<Derived<Shared>>, Memory> {
+        self.counted
+            .filtered(alloc, self.views, name, viewer, props)
+    }
 }
 
 impl<'a> Known<'a> {
-    /// What names stand for, by these views and snapshots, and the watches and mappings of those views. The counts of the views that are kept
-    /// change no answer.
+    /// What names stand for, by these views and snapshots, and the watches and mappings of those views. What is kept of the views
+    /// changes no answer.
     pub fn of(
         views: &'a Root,
         snapshots: &'a [Snapshot],

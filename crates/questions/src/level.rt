@@ -2,7 +2,7 @@
 ghost use Rattle.std.specs.Prelude.{◌≡◌, ◌↔◌, IsTrue};
 ghost use Rattle.eval.specs.declared.error.NameError.TheVariants as name_error;
 
-use computing::{Computed, CountsAtHand, computed_table};
+use computing::{AtHand, Computed, computed_table};
 use derived::Derived;
 use eval::{NameError, Names};
 use mk_value::{Memory, Name, Path};
@@ -20,7 +20,7 @@ pub(crate) struct Level<'a, N: Names<Shared>, S: Names<Shared>, V: Viewer> {
     pub(crate) alloc: Global,
 }
 
-impl<N: Names<Shared>, S: CountsAtHand<Shared>, V: Viewer> Names<Shared> for Level<'_, N, S, V> {
+impl<N: Names<Shared>, S: AtHand<Shared>, V: Viewer> Names<Shared> for Level<'_, N, S, V> {
     ghost use Rattle.std.specs.Prelude.{◌++◌, map};
     ghost use Rattle.computing.specs.Computed.{names_of};
 
@@ -47,8 +47,7 @@ impl<N: Names<Shared>, S: CountsAtHand<Shared>, V: Viewer> Names<Shared> for Lev
     }
 }
 
-impl<N: CountsAtHand<Shared>, S: CountsAtHand<Shared>, V: Viewer> CountsAtHand<Shared>
-    for Level<'_, N, S, V> {
+impl<N: AtHand<Shared>, S: AtHand<Shared>, V: Viewer> AtHand<Shared> for Level<'_, N, S, V> {
     /// Those of the names that come first; computed watches have none.
     fn counts_at_hand(
         &self,
@@ -58,6 +57,17 @@ impl<N: CountsAtHand<Shared>, S: CountsAtHand<Shared>, V: Viewer> CountsAtHand<S
         count: &Name,
     ) -> Result<Option<Derived<Shared>>, Memory> {
         self.names.counts_at_hand(alloc, name, keys, count)
+    }
+
+    /// Those of the names that come first; computed watches have none.
+    fn rows_at_hand<W: Viewer>(
+        &self,
+        alloc: Global,
+        name: &Name,
+        viewer: &W,
+        props: &[Name],
+    ) -> Result<Option<Derived<Shared>>, Memory> {
+        self.names.rows_at_hand(alloc, name, viewer, props)
     }
 }
 

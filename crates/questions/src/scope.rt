@@ -19,7 +19,7 @@ use crate::error::{QuestionError, of_name, of_operator};
 use crate::known::Known;
 use crate::level::Level;
 use crate::sorted::keys_given;
-use computing::{Computation, Computed, Computing, CountsAtHand, shown};
+use computing::{AtHand, Computation, Computed, Computing, shown};
 use derived::Derived;
 use eval::{Names, eval};
 use expr_text::{Expr, Order};
@@ -105,7 +105,7 @@ impl<V: Viewer> Scope<'_, V> {
     }
 
     /// Names, and behind them those of computed watches over sources.
-    pub(crate) fn level<'b, N: Names<Shared>, S: CountsAtHand<Shared>>(
+    pub(crate) fn level<'b, N: Names<Shared>, S: AtHand<Shared>>(
         &'b self,
         alloc: Global,
         names: &'b N,

@@ -1,4 +1,4 @@
-//! Counts that are at hand for questions. No reply shows which are.
+//! Counts and filtered rows that are at hand for questions. No reply shows which are.
 ghost use Rattle.std.specs.Prelude.{◌≡◌};
 ghost use Rattle.kept_counts.specs.Keeping.{AreCounted};
 
@@ -11,6 +11,7 @@ use kept_counts::KeptCounts;
 use mk_value::Name;
 use questions::Cursor;
 use view_store::Root;
+use viewers::{Viewer, find};
 use watches::Following;
 
 /// What a command asks of: all that an expression names, or what a cursor stands on.
@@ -31,15 +32,27 @@ impl Asked<'_> {
 }
 
 impl Session {
-    /// Keeps the counts of views for which a question asks by the name of a watch, so that neither it nor a later one makes them anew.
-    pub(crate) fn keep_counts(&mut self, command: &Command)
+    /// Keeps the counts of views, and the rows of views that laws keep, for which a question asks by the name of a watch, so that neither it
+    /// nor a later one makes them anew.
+    pub(crate) fn keep_counts<V: Viewer>(&mut self, viewers: &[V], command: &Command)
         ensures { self.new ≡ self.old }
     {
         if let Some(asked) = question(command, self.cursors.as_slice()) {
+            let views = self.store.views();
+            let counted = &mut self.counted;
             keep_each(
-                &mut self.counted,
-                self.store.views(),
+                counted,
+                views,
                 &self.watches,
+                viewers,
+                self.computed.filters(),
+                asked,
+            );
+            keep_each(
+                counted,
+                views,
+                &self.watches,
+                viewers,
                 self.computed.counts(),
                 asked,
             );
@@ -74,11 +87,12 @@ fn target_of<'a>(cursors: &'a [Cursor], name: &Name) -> Option<&'a Name> {
     None
 }
 
-/// Keeps the counts of views that those of these watches show of which is asked.
-fn keep_each(
+/// Keeps what those of these watches show of views of which is asked.
+fn keep_each<V: Viewer>(
     counted: &mut KeptCounts,
     views: &Root,
     following: &Following,
+    viewers: &[V],
     watches: &[Computed],
     asked: Asked<'_>,
 )
@@ -87,22 +101,74 @@ fn keep_each(
 {
     for watch in watches {
         if asked.names(watch.name()) {
-            keep(counted, views, following, watch);
+            keep(counted, views, following, viewers, watch);
         }
     }
 }
 
-/// Keeps the counts of a view that a watch shows. Where memory is wanting each question makes them.
-fn keep(counted: &mut KeptCounts, views: &Root, following: &Following, watch: &Computed)
+/// Keeps what a watch shows of a view. Where memory is wanting each question makes it.
+fn keep<V: Viewer>(
+    counted: &mut KeptCounts,
+    views: &Root,
+    following: &Following,
+    viewers: &[V],
+    watch: &Computed,
+)
     requires { AreCounted views.now counted.old }
     ensures { AreCounted views.now counted.new }
 {
-    let Computation::Counts(keys, _) = watch.shows() else {
+    match watch.shows() {
+        Computation::Counts(keys, _) => {
+            keep_counted(counted, views, following, watch.source(), keys.as_slice());
+        }
+        Computation::Filter(viewer, props) => {
+            keep_filtered(
+                counted,
+                views,
+                viewers,
+                watch.source(),
+                viewer,
+                props.as_slice(),
+            );
+        }
+    }
+}
+
+/// Keeps the counts of the view whose rows what has this name shows.
+fn keep_counted(
+    counted: &mut KeptCounts,
+    views: &Root,
+    following: &Following,
+    source: &Name,
+    keys: &[Name],
+)
+    requires { AreCounted views.now counted.old }
+    ensures { AreCounted views.now counted.new }
+{
+    if let Some(view) = view_shown(views, following, source) {
+        let _is_kept = counted.keep(views, view, keys);
+    }
+}
+
+/// Keeps the rows of the view of this name that the viewer of a name keeps, where it answers by a law.
+fn keep_filtered<V: Viewer>(
+    counted: &mut KeptCounts,
+    views: &Root,
+    viewers: &[V],
+    view: &Name,
+    viewer: &Name,
+    props: &[Name],
+)
+    requires { AreCounted views.now counted.old }
+    ensures { AreCounted views.now counted.new }
+{
+    let Some(viewer) = find(viewers, viewer) else {
         return;
     };
-    if let Some(view) = view_shown(views, following, watch.source()) {
-        let _is_kept = counted.keep(views, view, keys.as_slice());
-    }
+    let Some(law) = viewer.law() else {
+        return;
+    };
+    let _is_kept = counted.keep_filter(views, view, viewer, law, props);
 }
 
 /// The name of the view whose rows, all of them and in whatever order, what has this name shows.

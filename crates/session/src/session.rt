@@ -40,7 +40,7 @@ use watches::Following;
 
 /// A session: a store, whose views its lines edit and whose commits they make, the snapshots and cursors beside its views, the
 /// watches of its views, which keep the positions of their rows, the counts and filters whose rows are made when they are asked for,
-/// the views whose rows are kept by key, and counts that are at hand, which no reply shows.
+/// the views whose rows are kept by key, and counts and filtered rows that are at hand, which no reply shows.
 #[derive(Drop)]
 pub struct Session {
     pub(crate) store: Store,
@@ -160,13 +160,13 @@ impl Session {
         self.store.is_shut() && !goes_when_shut(command)
     }
 
-    /// Carries a command out that reaches no disk, and gives the reply to it. What it asks to count is kept before.
+    /// Carries a command out that reaches no disk, and gives the reply to it. What it asks to count or to filter is kept before.
     fn carry_out<V: Viewer>(&mut self, viewers: &[V], command: &Command) -> Reply
         requires line { IsOfLine command.now }
         requires no_disk { reach_of command.now ≡ off_disk }
         ensures { Answered (map V.meaning viewers.now) command.now self.old result self.new }
     {
-        self.keep_counts(command);
+        self.keep_counts(viewers, command);
         self.dispatch(viewers, command)
     }
 

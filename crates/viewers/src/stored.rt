@@ -50,4 +50,8 @@ impl Viewer for StoredViewer {
     fn answer(&self, row: &Row) -> i64 {
         (self.call)(row)
     }
+
+    fn law(&self) -> Option<Law> {
+        Some(self.law)
+    }
 }

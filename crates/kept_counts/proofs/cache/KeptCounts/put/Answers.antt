@@ -7,7 +7,7 @@ use Rattle.kept_counts.proofs.cache.KeptCounts.put.Goals as goal
 
 pub returns-in-Some-clause-put : goal.returns-in-Some-clause-put
 returns-in-Some-clause-put c =
-    let test = λ (e : Counted). is_none e.counts in
+    let test = λ (e : Counted). is_none e.kept in
     let old = c.args.self.now in
     let at = c.in-Some.at in
     let found : position test old ≡ Some at = ap (position test) (sym (c.deref.ensures.value ∙ c.self.view_is)) ∙ sym c.find_blank.ensures ∙ c.in-Some.is in
@@ -23,7 +23,7 @@ returns-in_ok-push-in-None-clause-put c =
 
 pub returns-in-None-2-clause-put : goal.returns-in-None-2-clause-put
 returns-in-None-2-clause-put c =
-    let test = λ (e : Counted). is_none e.counts in
+    let test = λ (e : Counted). is_none e.kept in
     let old = c.args.self.now in
     let none : position test old ≡ None = ap (position test) (sym (c.deref.ensures.value ∙ c.self.view_is)) ∙ sym c.find_blank.ensures ∙ c.in-None-2.is in
     let long = ap length c.self.view_is in

@@ -1,6 +1,6 @@
 use Rattle.std.proofs.Common.{sym, ◌∙◌}
-use Rattle.kept_counts.specs.Keeping.{table_stored}
-use Rattle.kept_counts.proofs.Holding.{found_right}
+use Rattle.kept_counts.specs.Keeping.{counted_by, table_stored}
+use Rattle.kept_counts.proofs.Holding.{found_counts}
 use Rattle.kept_counts.proofs.Keying.{are_keys}
 use Rattle.kept_counts.proofs.Placing.{found_at}
 use Rattle.kept_counts.proofs.cache.KeptCounts.table.Goals as goal
@@ -11,8 +11,8 @@ counted-requires-clause-by c =
     let view = c.args.view.now in
     let keys = c.args.keys.now in
     let e = c.index.result.now in
-    let found = found_at all c.self.inside.list.items c.deref.result.now view keys c.in-Some.at e c.self.view_is c.deref.ensures.value (sym c.find.ensures ∙ c.in-Some.is) c.index.ensures in
-    (found_right c.args.views.now all view keys e c.in-Some-counts.counts.now c.in-Some-view_of.rows.now c.requires found c.in-Some-counts.ensures c.in-Some-view_of.ensures).by
+    let found = found_at all c.self.inside.list.items c.deref.result.now view (counted_by keys) c.in-Some.at e c.self.view_is c.deref.ensures.value (sym c.find_counts.ensures ∙ c.in-Some.is) c.index.ensures in
+    (found_counts c.args.views.now all view keys c.in-Some-counts.ensures.0 e c.in-Some-counts.counts.now c.in-Some-view_of.rows.now c.requires found c.in-Some-counts.ensures.1 c.in-Some-view_of.ensures).by
 
 pub counted-requires-clause-due : goal.counted-requires-clause-due
 counted-requires-clause-due c =
@@ -21,8 +21,8 @@ counted-requires-clause-due c =
     let keys = c.args.keys.now in
     let e = c.index.result.now in
     let t = c.in-Some-view_of.rows.now in
-    let found = found_at all c.self.inside.list.items c.deref.result.now view keys c.in-Some.at e c.self.view_is c.deref.ensures.value (sym c.find.ensures ∙ c.in-Some.is) c.index.ensures in
-    let right = found_right c.args.views.now all view keys e c.in-Some-counts.counts.now t c.requires found c.in-Some-counts.ensures c.in-Some-view_of.ensures in
+    let found = found_at all c.self.inside.list.items c.deref.result.now view (counted_by keys) c.in-Some.at e c.self.view_is c.deref.ensures.value (sym c.find_counts.ensures ∙ c.in-Some.is) c.index.ensures in
+    let right = found_counts c.args.views.now all view keys c.in-Some-counts.ensures.0 e c.in-Some-counts.counts.now t c.requires found c.in-Some-counts.ensures.1 c.in-Some-view_of.ensures in
     let k = are_keys t.schema keys right.by.keyed in
     c.may_count.ensures c.if-not-may_count.false (table_stored t) k.present k.plain
 
@@ -33,8 +33,8 @@ returns c =
     let keys = c.args.keys.now in
     let e = c.index.result.now in
     let t = c.in-Some-view_of.rows.now in
-    let found = found_at all c.self.inside.list.items c.deref.result.now view keys c.in-Some.at e c.self.view_is c.deref.ensures.value (sym c.find.ensures ∙ c.in-Some.is) c.index.ensures in
-    let right = found_right c.args.views.now all view keys e c.in-Some-counts.counts.now t c.requires found c.in-Some-counts.ensures c.in-Some-view_of.ensures in
+    let found = found_at all c.self.inside.list.items c.deref.result.now view (counted_by keys) c.in-Some.at e c.self.view_is c.deref.ensures.value (sym c.find_counts.ensures ∙ c.in-Some.is) c.index.ensures in
+    let right = found_counts c.args.views.now all view keys c.in-Some-counts.ensures.0 e c.in-Some-counts.counts.now t c.requires found c.in-Some-counts.ensures.1 c.in-Some-view_of.ensures in
     let k = are_keys t.schema keys right.by.keyed in
     record {
       table = t;

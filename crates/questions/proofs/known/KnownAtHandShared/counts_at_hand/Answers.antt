@@ -4,7 +4,7 @@ use Rattle.std.proofs.lemmas.Result.{IfOk-weaker}
 use Rattle.kept_counts.specs.Keeping.{IsCountsOf}
 use Rattle.questions.specs.Kept.{Names}
 use Rattle.questions.proofs.AtHand.{counts_shown}
-use Rattle.questions.proofs.known.KnownCountsAtHandShared.counts_at_hand.Goals as goal
+use Rattle.questions.proofs.known.KnownAtHandShared.counts_at_hand.Goals as goal
 
 pub table-requires : goal.table-requires
 table-requires c = c.self.invariant.1.1
