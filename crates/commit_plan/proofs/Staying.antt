@@ -7,12 +7,14 @@ use Rattle.mk_value.specs.Heading.{Domain, Heading, no_attributes, attribute, he
 use Rattle.mk_value.specs.Data.{Datum}
 use Rattle.mk_value.specs.Tables.{IsPlainDomain}
 use Rattle.tables.specs.Homes.{Home, no_home, numbers, strings, tables, PlainColumn, ColumnHomes, no_columns, column, column_homes, RowHomes, no_rows, row, column_of, rows_in}
+use Rattle.tables.specs.Pools.{HasAllHomes}
 use Rattle.tables.specs.Shapes.{HasHomes}
 use Rattle.tables.specs.Tables.{StoredTable}
 use Rattle.tables.specs.Blocks.{blocks_of_values, is_homed, plain_columns, plain_from, plain_in, plain_rows}
 use Rattle.commit_plan.specs.Following.{blocks_due, due_of, home_at, settled, settled_at}
-use Rattle.commit_plan.specs.Settling.{SettlesTable, table_count}
+use Rattle.commit_plan.specs.Settling.{InTurn, IsSettledTable, SettlesTable, SettlesTables, counted, table_count}
 use Rattle.commit_plan.proofs.DueBlocks.{count-append, one_due}
+use Rattle.commit_plan.proofs.Gained.{nothing_due}
 
 one_kind : (c : PlainColumn) → IsPlainDomain c.domain → All (λ c. IsPlainDomain c.domain) (c ∷ [])
 one_kind c kind = All-cons (λ c. IsPlainDomain c.domain) c [] kind (All-nil (λ c. IsPlainDomain c.domain))
@@ -82,6 +84,40 @@ none_settled (c ∷ columns) spans kinds none =
     let homed = has_its_home c (All-head (λ c. IsPlainDomain c.domain) c columns kinds) here in
     ap (λ cs. settled c (take (length (due_of c)) spans) ∷ cs) (none_settled columns (drop (length (due_of c)) spans) (All-tail (λ c. IsPlainDomain c.domain) c columns kinds) later)
     ∙ ap (λ (b : Bool). cond b c (let given : PlainColumn = record { domain = c.domain; values = c.values; home = home_at c.domain (take (length (due_of c)) spans) } in given) ∷ columns) homed
+
+-- a table all of whose plain columns have a home is settled as it is
+pub homed_stays : (t : StoredTable) (spans : List Span) → HasHomes t → HasAllHomes t → IsSettledTable t spans t
+homed_stays t spans shaped homed = record {
+  schema = refl;
+  rows = refl;
+  shaped = shaped;
+  plain = sym (none_settled (plain_columns t) spans (kinds_from (column_homes t.homes) (heading_of t.schema) 0 t.rows) (ap length (nothing_due (plain_columns t) homed)));
+}
+
+pub homed_settles : (t : StoredTable) (spans : List Span) → HasHomes t → HasAllHomes t → SettlesTable t spans spans t
+homed_settles t spans shaped homed = record {
+  rest_is = sym (ap (λ bs. drop (length bs) spans) (nothing_due (plain_columns t) homed));
+  settled = homed_stays t spans shaped homed;
+}
+
+-- and so are several
+all_stay : (ts : List StoredTable) (spans : List Span) → All HasHomes ts → All HasAllHomes ts → InTurn table_count IsSettledTable ts spans ts
+all_stay [] spans shaped homed = tt
+all_stay (t ∷ ts) spans shaped homed =
+    (homed_stays t spans (All-head HasHomes t ts shaped) (All-head HasAllHomes t ts homed), all_stay ts (drop (table_count t) spans) (All-tail HasHomes t ts shaped) (All-tail HasAllHomes t ts homed))
+
+none_counted : (ts : List StoredTable) → All HasAllHomes ts → counted table_count ts ≡ 0
+none_counted [] homed = refl
+none_counted (t ∷ ts) homed =
+    let one = ap length (nothing_due (plain_columns t) (All-head HasAllHomes t ts homed)) in
+    let rest = none_counted ts (All-tail HasAllHomes t ts homed) in
+    omega (arith, one, rest)
+
+pub all_settle : (ts : List StoredTable) (spans : List Span) → All HasHomes ts → All HasAllHomes ts → SettlesTables ts spans spans ts
+all_settle ts spans shaped homed = record {
+  rest_is = sym (ap (λ n. drop n spans) (none_counted ts homed));
+  settled = all_stay ts spans shaped homed;
+}
 
 -- a table that is due no blocks is settled as it is
 pub table_stays : (t : StoredTable) (spans rest : List Span) → HasHomes t → table_count t ≤ length spans → rest ≡ drop (table_count t) spans → length rest ≡ length spans → SettlesTable t spans rest t

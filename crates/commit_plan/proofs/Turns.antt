@@ -53,3 +53,31 @@ settles_more count R xs ys new k x y spans rest next p at done one is =
 pub settles_all : {X : Type 0} (count : X → ℕ) (R : X → List Span → X → Type 0) (xs ys : List X) (k : ℕ) (spans rest : List Span) → length xs ≤ k
     → Settles (counted count) (InTurn count R) (take k xs) spans rest ys → Settles (counted count) (InTurn count R) xs spans rest ys
 settles_all count R xs ys k spans rest p h = subst (λ l. Settles (counted count) (InTurn count R) l spans rest ys) (take_all k xs p) h
+
+take-nil : {X : Type 0} (m : ℕ) → take {A = X} m [] ≡ []
+take-nil zero = refl
+take-nil (suc m) = refl
+
+take-plus : {X : Type 0} (k n : ℕ) (xs : List X) → take (k + n) xs ≡ take k xs ++ take n (drop k xs)
+take-plus zero n xs = ap (λ m. take m xs) (let e : zero + n ≡ n = omega arith in e)
+take-plus (suc k) n [] = take-nil (suc k + n) ∙ sym (take-nil n)
+take-plus (suc k) n (x ∷ xs) = ap (λ m. take m (x ∷ xs)) (let e : suc k + n ≡ suc (k + n) = omega arith in e) ∙ ap (λ ys. x ∷ ys) (take-plus k n xs)
+
+-- some more are settled behind others
+turns_behind : {X : Type 0} (count : X → ℕ) (R : X → List Span → X → Type 0) (xs more ys mores : List X) (spans : List Span) → InTurn count R xs spans ys → InTurn count R more (drop (counted count xs) spans) mores → InTurn count R (xs ++ more) spans (ys ++ mores)
+turns_behind count R [] more [] mores spans h last = last
+turns_behind count R [] more (z ∷ ys) mores spans h last = absurd h
+turns_behind count R (w ∷ xs) more [] mores spans h last = absurd h
+turns_behind count R (w ∷ xs) more (z ∷ ys) mores spans h last =
+    (h.0, turns_behind count R xs more ys mores (drop (count w) spans) h.1 (subst (λ ss. InTurn count R more ss mores) (sym (drop-drop (counted count xs) (count w) spans)) last))
+
+pub settles_several : {X : Type 0} (count : X → ℕ) (R : X → List Span → X → Type 0) (xs ys mores new : List X) (k n : ℕ) (spans rest next : List Span)
+    → Settles (counted count) (InTurn count R) (take k xs) spans rest ys → Settles (counted count) (InTurn count R) (take n (drop k xs)) rest next mores → new ≡ ys ++ mores → Settles (counted count) (InTurn count R) (take (k + n) xs) spans next new
+settles_several count R xs ys mores new k n spans rest next done more is =
+    let both : take (k + n) xs ≡ take k xs ++ take n (drop k xs) = take-plus k n xs in
+    let sum : counted count (take (k + n) xs) ≡ counted count (take k xs) + counted count (take n (drop k xs)) = ap (counted count) both ∙ counted-append count (take k xs) (take n (drop k xs)) in
+    record {
+      rest_is = more.rest_is ∙ ap (drop (counted count (take n (drop k xs)))) done.rest_is ∙ drop-drop (counted count (take n (drop k xs))) (counted count (take k xs)) spans ∙ ap (λ m. drop m spans) (sym sum);
+      settled = subst (λ l. InTurn count R l spans new) (sym both) (subst (InTurn count R (take k xs ++ take n (drop k xs)) spans) (sym is)
+          (turns_behind count R (take k xs) (take n (drop k xs)) ys mores spans done.settled (subst (λ ss. InTurn count R (take n (drop k xs)) ss mores) done.rest_is more.settled)));
+    }

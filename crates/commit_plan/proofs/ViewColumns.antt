@@ -21,7 +21,7 @@ use Rattle.recovery.specs.Commits.{plain_views}
 use Rattle.commit_plan.specs.Following.{blocks_due, due_of}
 use Rattle.commit_plan.specs.declared.leaves.Leaf.{Leaf}
 use Rattle.commit_plan.specs.declared.leaves.Leaf.TheVariants.{Ints, Blobs}
-use Rattle.commit_plan.specs.Leaves.{AreLeaves, Gains, IsLeafOf, kept_in}
+use Rattle.commit_plan.specs.Leaves.{AreLeaves, Gains, homes_in}
 use Rattle.commit_plan.specs.Placing.{has_bytes}
 use Rattle.commit_plan.specs.Plain.{plain_tables}
 use Rattle.commit_plan.specs.Settling.{column_due, stored_blocks}
@@ -38,41 +38,16 @@ leaves_together views tables k leaves same p h =
     let found = subst (λ cs. Gains cs [] leaves) all h in
     subst (AreLeaves (plain_views views)) (sym found.added) found.are
 
--- The leaf of a plain column.
-leaf_kind : (n : ℕ) (e : Domain) (leaf : Leaf) → IsColumnOf n e (kept_in leaf) → IsPlainDomain e
-leaf_kind n e (Ints c) h = numbers_kind n e c.now h
-leaf_kind n e (Blobs c) h = strings_kind n e c.now h
-
-leaf_due : (c : PlainColumn) (leaf : Leaf) → IsLeafOf c leaf → due_of c ≡ column_due (kept_in leaf)
-leaf_due c leaf is =
-    let own : PlainColumn = record { domain = c.domain; values = column_values c.domain (kept_in leaf); home = home_of (kept_in leaf) } in
-    let same : own ≡ c =
-    ap (λ vs. let p : PlainColumn = record { domain = c.domain; values = vs; home = home_of (kept_in leaf) } in p) is.holds
-    ∙ ap (λ h. let p : PlainColumn = record { domain = c.domain; values = c.values; home = h } in p) is.home_is in
-    sym (one_due c) ∙ ap (λ p. blocks_due (p ∷ [])) (sym same) ∙ ap blocks_due (sym (plain_one (length c.values) c.domain (kept_in leaf) is.whole (leaf_kind (length c.values) c.domain leaf is.whole)))
-    ∙ due_is (length c.values) c.domain (kept_in leaf) is.whole
-
-abbrev pub leaf_blocks : Leaf → List (List ℕ)
-leaf_blocks leaf = column_due (kept_in leaf)
-
-pub leaves_due : (columns : List PlainColumn) (leaves : List Leaf) → AreLeaves columns leaves → flat_map leaf_blocks leaves ≡ blocks_due columns
-leaves_due [] [] h = refl
-leaves_due [] (l ∷ leaves) h = absurd h
-leaves_due (c ∷ columns) [] h = absurd h
-leaves_due (c ∷ columns) (l ∷ leaves) h = ap (λ bs. bs ++ flat_map leaf_blocks leaves) (sym (leaf_due c l h.0)) ∙ ap (λ bs. due_of c ++ bs) (leaves_due columns leaves h.1)
-
--- and the spans of their homes
+-- What leaves are due, and the spans of their homes that have bytes.
 abbrev pub leaf_spans : Leaf → List Span
-leaf_spans leaf = filter has_bytes (blocks_of (home_of (kept_in leaf)))
+leaf_spans leaf = filter has_bytes (homes_in leaf)
+
+spans_filtered : (leaves : List Leaf) → flat_map leaf_spans leaves ≡ filter has_bytes (flat_map homes_in leaves)
+spans_filtered [] = refl
+spans_filtered (l ∷ leaves) = ap (λ ss. leaf_spans l ++ ss) (spans_filtered leaves) ∙ sym (filter-append has_bytes (homes_in l) (flat_map homes_in leaves))
 
 pub leaves_used : (columns : List PlainColumn) (leaves : List Leaf) → AreLeaves columns leaves → flat_map leaf_spans leaves ≡ filter has_bytes (blocks columns)
-leaves_used [] [] h = refl
-leaves_used [] (l ∷ leaves) h = absurd h
-leaves_used (c ∷ columns) [] h = absurd h
-leaves_used (c ∷ columns) (l ∷ leaves) h =
-    ap (λ x. filter has_bytes (blocks_of x) ++ flat_map leaf_spans leaves) h.0.home_is
-    ∙ ap (λ ss. filter has_bytes (blocks_of c.home) ++ ss) (leaves_used columns leaves h.1)
-    ∙ sym (filter-append has_bytes (blocks_of c.home) (blocks columns))
+leaves_used columns leaves are = spans_filtered leaves ∙ ap (filter has_bytes) are.homes
 
 -- One leaf more.
 pub flat_more : {X : Type 0} (f : Leaf → List X) (leaves : List Leaf) (k : ℕ) (leaf : Leaf) → k < length leaves → leaf ≡ get_or leaves k leaf → flat_map f (take (k + 1) leaves) ≡ flat_map f (take k leaves) ++ f leaf

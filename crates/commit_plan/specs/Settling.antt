@@ -82,6 +82,12 @@ SettlesColumns old spans rest new = Settles (counted column_count) AreSettledCol
 abbrev pub SettlesTables : List StoredTable → List Span → List Span → List StoredTable → Type 0
 SettlesTables old spans rest new = Settles (counted table_count) AreSettledTables old spans rest new
 
+-- tables that were settled behind others
+pub record SettlesMore (old : List StoredTable) (spans rest : List Span) (settled_before settled_after : List StoredTable) : Type 0 where
+  pub more : List StoredTable
+  pub added : settled_after ≡ settled_before ++ more
+  pub settles : SettlesTables old spans rest more
+
 -- a column of texts or byte strings after it was given the home whose blocks have the first spans
 pub record IsGivenHome (old : Strings) (spans rest : List Span) (new : Strings) : Type 0 where
   pub home : BytesHome

@@ -3,7 +3,7 @@ ghost use Rattle.std.specs.Prelude.{◌≡◌, ◌<◌, ◌++◌, ◌∷◌, [],
 ghost use Rattle.tables.specs.Columns.{integers, texts};
 ghost use Rattle.bytes_col.specs.Strings.{long_values, string_blocks};
 ghost use Rattle.commit_plan.specs.Following.{blocks_due};
-ghost use Rattle.commit_plan.specs.Leaves.{kept_in};
+ghost use Rattle.commit_plan.specs.Leaves.{due_in};
 ghost use Rattle.commit_plan.specs.Payloads.{payload_bytes};
 ghost use Rattle.commit_plan.specs.Settling.{column_due};
 ghost use Rattle.recovery.specs.Commits.{plain_views};
@@ -35,11 +35,12 @@ pub(crate) fn payloads_of(alloc: Global, views: &Views) -> Result<Vec<Payload>, 
 
 /// Appends what a leaf is due.
 fn push_due(alloc: Global, leaf: Leaf<'_>, payloads: &mut Vec<Payload>) -> Result<(), Memory>
-    ensures { OnOk result (map payload_bytes payloads.new.items ≡ map payload_bytes payloads.old.items ++ column_due (kept_in leaf.entry)) }
+    ensures { OnOk result (map payload_bytes payloads.new.items ≡ map payload_bytes payloads.old.items ++ due_in leaf.entry) }
 {
     match leaf {
         Leaf::Ints(column) => push_ints(column, payloads),
         Leaf::Blobs(column) => push_blobs(alloc, column, payloads),
+        Leaf::Placed(_blocks) => Ok(()),
     }
 }
 

@@ -83,7 +83,8 @@ fn tables_bodies(alloc: Global, tables: &Tables) -> Result<DirBodies, Memory>
 {
     let mut bodies = DirBodies::new(alloc);
     'rows: for row in 0..tables.len() {
-        bodies.push(table_body(alloc, tables.get(row).table())?)?;
+        let inner = tables.get(row).to_shared()?;
+        bodies.push(table_body(alloc, inner.table())?)?;
     }
     Ok(bodies)
 }

@@ -10,9 +10,9 @@ ghost use Rattle.commit_plan.specs.Plain.{plain_of, plain_tables};
 
 use bytes_col::BytesCol;
 use int_col::IntCol;
-use mk_value::Memory;
+use mk_value::{Memory, Span};
 use std::alloc::Global;
-use tables::{Col, Table, Tables};
+use tables::{Col, Nested, Table, Tables};
 use view_store::Views;
 
 /// A leaf column, lent.
@@ -22,6 +22,8 @@ pub(crate) enum Leaf<'a> {
     Ints(&'a IntCol),
     /// Texts or byte strings.
     Blobs(&'a BytesCol),
+    /// The columns of a table that has no columns of its own, each of which has a home of these blocks.
+    Placed(&'a [Span]),
 }
 
 /// The leaf columns of views, nested ones too, in the order of a directory.
@@ -69,9 +71,20 @@ fn tables_leaves<'a>(tables: &'a Tables, leaves: &mut Vec<Leaf<'a>>) -> Result<(
     ensures { OnOk result (Gains (plain_tables tables.now) leaves.old.items leaves.new.items) }
 {
     'rows: for row in 0..tables.len() {
-        table_leaves(tables.get(row).table(), leaves)?;
+        nested_leaves(tables.get(row), leaves)?;
     }
     Ok(())
+}
+
+/// Appends the leaf columns of a table in a row.
+#[cycle(leaves)]
+fn nested_leaves<'a>(table: Nested<'a>, leaves: &mut Vec<Leaf<'a>>) -> Result<(), Memory>
+    ensures { OnOk result (Gains (plain_columns table.entry) leaves.old.items leaves.new.items) }
+{
+    match table.own() {
+        Ok(own) => table_leaves(own.table(), leaves),
+        Err(blocks) => push_leaf(leaves, Leaf::Placed(blocks)),
+    }
 }
 
 /// Appends a leaf column.

@@ -18,7 +18,7 @@ use free_space::extent_len;
 use int_col::IntCol;
 use mk_value::Span;
 use recovery::Kept;
-use tables::{Col, Table, Tables};
+use tables::{Col, Nested, Table, Tables};
 use view_store::Views;
 
 /// What blocks take up: the sum of their extents in bytes, and how many of them have bytes. Each stands still at 2^64 - 1.
@@ -80,7 +80,18 @@ fn tables_usage(tables: &Tables, usage: &mut Usage)
     ensures { Adds (blocks (plain_tables tables.now)) usage.old usage.new }
 {
     'rows: for row in 0..tables.len() {
-        table_usage(tables.get(row).table(), usage);
+        nested_usage(tables.get(row), usage);
+    }
+}
+
+/// Adds the blocks of a table in a row.
+#[cycle(measuring)]
+fn nested_usage(table: Nested<'_>, usage: &mut Usage)
+    ensures { Adds (blocks (plain_columns table.entry)) usage.old usage.new }
+{
+    match table.own() {
+        Ok(own) => table_usage(own.table(), usage),
+        Err(blocks) => usage.add_all(blocks),
     }
 }
 

@@ -1,16 +1,17 @@
 //! Tables all of whose columns have a home.
-ghost use Rattle.std.specs.Prelude.{◌≡◌, ◌≤◌, Some, None, length, IfOk};
+ghost use Rattle.std.specs.Prelude.{◌≡◌, ◌-◌, ◌<◌, ◌≤◌, Some, None, length, take, drop, slice_index_or, IfOk};
 ghost use Rattle.bytes_col.specs.Strings.{string_blocks};
 ghost use Rattle.tables.specs.Columns.{integers, texts};
+ghost use Rattle.tables.specs.Pools.{no_table};
 ghost use Rattle.tables.specs.Stored.{stored_of};
-ghost use Rattle.commit_plan.specs.Settling.{IsGivenHome, SettlesColumn, SettlesColumns, SettlesTable, SettlesTables, column_count, counted, table_count};
+ghost use Rattle.commit_plan.specs.Settling.{IsGivenHome, SettlesColumn, SettlesColumns, SettlesMore, SettlesTable, SettlesTables, column_count, counted, table_count};
 
 use crate::places::Places;
 use bytes_col::{BytesCol, BytesHome};
 use int_col::IntCol;
 use mk_value::{Memory, Span, Spans};
 use std::alloc::Global;
-use tables::{Col, Cols, Shared, Tables, share};
+use tables::{Col, Cols, Nested, Shared, Tables, TablesBuilder, share};
 
 /// The table with the next spans as the homes of its columns that have none. The values and the schema are shared, and a table of which no
 /// column is without a home is shared as it is.
@@ -75,11 +76,53 @@ fn settle_tables(alloc: Global, tables: &Tables, places: &mut Places<'_>) -> Res
     requires { counted table_count tables.now ≤ length places.old }
     ensures { IfOk result (SettlesTables tables.now places.old places.new) }
 {
-    let mut settled = Tables::new(alloc);
-    'rows: for row in 0..tables.len() {
-        settled.push(settle_table(alloc, tables.get(row), places)?)?;
+    let mut settled = TablesBuilder::new(alloc);
+    let mut row = 0;
+    'rows: while row < tables.len() {
+        row = settle_next(alloc, tables, row, places, &mut settled)?;
     }
-    Ok(settled)
+    settled.finish()
+}
+
+/// Settles the table at a row, and those that are kept together with it, and gives the row behind them.
+#[cycle(settle)]
+fn settle_next(
+    alloc: Global,
+    tables: &Tables,
+    row: usize,
+    places: &mut Places<'_>,
+    settled: &mut TablesBuilder,
+) -> Result<usize, Memory>
+    requires row_in { row < length tables.now }
+    requires enough { table_count (slice_index_or tables.now row no_table) ≤ length places.old }
+    ensures more { IfOk result (λ next. row < next) }
+    ensures within { IfOk result (λ next. next ≤ length tables.now) }
+    ensures settled { IfOk result (λ next. SettlesMore (take (next - row) (drop row tables.now)) places.old places.new settled.old settled.new) }
+{
+    // Their number bounds every row.
+    let _size = tables.len();
+    let together = settled.push_pool(tables, row)?;
+    if together > 0 {
+        return Ok(row + together);
+    }
+    settled.push(settle_nested(alloc, tables.get(row), places)?)?;
+    Ok(row + 1)
+}
+
+/// The table in a row. One that has no columns of its own has nothing due.
+#[cycle(settle)]
+fn settle_nested(
+    alloc: Global,
+    table: Nested<'_>,
+    places: &mut Places<'_>,
+) -> Result<Shared, Memory>
+    requires { table_count table ≤ length places.old }
+    ensures { IfOk result (SettlesTable table.entry places.old places.new) }
+{
+    match table.own() {
+        Ok(own) => settle_table(alloc, own, places),
+        Err(_) => table.to_shared(),
+    }
 }
 
 fn settle_ints(column: &IntCol, places: &mut Places<'_>) -> Result<IntCol, Memory>

@@ -7,7 +7,7 @@ ghost use Rattle.free_space.specs.Extents.{IsAligned};
 ghost use Rattle.recovery.specs.Commits.{IsCommit, plain_views};
 ghost use Rattle.recovery.specs.Keeping.{commit_in};
 ghost use Rattle.commit_plan.specs.Following.{commit_spans};
-ghost use Rattle.commit_plan.specs.Leaves.{kept_in};
+ghost use Rattle.commit_plan.specs.Leaves.{homes_in};
 ghost use Rattle.commit_plan.specs.Placing.{LeaveSame, has_bytes};
 
 use crate::leaves::{Leaf, leaves_of};
@@ -53,11 +53,12 @@ fn used_spans(alloc: Global, views: &Views, dir: Span) -> Result<Vec<Span>, Memo
 
 /// Appends the spans of a leaf's home, if it has one.
 fn push_home(leaf: Leaf<'_>, spans: &mut Vec<Span>) -> Result<(), Memory>
-    ensures { OnOk result (spans.new.items ≡ spans.old.items ++ filter has_bytes (blocks_of (home_of (kept_in leaf.entry)))) }
+    ensures { OnOk result (spans.new.items ≡ spans.old.items ++ filter has_bytes (homes_in leaf.entry)) }
 {
     match leaf {
         Leaf::Ints(column) => push_block(column, spans),
         Leaf::Blobs(column) => push_blocks(column, spans),
+        Leaf::Placed(blocks) => push_spans(blocks, spans),
     }
 }
 

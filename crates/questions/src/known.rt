@@ -193,7 +193,7 @@ impl<'a> Known<'a> {
         ensures err { IfErr result (λ e. (e ≡ name_error.Memory) ⊎ (view_at (stored self.now.views self.now.snapshots) path.now ≡ Err e)) }
     {
         match self.table_of(path.name()) {
-            Some(table) => Ok(inner_table(table, path.steps())?.same()?),
+            Some(table) => Ok(inner_table(table, path.steps())?.to_shared()?),
             None => Err(NameError::NoName),
         }
     }

@@ -5,14 +5,14 @@ ghost use Rattle.questions.specs.Kept.{table_of};
 
 use eval::NameError;
 use mk_value::{Kind, Schema, Step, TableRead};
-use tables::Shared;
+use tables::{Nested, Shared};
 
 /// The table to which the steps lead. All properties are looked at before a row is.
-pub(crate) fn inner_table<'a>(table: &'a Shared, steps: &[Step]) -> Result<&'a Shared, NameError>
-    ensures { MatchResult result (λ found. table_at steps.now (table_of table.now) ≡ Ok (table_of found.now)) (λ e. table_at steps.now (table_of table.now) ≡ Err e) }
+pub(crate) fn inner_table<'a>(table: &'a Shared, steps: &[Step]) -> Result<Nested<'a>, NameError>
+    ensures { MatchResult result (λ found. table_at steps.now (table_of table.now) ≡ Ok (table_of found)) (λ e. table_at steps.now (table_of table.now) ≡ Err e) }
 {
     let _schema = inner_schema(table.schema(), steps)?;
-    find_table(table, steps)
+    find_table(Nested::of(table), steps)
 }
 
 /// The schema to which the steps lead.
@@ -33,10 +33,10 @@ fn inner_schema<'a>(schema: &'a Schema, steps: &[Step]) -> Result<&'a Schema, Na
 }
 
 /// The table to which the steps lead, all of which name views.
-fn find_table<'a>(table: &'a Shared, steps: &[Step]) -> Result<&'a Shared, NameError>
-    requires { IsOk (schema_at steps.now table.now.schema) }
-    ensures rows { MatchResult result (λ found. rows_at steps.now table.now.schema table.now.rows ≡ Ok found.now.rows) (λ e. rows_at steps.now table.now.schema table.now.rows ≡ Err e) }
-    ensures schema { MatchResult result (λ found. schema_at steps.now table.now.schema ≡ Ok found.now.schema) (λ _. Unit {0}) }
+fn find_table<'a>(table: Nested<'a>, steps: &[Step]) -> Result<Nested<'a>, NameError>
+    requires { IsOk (schema_at steps.now table.schema) }
+    ensures rows { MatchResult result (λ found. rows_at steps.now table.entry.schema table.entry.rows ≡ Ok found.rows) (λ e. rows_at steps.now table.entry.schema table.entry.rows ≡ Err e) }
+    ensures schema { MatchResult result (λ found. schema_at steps.now table.entry.schema ≡ Ok found.schema) (λ _. Unit {0}) }
 {
     let Some((step, rest)) = steps.split_first() else {
         return Ok(table);
@@ -47,5 +47,5 @@ fn find_table<'a>(table: &'a Shared, steps: &[Step]) -> Result<&'a Shared, NameE
         return Err(NameError::OutOfRange(size as u64));
     }
     let col = table.schema().find(step.prop.as_str()).unwrap();
-    find_table(table.table().inner(row, col), rest)
+    find_table(table.inner(row, col), rest)
 }

@@ -21,7 +21,7 @@ use host_io::Disk;
 use mk_value::{Kind, Schema, Span};
 use segments::Shared;
 use std::alloc::Global;
-use tables::{Col, Cols, Table, Tables, share};
+use tables::{Col, Cols, Table, Tables, TablesBuilder, share};
 
 /// What a directory has of a width and a span, of the count of memos, and of a memo, in bytes.
 const NUMBERS_LEN: u64 = 17;
@@ -243,14 +243,14 @@ fn read_each<D: Disk>(
     ensures unreadable { D.tells → IfErr result
         (NamesUnreadable (D.outside disk.old).now.disk.seen (plain_bodies (bodies_from bodies.now) (heading_of schema.now) at)) }
 {
-    let mut tables = Tables::new(alloc);
+    let mut tables = TablesBuilder::new(alloc);
     let mut next = at;
     for body in bodies.as_slice() {
         let (table, behind) = read_table(alloc, disk, schema, body, next + COUNT_LEN)?;
         tables.push(share(alloc, table)?)?;
         next = behind;
     }
-    Ok((tables, next))
+    Ok((tables.finish()?, next))
 }
 
 /// Reads a table, of which the directory has the first column at this offset. It has the schema together with others.

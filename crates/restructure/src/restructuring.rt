@@ -134,7 +134,8 @@ fn restructure_views(alloc: Global, old: &Tables, new: &Schema) -> Result<Tables
     let schema = segments::Shared::of(alloc, new.copy()?)?;
     let mut tables = Tables::new(alloc);
     for at in 0..old.len() {
-        tables.push(restructure_inner(alloc, old.get(at), &schema)?)?;
+        let inner = old.get(at).to_shared()?;
+        tables.push(restructure_inner(alloc, &inner, &schema)?)?;
     }
     Ok(tables)
 }

@@ -3,6 +3,8 @@ ghost use Rattle.std.specs.Prelude.{◌≡◌, ◌+◌, ◌^◌, ◌<◌, length
 ghost use Rattle.std.specs.List.{flat_map};
 ghost use Rattle.std.specs.Result.{OkIff};
 ghost use Rattle.mk_value.specs.Data.{cell};
+ghost use Rattle.mk_value.specs.Kinds.{domain_of};
+ghost use Rattle.mk_value.specs.Tables.{domain_at};
 ghost use Rattle.stream_codec.specs.Stream.{spelled, spelled_rows, spelled_value, spelled_view};
 ghost use Rattle.struct_text.specs.Spelling.{spelling};
 ghost use Rattle.tables.specs.Homes.{column_of};
@@ -12,7 +14,8 @@ use crate::saving::SIGNATURE;
 use mk_value::{Kind, Lent, Memory, Name, Schema, TableRead, Text};
 use std::alloc::Global;
 use struct_text::print;
-use view_store::{Root, Table};
+use tables::Nested;
+use view_store::Root;
 
 /// The number of bytes of the stream of the views of a root.
 ///
@@ -28,7 +31,7 @@ pub(crate) fn stream_length(alloc: Global, root: &Root) -> Result<usize, Memory>
     let tables = root.tables();
     let mut len = SIGNATURE.len() + 4;
     for at in 0..names.len() {
-        let view = view_length(alloc, &names[at], tables[at].table())?;
+        let view = view_length(alloc, &names[at], &Nested::of(&tables[at]))?;
         len = sum(len, view)?;
     }
     Ok(len)
@@ -51,7 +54,7 @@ fn sum(one: usize, two: usize) -> Result<usize, Memory>
 }
 
 /// The number of bytes of a view.
-fn view_length(alloc: Global, name: &Name, table: &Table) -> Result<usize, Memory>
+fn view_length(alloc: Global, name: &Name, table: &Nested<'_>) -> Result<usize, Memory>
     ensures { IfOk result (λ len. len ≡ length (spelled_view (record { name = name.now; table = table.now }))) }
 {
     let text = structure_text(alloc, name, table.schema())?;
@@ -61,7 +64,7 @@ fn view_length(alloc: Global, name: &Name, table: &Table) -> Result<usize, Memor
 
 /// The number of bytes of rows behind their number.
 #[cycle(length)]
-fn rows_length(table: &Table) -> Result<usize, Memory>
+fn rows_length(table: &Nested<'_>) -> Result<usize, Memory>
     ensures { let len = length (spelled_rows table.now.rows) in OkIff result (len < 2 ^ 64) len }
 {
     // That there are so many says that they are of its schema.
@@ -76,21 +79,30 @@ fn rows_length(table: &Table) -> Result<usize, Memory>
 
 /// The number of bytes of the values of a column.
 #[cycle(length)]
-fn column_length(table: &Table, col: usize) -> Result<usize, Memory>
+fn column_length(table: &Nested<'_>, col: usize) -> Result<usize, Memory>
     requires whole { IsTable table.now }
     requires col_in { col < length table.now.schema }
     ensures { let len = length (flat_map spelled_value (column_of table.now.rows col)) in OkIff result (len < 2 ^ 64) len }
 {
-    match table.column(col).kind {
+    match kind_at(table.schema(), col) {
         Kind::I => Ok(4 * table.len()),
         Kind::L => Ok(8 * table.len()),
         Kind::S | Kind::B | Kind::V(_) => values_length(table, col),
     }
 }
 
+/// The kind of a property.
+fn kind_at(schema: &Schema, col: usize) -> &Kind
+    requires { col < length schema.now }
+    ensures { domain_at schema.now col ≡ domain_of result.now }
+{
+    let prop = &schema.as_slice()[col];
+    &prop.kind
+}
+
 /// The same, value by value.
 #[cycle(length)]
-fn values_length(table: &Table, col: usize) -> Result<usize, Memory>
+fn values_length(table: &Nested<'_>, col: usize) -> Result<usize, Memory>
     requires whole { IsTable table.now }
     requires col_in { col < length table.now.schema }
     ensures { let len = length (flat_map spelled_value (column_of table.now.rows col)) in OkIff result (len < 2 ^ 64) len }
@@ -105,7 +117,7 @@ fn values_length(table: &Table, col: usize) -> Result<usize, Memory>
 
 /// The number of bytes of the value at a row and a column.
 #[cycle(length)]
-fn value_length(table: &Table, row: usize, col: usize) -> Result<usize, Memory>
+fn value_length(table: &Nested<'_>, row: usize, col: usize) -> Result<usize, Memory>
     requires whole { IsTable table.now }
     requires row_in { row < length table.now.rows }
     requires col_in { col < length table.now.schema }
@@ -116,6 +128,6 @@ fn value_length(table: &Table, row: usize, col: usize) -> Result<usize, Memory>
         Lent::L(_) => Ok(8),
         Lent::S(text) => sum(4, text.len()),
         Lent::B(bytes) => sum(4, bytes.len()),
-        Lent::V(_) => rows_length(table.inner(row, col).table()),
+        Lent::V(_) => rows_length(&table.inner(row, col)),
     }
 }

@@ -14,7 +14,8 @@ use crate::lengths::{stream_length, structure_text};
 use byteorder::{ByteOrder, LittleEndian};
 use mk_value::{Bytes, Lent, Memory, Name, TableRead};
 use std::alloc::Global;
-use view_store::{Root, Table};
+use tables::Nested;
+use view_store::Root;
 
 /// What each stream begins with.
 pub(crate) const SIGNATURE: [u8; 8] = [b'M', b'K', b'S', b'T', 1, 0, 0, 0];
@@ -43,13 +44,13 @@ fn write_views(alloc: Global, out: &mut Bytes, root: &Root) -> Result<(), Memory
     let tables = root.tables();
     write_count(out, names.len())?;
     for at in 0..names.len() {
-        write_view(alloc, out, &names[at], tables[at].table())?;
+        write_view(alloc, out, &names[at], &Nested::of(&tables[at]))?;
     }
     Ok(())
 }
 
 /// A view: its structure text behind its length, and its rows behind their number.
-fn write_view(alloc: Global, out: &mut Bytes, name: &Name, table: &Table) -> Result<(), Memory>
+fn write_view(alloc: Global, out: &mut Bytes, name: &Name, table: &Nested<'_>) -> Result<(), Memory>
     requires { length (spelling name.now table.now.schema) ≤ max_structure }
     ensures { OnOk result (out.new.bytes ≡ out.old.bytes ++ spelled_view (record { name = name.now; table = table.now })) }
 {
@@ -60,7 +61,7 @@ fn write_view(alloc: Global, out: &mut Bytes, name: &Name, table: &Table) -> Res
 
 /// The rows of a table behind their number.
 #[cycle(write)]
-fn write_rows(out: &mut Bytes, table: &Table) -> Result<(), Memory>
+fn write_rows(out: &mut Bytes, table: &Nested<'_>) -> Result<(), Memory>
     ensures { Writes result out.old (spelled_rows table.now.rows) out.new }
 {
     write_count(out, table.len())?;
@@ -72,7 +73,7 @@ fn write_rows(out: &mut Bytes, table: &Table) -> Result<(), Memory>
 
 /// The values of a row.
 #[cycle(write)]
-fn write_row(out: &mut Bytes, table: &Table, row: usize) -> Result<(), Memory>
+fn write_row(out: &mut Bytes, table: &Nested<'_>, row: usize) -> Result<(), Memory>
     requires whole { IsTable table.now }
     requires row_in { row < length table.now.rows }
     ensures { Writes result out.old (flat_map spelled_value (slice_index_or table.now.rows row [])) out.new }
@@ -85,7 +86,7 @@ fn write_row(out: &mut Bytes, table: &Table, row: usize) -> Result<(), Memory>
 
 /// The value at a row and a column.
 #[cycle(write)]
-fn write_value(out: &mut Bytes, table: &Table, row: usize, col: usize) -> Result<(), Memory>
+fn write_value(out: &mut Bytes, table: &Nested<'_>, row: usize, col: usize) -> Result<(), Memory>
     requires whole { IsTable table.now }
     requires row_in { row < length table.now.rows }
     requires col_in { col < length table.now.schema }
@@ -96,7 +97,7 @@ fn write_value(out: &mut Bytes, table: &Table, row: usize, col: usize) -> Result
         Lent::L(number) => write_long(out, number),
         Lent::S(text) => write_counted(out, text),
         Lent::B(bytes) => write_counted(out, bytes),
-        Lent::V(_) => write_rows(out, table.inner(row, col).table()),
+        Lent::V(_) => write_rows(out, &table.inner(row, col)),
     }
 }
 

@@ -9,7 +9,7 @@ use Rattle.segments.specs.Segments.{IsPlace}
 use Rattle.segments.specs.Joined.{joined, counts_of}
 use Rattle.segments.proofs.Counts.{sum-cons}
 use Rattle.segments.proofs.Lists.{take-split, take-append-more}
-use Rattle.segments.proofs.Joined.{joined-append, length-joined, length-joined-take, length-counts, get_or-counts, counts-spliced, part_within, read_place, same_counts, set_place, within_part}
+use Rattle.segments.proofs.Joined.{joined-append, length-joined, length-joined-take, length-counts, count_is, get_or-counts, counts-spliced, part_within, read_place, same_counts, set_place, within_part}
 use Rattle.segments.proofs.Counted.{segments_spliced}
 use Rattle.segments.proofs.Grouped.{length_replaced, parts_stay}
 use Rattle.segments.proofs.Last.{joined-last, counts-last}
@@ -98,6 +98,10 @@ few_front cs none n empty all few =
     ∙ ap (λ ns. take (n - 1) (counts_of cs) ++ ns) (drop_all n (counts_of cs) (omega (arith, length-counts cs)))
     ∙ append-nil (take (n - 1) (counts_of cs)) in
     omega (arith, ap sum front, length-joined-take (n - 1) cs, part_within (n - 1) cs)
+
+-- a fact of the count of each chunk, of the one that is read
+pub count_holds : {X : Type 0} (P : ℕ → Type 0) (cs : List (List X)) (k : ℕ) (s : List X) → k < length cs → s ≡ get_or cs k s → All P (counts_of cs) → P (length s)
+count_holds P cs k s p read all = subst P (count_is cs k s p read) (all k 0 (omega (arith, length-counts cs)))
 
 -- chunks in place of those from a up to b
 pub IsSpine-spliced : (cs fresh : List (List StoredTable)) (counts made new : List ℕ) (a b : ℕ) → IsSpine cs counts → made ≡ counts_of fresh → All (λ n. 0 < n) (counts_of fresh) → All (λ n. n ≤ 1024) (counts_of fresh) → new ≡ take a counts ++ (made ++ drop b counts) → IsSpine (take a cs ++ (fresh ++ drop b cs)) new

@@ -25,7 +25,7 @@ value_at row m = get_or row m (integer (pos 0))
 columns : (t : StoredTable) → HasHomes t → HaveShape t.homes t.schema 0 t.rows
 columns t h = shape_each t.homes t.schema 0 t.rows h
 
-column_shape : (t : StoredTable) → HasHomes t → (m : ℕ) → m < length t.schema → IsHomeOf (get_or t.homes m no_home) (domain_at t.schema m) (column_of t.rows m)
+pub column_shape : (t : StoredTable) → HasHomes t → (m : ℕ) → m < length t.schema → IsHomeOf (get_or t.homes m no_home) (domain_at t.schema m) (column_of t.rows m)
 column_shape t h m p = subst (λ j. IsHomeOf (get_or t.homes m no_home) (domain_at t.schema m) (column_of t.rows j)) (zero-add m) ((columns t h).each m p)
 
 -- a table whose columns have their shape, one by one

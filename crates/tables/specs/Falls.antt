@@ -1,5 +1,6 @@
 -- Each table inside another is smaller, so that going down into them ends.
-use Rattle.std.specs.Prelude.{◌≡◌, ℕ, ◌+◌, ◌*◌, ◌≤◌, List, [], ◌∷◌, ◌++◌, map, All, refl}
+use Rattle.std.specs.Prelude.{◌≡◌, ℕ, ◌+◌, ◌*◌, ◌<◌, ◌≤◌, List, [], ◌∷◌, ◌++◌, length, map, All, refl}
+use Rattle.mk_value.specs.declared.span.Span.{Span}
 use Rattle.std.specs.List.{AllZip}
 use Rattle.std.proofs.Common.{arith, ap, ◌∙◌}
 use Rattle.std.proofs.lemmas.List.Elements.{All-head, All-tail}
@@ -8,22 +9,26 @@ use Rattle.mk_value.specs.Heading.{Domain, Heading, no_attributes, attribute, At
 use Rattle.tables.specs.Tables.{StoredTable}
 use Rattle.tables.specs.Columns.{StoredColumn, integers, texts, views, IsTableOf, IsColumnOf, AreColumnsOf}
 use Rattle.segments.specs.Joined.{joined}
-use Rattle.tables.specs.Sizes.{shared_size, list_size, chunk_size, chunks_size, group_size, groups_size, spine_size, growing_size, tables_size, column_size, columns_size}
+use Rattle.tables.specs.Pools.{IsPool, parts}
+use Rattle.tables.specs.Sizes.{table_size, pool_size, shared_size, list_size, chunk_size, chunks_size, group_size, groups_size, spine_size, growing_size, tables_size, column_size, columns_size}
 use Rattle.tables.specs.Stored.{stored_of}
-use Rattle.tables.specs.Lists.{head_tables, tables_of}
+use Rattle.tables.specs.Lists.{chunk_tables, head_tables, tables_of}
+use Rattle.tables.specs.declared.chunk.ChunkKind.{ChunkKind}
+use Rattle.tables.specs.declared.chunk.ChunkKind.TheVariants.{Listed, Pooled}
 use Rattle.tables.specs.declared.cols.Col.{Col}
 use Rattle.tables.specs.declared.cols.Col.TheVariants.{Ints, Blobs, Views}
 use Rattle.tables.specs.declared.growing.Head.{Head}
 use Rattle.tables.specs.declared.growing.Head.TheVariants.{Empty, Chunks}
 use Rattle.tables.specs.declared.tables.Kind.{Kind}
 use Rattle.tables.specs.declared.tables.Kind.TheVariants.{One, Growing}
-use Rattle.tables.specs.declared.chunk.Chunk.TheDeep.{deep-Chunk, deep-ChunkList, deep-Col, deep-Cols, deep-Group, deep-Groups, deep-Growing, deep-Head, deep-Kind, deep-Shared, deep-Spine, deep-Table, deep-TableList, deep-Tables}
+use Rattle.tables.specs.declared.chunk.Chunk.TheDeep.{deep-Chunk, deep-ChunkKind, deep-ChunkList, deep-Col, deep-Cols, deep-Group, deep-Groups, deep-Growing, deep-Head, deep-Kind, deep-Pool, deep-Shared, deep-Spine, deep-Table, deep-TableList, deep-Tables}
 use Rattle.tables.specs.declared.chunk.Chunk.TheInside as chunk
 use Rattle.tables.specs.declared.cols.Cols.TheInside as cols
 use Rattle.tables.specs.declared.groups.ChunkList.TheInside as chunks
 use Rattle.tables.specs.declared.groups.Group.TheInside as group
 use Rattle.tables.specs.declared.groups.Groups.TheInside as groups
 use Rattle.tables.specs.declared.growing.Growing.TheInside as growing
+use Rattle.tables.specs.declared.pool.Pool.TheInside as pool
 use Rattle.tables.specs.declared.shared.Shared.TheInside as shared
 use Rattle.tables.specs.declared.spine.Spine.TheInside as spine
 use Rattle.tables.specs.declared.table.Table.TheInside as table
@@ -45,6 +50,13 @@ cols_fall a = omega (arith, most-columns a.items.items)
 pub shared_falls : (a : shared.Inside) → deep-Shared a ≤ shared_size a.table.value
 shared_falls a = omega arith
 
+pool_bound : (t : StoredTable) (ends : List ℕ) (blocks : List Span) → 0 < length ends → table_size t + 1 ≤ pool_size (parts t ends blocks)
+pool_bound t [] blocks some = absurd (omega arith)
+pool_bound t (end ∷ ends) blocks some = omega arith
+
+pub pool_falls : (a : pool.Inside) → IsPool a.table a.ends.items a.blocks.items → deep-Pool a ≤ pool_size (parts a.table a.ends.items a.blocks.items)
+pool_falls a h = let bound = pool_bound a.table a.ends.items a.blocks.items h.some in omega (arith, bound)
+
 most-shared : (ts : List StoredTable) → most (λ t. shared_size t + 1) ts ≤ list_size ts
 most-shared [] = omega arith
 most-shared (t ∷ rest) = omega (arith, most-shared rest)
@@ -52,8 +64,16 @@ most-shared (t ∷ rest) = omega (arith, most-shared rest)
 pub list_falls : (a : list.Inside) → deep-TableList a ≤ list_size a.items.items
 list_falls a = omega (arith, most-shared a.items.items)
 
-pub chunk_falls : (a : chunk.Inside) → deep-Chunk a ≤ chunk_size a.list.value
-chunk_falls a = omega arith
+pool_within : (ts : List StoredTable) → pool_size ts ≤ list_size ts
+pool_within [] = omega arith
+pool_within (t ∷ rest) = omega (arith, pool_within rest)
+
+chunk_bound : (k : ChunkKind) → deep-ChunkKind k ≤ chunk_size (chunk_tables k)
+chunk_bound (Listed list) = omega arith
+chunk_bound (Pooled pool) = omega (arith, pool_within pool.value)
+
+pub chunk_falls : (a : chunk.Inside) → deep-Chunk a ≤ chunk_size (chunk_tables a.kind)
+chunk_falls a = omega (arith, chunk_bound a.kind)
 
 most-chunks : (chunks : List (List StoredTable)) → most (λ ts. chunk_size ts + 1) chunks ≤ chunks_size chunks
 most-chunks [] = omega arith

@@ -1,5 +1,6 @@
 pub mod Blocks
 pub mod Build
+pub mod Building
 pub mod Cells
 pub mod Columns
 pub mod Edits
@@ -7,12 +8,15 @@ pub mod Falls
 pub mod HomeCode
 pub mod Homes
 pub mod Lists
+pub mod Nested
+pub mod Pools
 pub mod Prepared
 pub mod Read
 pub mod Rests
 pub mod Rows
 pub mod Shapes
 pub mod Sizes
+pub mod Slices
 pub mod Spine
 pub mod Stored
 pub mod Tables

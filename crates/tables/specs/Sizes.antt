@@ -11,6 +11,10 @@ table_size t = 6 * attributes_weight t.schema + 16
 abbrev pub shared_size : StoredTable → ℕ
 shared_size t = table_size t + 1
 
+-- of the tables of a pool, which have one schema
+abbrev pub pool_size : List StoredTable → ℕ
+pool_size ts = most (λ t. table_size t + 1) ts
+
 -- the size of a list of shared tables
 abbrev pub list_size : List StoredTable → ℕ
 list_size ts = most (λ t. table_size t + 2) ts

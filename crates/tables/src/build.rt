@@ -44,13 +44,13 @@ pub fn empty_table(alloc: Global, schema: &Schema) -> Result<Table, Memory>
     from_rows(alloc, schema.copy()?, &Rows::new(alloc))
 }
 
-/// The table of the rows in a value of a view property, to be shared. It has the schema together with one that stands beside it in the
-/// column, if there is one.
+/// The table of the rows in a value of a view property, to be shared. It has the schema together with one that
+/// stands beside it in the column, if that has the same.
 pub(crate) fn inner_of_rows(
     alloc: Global,
     kind: &Kind,
     rows: &Rows,
-    beside: Option<&Shared>,
+    beside: Option<&segments::Shared<Schema>>,
 ) -> Result<Shared, Memory>
     requires { IsOf (datum_of (Value.V rows.now)) (domain_of kind.now) }
     ensures { IfOk result (IsTableOfRows (domain_of kind.now) rows.now) }
@@ -66,34 +66,21 @@ pub(crate) fn inner_of_rows(
 fn shared_schema(
     alloc: Global,
     schema: &Schema,
-    beside: Option<&Shared>,
+    beside: Option<&segments::Shared<Schema>>,
 ) -> Result<segments::Shared<Schema>, Memory>
     ensures { IfOk result (λ shared. shared ≡ schema.now) }
 {
-    match beside {
-        Some(table) => schema_beside(alloc, schema, table.table()),
-        None => segments::Shared::of(alloc, schema.copy()?),
-    }
-}
-
-/// The schema of the table, if it is this one, or else a copy of this.
-fn schema_beside(
-    alloc: Global,
-    schema: &Schema,
-    table: &Table,
-) -> Result<segments::Shared<Schema>, Memory>
-    ensures { IfOk result (λ shared. shared ≡ schema.now) }
-{
-    let same = table.shared_schema();
-    if same.get().is_same(schema) {
-        return Ok(same.clone()?);
+    if let Some(same) = beside {
+        if same.get().is_same(schema) {
+            return Ok(same.clone()?);
+        }
     }
     segments::Shared::of(alloc, schema.copy()?)
 }
 
 /// The table of these rows, which has the schema together with others.
 #[cycle(build)]
-fn table_of_rows(
+pub(crate) fn table_of_rows(
     alloc: Global,
     schema: &segments::Shared<Schema>,
     rows: &Rows,
@@ -167,7 +154,7 @@ fn table_of_value(
 }
 
 /// The column of the numbers at a place of each row.
-fn ints_of_rows(alloc: Global, rows: &Rows, at: usize) -> Result<IntCol, Memory>
+pub(crate) fn ints_of_rows(alloc: Global, rows: &Rows, at: usize) -> Result<IntCol, Memory>
     requires { HasColumn rows.now at }
     ensures values { IfOk result (λ column. column.values ≡ map number_in (column_of rows.now at)) }
     ensures home { IfOk result (λ column. column.home ≡ None) }
@@ -180,7 +167,7 @@ fn ints_of_rows(alloc: Global, rows: &Rows, at: usize) -> Result<IntCol, Memory>
 }
 
 /// The column of the texts or byte strings at a place of each row.
-fn blobs_of_rows(alloc: Global, rows: &Rows, at: usize) -> Result<BytesCol, Memory>
+pub(crate) fn blobs_of_rows(alloc: Global, rows: &Rows, at: usize) -> Result<BytesCol, Memory>
     requires { HasColumn rows.now at }
     ensures values { IfOk result (λ column. column.values ≡ map bytes_in (column_of rows.now at)) }
     ensures home { IfOk result (λ column. column.home ≡ None) }

@@ -1,16 +1,23 @@
 //! A chunk of the tables in the rows of a view column.
-ghost use Rattle.std.specs.Prelude.{◌≡◌, ◌+◌, ◌-◌, ◌^◌, ◌<◌, ◌≤◌, [], ◌∷◌, ◌++◌, length, take, drop, replicate, slice_get, slice_set, Some, All, IfOk, OnOk, OnErr};
+ghost use Rattle.std.specs.Prelude.{◌≡◌, ◌+◌, ◌-◌, ◌^◌, ◌<◌, ◌≤◌, [], ◌∷◌, ◌++◌, length, take, drop, replicate, slice_get, slice_set, slice_index_or, Some, All, IfOk, OnOk, OnErr};
+ghost use Rattle.std.specs.Bool.{OnFalse, OnTrue};
 ghost use Rattle.segments.specs.Joined.{joined, counts_of};
+ghost use Rattle.tables.specs.Pools.{Adds, HasAllHomes, IsPoolable, no_table};
 ghost use Rattle.tables.specs.Rows.{inserted, removed};
+ghost use Rattle.tables.specs.Shapes.{HasHomes};
 
-use crate::Shared;
-use mk_value::Memory;
+use crate::pool::Pool;
+use crate::{Nested, Shared, Table};
+use mk_value::{Memory, Schema};
 use std::alloc::{AllocError, Global};
 use std::marker::Model;
 use std::rc::Rc;
 
 /// How many tables a chunk of a spine has at most. An edit of a shared list copies a count for each table of a chunk.
 pub(crate) const CHUNK_MOST: usize = 1024;
+
+/// How many tables a pool has at most. An edit of one of them copies them all.
+const POOL_MOST: usize = 64;
 
 /// The tables of a chunk, one after another.
 #[cycle(table)]
@@ -23,7 +30,17 @@ pub(crate) struct TableList {
 #[cycle(table)]
 #[derive(Drop)]
 pub(crate) struct Chunk {
-    list: Rc<TableList>,
+    kind: ChunkKind,
+}
+
+/// How the tables of a chunk are kept.
+#[cycle(table)]
+#[derive(Drop)]
+enum ChunkKind {
+    /// One by one.
+    Listed(Rc<TableList>),
+    /// Together, in the same columns.
+    Pooled(Rc<Pool>),
 }
 
 impl Model for TableList {
@@ -55,7 +72,9 @@ impl Model for Chunk {
 
     ghost coded = { tables_code };
 
-    ghost view = { λ c. c.list.value };
+    ghost use Rattle.tables.specs.Lists.{chunk_tables};
+
+    ghost view = { λ c. chunk_tables c.kind };
 
     ghost size = { chunk_size };
 
@@ -79,9 +98,14 @@ impl Clone for Chunk {
 
     /// One more holder of the chunk.
     fn clone(&self) -> Result<Chunk, AllocError> {
-        Ok(Chunk {
-            list: self.list.clone()?,
-        })
+        match &self.kind {
+            ChunkKind::Listed(list) => Ok(Chunk {
+                kind: ChunkKind::Listed(list.clone()?),
+            }),
+            ChunkKind::Pooled(pool) => Ok(Chunk {
+                kind: ChunkKind::Pooled(pool.clone()?),
+            }),
+        }
     }
 }
 
@@ -136,8 +160,32 @@ impl TableList {
     }
 
     /// The last table, if there is one.
-    pub(crate) fn last(&self) -> Option<&Shared> {
+    fn last(&self) -> Option<&Shared> {
         self.items.last()
+    }
+
+    /// Whether there are as many tables as go into a chunk: fewer where a pool may have the first.
+    pub(crate) fn is_sealed(&self) -> bool
+        ensures some { OnTrue result (0 < length self.now) }
+        ensures few { OnFalse result (length self.now < 1024) }
+    {
+        self.items.len() >= CHUNK_MOST || self.items.len() >= POOL_MOST && self.is_first_poolable()
+    }
+
+    /// Whether the first table is such that a pool may have it.
+    pub(crate) fn is_first_poolable(&self) -> bool {
+        match self.items.first() {
+            Some(first) => first.table().is_poolable(),
+            None => false,
+        }
+    }
+
+    /// The schema of the last table.
+    pub(crate) fn last_schema(&self) -> Option<&segments::Shared<Schema>> {
+        match self.last() {
+            Some(last) => Some(last.table().shared_schema()),
+            None => None,
+        }
     }
 
     /// Takes the last table away.
@@ -227,20 +275,105 @@ fn push_each(tables: &mut Vec<Shared>, more: &[Shared]) -> Result<(), Memory>
 }
 
 impl Chunk {
+    ghost use Rattle.tables.specs.Lists.{chunk_tables};
+
     /// The chunk of these tables.
     pub(crate) fn of(list: TableList) -> Result<Chunk, Memory>
         ensures { IfOk result (λ chunk. chunk ≡ list) }
     {
         Ok(Chunk {
-            list: Rc::new(list.allocator(), list)?,
+            kind: ChunkKind::Listed(Rc::new(list.allocator(), list)?),
         })
     }
 
-    /// The tables.
-    pub(crate) fn list(&self) -> &TableList
-        ensures { result.now ≡ self.now }
+    /// The chunk of the tables of a pool.
+    pub(crate) fn of_pool(pool: Pool) -> Result<Chunk, Memory>
+        ensures { IfOk result (λ chunk. chunk ≡ pool) }
     {
-        &self.list
+        Ok(Chunk {
+            kind: ChunkKind::Pooled(Rc::new(pool.allocator(), pool)?),
+        })
+    }
+
+    /// How many tables there are.
+    pub(crate) fn len(&self) -> usize
+        ensures len { result ≡ length self.now }
+        ensures few { result < 2 ^ 63 }
+    {
+        match &self.kind {
+            ChunkKind::Listed(list) => list.len(),
+            ChunkKind::Pooled(pool) => pool.len(),
+        }
+    }
+
+    /// The table at a place.
+    pub(crate) fn get(&self, at: usize) -> Nested<'_>
+        requires { at < length self.now }
+        ensures { slice_get self.now at ≡ Some result }
+    {
+        match &self.kind {
+            ChunkKind::Listed(list) => Nested::of(list.get(at)),
+            ChunkKind::Pooled(pool) => Nested::part(pool, at),
+        }
+    }
+
+    /// The schema of the last table, if it has columns of its own, or of all where they are kept together.
+    pub(crate) fn last_schema(&self) -> Option<&segments::Shared<Schema>> {
+        match &self.kind {
+            ChunkKind::Listed(list) => list.last_schema(),
+            ChunkKind::Pooled(pool) => Some(pool.shared_schema()),
+        }
+    }
+
+    /// The tables, one by one.
+    pub(crate) fn to_list(&self) -> Result<TableList, Memory>
+        ensures { IfOk result (λ list. list ≡ self.now) }
+    {
+        match &self.kind {
+            ChunkKind::Listed(list) => cloned(list),
+            ChunkKind::Pooled(pool) => pooled_list(pool, 0, pool.len()),
+        }
+    }
+
+    /// Appends chunks of the same tables, small ones with homes kept together.
+    pub(crate) fn push_pooled(&self, chunks: &mut Vec<Chunk>) -> Result<(), Memory>
+        requires some { 0 < length self.now }
+        requires few { length self.now ≤ 1024 }
+        ensures { OnOk result (Adds chunks.old.items self.now chunks.new.items) }
+    {
+        match &self.kind {
+            ChunkKind::Listed(list) if list.is_first_poolable() => push_pools(list, chunks),
+            _ => push_kept(self, chunks),
+        }
+    }
+
+    /// Whether the tables are kept together.
+    pub(crate) fn is_pool(&self) -> bool
+        ensures some { OnTrue result (0 < length self.now) }
+        ensures few { OnTrue result (length self.now ≤ 64) }
+        ensures homes { OnTrue result (All HasAllHomes self.now) }
+        ensures shaped { OnTrue result (All HasHomes self.now) }
+    {
+        match &self.kind {
+            ChunkKind::Listed(_) => false,
+            ChunkKind::Pooled(pool) => pool.len() > 0,
+        }
+    }
+
+    /// Adds so many of the tables from a place on behind those of a list.
+    pub(crate) fn push_part(
+        &self,
+        into: &mut TableList,
+        from: usize,
+        count: usize,
+    ) -> Result<(), Memory>
+        requires { from + count ≤ length self.now }
+        ensures { OnOk result (into.new ≡ into.old ++ take count (drop from self.now)) }
+    {
+        match &self.kind {
+            ChunkKind::Listed(list) => into.push_part(list, from, count),
+            ChunkKind::Pooled(pool) => push_pooled(into, pool, from, count),
+        }
     }
 
     /// Adds a table behind the others.
@@ -248,8 +381,15 @@ impl Chunk {
         ensures ok { OnOk result (self.new ≡ self.old ++ table ∷ []) }
         ensures err { OnErr result (self.new ≡ self.old) }
     {
-        let list = Rc::make_mut(&mut self.list)?;
-        list.push(table)
+        match &mut self.kind {
+            ChunkKind::Listed(list) => push_listed(list, table),
+            ChunkKind::Pooled(_) => {
+                let mut list = self.to_list()?;
+                list.push(table)?;
+                *self = Chunk::of(list)?;
+                Ok(())
+            }
+        }
     }
 
     /// Puts a table in place of the one at a place.
@@ -259,9 +399,15 @@ impl Chunk {
         ensures len { length self.new ≡ length self.old }
         ensures err { OnErr result (self.new ≡ self.old) }
     {
-        let list = Rc::make_mut(&mut self.list)?;
-        list.items[at] = table;
-        Ok(())
+        match &mut self.kind {
+            ChunkKind::Listed(list) => set_listed(list, at, table),
+            ChunkKind::Pooled(_) => {
+                let mut list = self.to_list()?;
+                list.set(at, table);
+                *self = Chunk::of(list)?;
+                Ok(())
+            }
+        }
     }
 
     /// Puts one table, so many times, before the one at a place, or at the end.
@@ -270,8 +416,15 @@ impl Chunk {
         ensures ok { OnOk result (self.new ≡ inserted at count table.now self.old) }
         ensures err { OnErr result (self.new ≡ self.old) }
     {
-        let list = Rc::make_mut(&mut self.list)?;
-        list.insert(at, table, count)
+        match &mut self.kind {
+            ChunkKind::Listed(list) => insert_listed(list, at, table, count),
+            ChunkKind::Pooled(_) => {
+                let mut list = self.to_list()?;
+                list.insert(at, table, count)?;
+                *self = Chunk::of(list)?;
+                Ok(())
+            }
+        }
     }
 
     /// Removes so many tables from a place on.
@@ -280,10 +433,176 @@ impl Chunk {
         ensures ok { OnOk result (self.new ≡ removed at count self.old) }
         ensures err { OnErr result (self.new ≡ self.old) }
     {
-        let list = Rc::make_mut(&mut self.list)?;
-        list.remove(at, count);
-        Ok(())
+        match &mut self.kind {
+            ChunkKind::Listed(list) => remove_listed(list, at, count),
+            ChunkKind::Pooled(_) => {
+                let mut list = self.to_list()?;
+                list.remove(at, count);
+                *self = Chunk::of(list)?;
+                Ok(())
+            }
+        }
     }
+}
+
+/// Appends a chunk as it is.
+fn push_kept(chunk: &Chunk, chunks: &mut Vec<Chunk>) -> Result<(), Memory>
+    requires some { 0 < length chunk.now }
+    requires few { length chunk.now ≤ 1024 }
+    ensures { OnOk result (Adds chunks.old.items chunk.now chunks.new.items) }
+{
+    chunks.push(chunk.clone()?)?;
+    Ok(())
+}
+
+/// Appends chunks of the tables of a list, each of so many as a pool has at most.
+fn push_pools(list: &TableList, chunks: &mut Vec<Chunk>) -> Result<(), Memory>
+    ensures { OnOk result (Adds chunks.old.items list.now chunks.new.items) }
+{
+    let mut from = 0;
+    while from < list.len() {
+        let count = (list.len() - from).min(POOL_MOST);
+        chunks.push(pooled_part(list, from, count)?)?;
+        from += count;
+    }
+    Ok(())
+}
+
+/// The chunk of tables, kept together where all of them may be.
+pub(crate) fn sealed_chunk(list: TableList) -> Result<Chunk, Memory>
+    requires some { 0 < length list }
+    requires few { length list ≤ 1024 }
+    ensures { IfOk result (λ chunk. chunk ≡ list) }
+{
+    if list.len() > POOL_MOST || !are_poolable(&list.items) {
+        return Chunk::of(list);
+    }
+    pooled_chunk(list.allocator(), &list.items)
+}
+
+/// A chunk of so many tables from a place on, kept together where all of them may be.
+fn pooled_part(list: &TableList, from: usize, count: usize) -> Result<Chunk, Memory>
+    requires some { 0 < count }
+    requires few { count ≤ 64 }
+    requires within { from + count ≤ length list.now }
+    ensures { IfOk result (λ chunk. chunk ≡ take count (drop from list.now)) }
+{
+    let tables = &list.items[from..from + count];
+    if !are_poolable(tables) {
+        return part(list, from, count);
+    }
+    pooled_chunk(list.allocator(), tables)
+}
+
+/// The chunk of tables that are kept together.
+fn pooled_chunk(alloc: Global, tables: &[Shared]) -> Result<Chunk, Memory>
+    requires some { 0 < length tables.now }
+    requires few { length tables.now ≤ 64 }
+    requires each { All (IsPoolable (slice_index_or tables.now 0 no_table).schema) tables.now }
+    ensures { IfOk result (λ chunk. chunk ≡ tables.now) }
+{
+    let schema = tables[0].table().shared_schema();
+    Chunk::of_pool(Pool::of(alloc, schema, tables)?)
+}
+
+/// Whether tables may be kept together: small ones of one schema.
+fn are_poolable(tables: &[Shared]) -> bool
+    requires { 0 < length tables.now }
+    ensures { OnTrue result (All (IsPoolable (slice_index_or tables.now 0 no_table).schema) tables.now) }
+{
+    let schema = tables[0].table().shared_schema().get();
+    for table in tables {
+        if !is_poolable_with(table.table(), schema) {
+            return false;
+        }
+    }
+    true
+}
+
+/// Whether a table may be kept together with others of a schema.
+fn is_poolable_with(table: &Table, schema: &Schema) -> bool
+    ensures { OnTrue result (IsPoolable schema.now table.now) }
+{
+    if !table.shared_schema().get().is_same(schema) {
+        return false;
+    }
+    table.is_poolable()
+}
+
+/// A copy of a list.
+fn cloned(list: &TableList) -> Result<TableList, Memory>
+    ensures { IfOk result (λ copy. copy ≡ list.now) }
+{
+    Ok(list.clone()?)
+}
+
+/// So many tables of a pool from a place on, one by one.
+fn pooled_list(pool: &Pool, from: usize, count: usize) -> Result<TableList, Memory>
+    requires { from + count ≤ length pool.now }
+    ensures { IfOk result (λ list. list ≡ take count (drop from pool.now)) }
+{
+    let mut list = TableList::new(pool.allocator());
+    push_pooled(&mut list, pool, from, count)?;
+    Ok(list)
+}
+
+/// Adds so many tables of a pool from a place on behind those of a list.
+fn push_pooled(list: &mut TableList, pool: &Pool, from: usize, count: usize) -> Result<(), Memory>
+    requires { from + count ≤ length pool.now }
+    ensures { OnOk result (list.new ≡ list.old ++ take count (drop from pool.now)) }
+{
+    // A pool has few tables.
+    let _few = pool.len();
+    for at in 0..count {
+        list.push(pool.to_shared(from + at)?)?;
+    }
+    Ok(())
+}
+
+/// Adds a table behind those of a list, which becomes its holder's own.
+fn push_listed(list: &mut Rc<TableList>, table: Shared) -> Result<(), Memory>
+    ensures ok { OnOk result (list.new.value ≡ list.old.value ++ table ∷ []) }
+    ensures err { OnErr result (list.new.value ≡ list.old.value) }
+{
+    let list = Rc::make_mut(list)?;
+    list.push(table)
+}
+
+/// Puts a table in place of one of a list, which becomes its holder's own.
+fn set_listed(list: &mut Rc<TableList>, at: usize, table: Shared) -> Result<(), Memory>
+    requires { at < length list.old.value }
+    ensures ok { OnOk result (list.new.value ≡ slice_set list.old.value at table) }
+    ensures err { OnErr result (list.new.value ≡ list.old.value) }
+{
+    let list = Rc::make_mut(list)?;
+    list.items[at] = table;
+    Ok(())
+}
+
+/// Puts one table, so many times, into a list, which becomes its holder's own.
+fn insert_listed(
+    list: &mut Rc<TableList>,
+    at: usize,
+    table: &Shared,
+    count: usize,
+) -> Result<(), Memory>
+    requires { at ≤ length list.old.value }
+    ensures ok { OnOk result (list.new.value ≡ inserted at count table.now list.old.value) }
+    ensures err { OnErr result (list.new.value ≡ list.old.value) }
+{
+    let list = Rc::make_mut(list)?;
+    list.insert(at, table, count)
+}
+
+/// Removes so many tables from a list, which becomes its holder's own.
+fn remove_listed(list: &mut Rc<TableList>, at: usize, count: usize) -> Result<(), Memory>
+    requires { at + count ≤ length list.old.value }
+    ensures ok { OnOk result (list.new.value ≡ removed at count list.old.value) }
+    ensures err { OnErr result (list.new.value ≡ list.old.value) }
+{
+    let list = Rc::make_mut(list)?;
+    list.remove(at, count);
+    Ok(())
 }
 
 /// Tables cut into full chunks and a last one of what is left. No chunk is empty.

@@ -1,11 +1,13 @@
 //! The columns of a table.
-ghost use Rattle.std.specs.Prelude.{◌≡◌, ◌+◌, ◌<◌, ◌≤◌, [], ◌∷◌, ◌++◌, length, map, slice_index_or, slice_set, IfOk, OnOk, OnErr};
+ghost use Rattle.std.specs.Prelude.{◌≡◌, ◌+◌, ◌<◌, ◌≤◌, [], ◌∷◌, ◌++◌, length, map, slice_index_or, slice_set, All, IfOk, OnOk, OnErr};
 ghost use Rattle.mk_value.specs.Data.{IsOf};
 ghost use Rattle.mk_value.specs.Kinds.{domain_of};
 ghost use Rattle.mk_value.specs.Values.{datum_of};
 ghost use Rattle.tables.specs.Cells.{IsWholeColumn, IsSet, IsSetIn, HasNumber, HasString, HasView, with_number, with_string, with_view};
 ghost use Rattle.std.specs.Bool.{OnTrue};
-ghost use Rattle.tables.specs.Columns.{column_values, home_of, no_column};
+ghost use Rattle.tables.specs.Columns.{column_values, home_of, home_of_numbers, home_of_strings, no_column};
+ghost use Rattle.tables.specs.Pools.{IsSimpleHome};
+ghost use Rattle.tables.specs.Rests.{blocks_of};
 ghost use Rattle.tables.specs.Homes.{empty_homes_in};
 ghost use Rattle.tables.specs.Edits.{ArePutIn, AreWithout, HaveSome};
 ghost use Rattle.tables.specs.Prepared.{AreReady, ArePushed};
@@ -17,7 +19,7 @@ use crate::prepared::push_row;
 use crate::{Shared, Tables};
 use bytes_col::{BytesCol, BytesHome};
 use int_col::IntCol;
-use mk_value::{Kind, Memory, Prop, Span, Value};
+use mk_value::{Kind, Memory, Prop, Schema, Span, Value};
 use std::alloc::Global;
 use std::marker::Model;
 
@@ -224,10 +226,32 @@ impl Col {
         }
     }
 
-    /// The last table of a column of tables, if there is one.
-    pub(crate) fn last_table(&self) -> Option<&Shared> {
+    /// Whether the column has a home that has no blocks of long values. One of tables has none.
+    fn has_simple_home(&self) -> bool
+        ensures { OnTrue result (IsSimpleHome (home_of (stored_of self.now))) }
+    {
         match self {
-            Col::Views(tables) => tables.last(),
+            Col::Ints(column) => column.home().is_some(),
+            Col::Blobs(column) => has_home_without_memos(column),
+            Col::Views(_) => false,
+        }
+    }
+
+    /// Appends the blocks of the home of a column that holds no tables.
+    pub(crate) fn push_blocks(&self, blocks: &mut Vec<Span>) -> Result<(), Memory>
+        ensures { OnOk result (blocks.new.items ≡ blocks.old.items ++ blocks_of (home_of (stored_of self.now))) }
+    {
+        match self {
+            Col::Ints(column) => push_block(blocks, column.home()),
+            Col::Blobs(column) => push_home(blocks, column),
+            Col::Views(_) => Ok(()),
+        }
+    }
+
+    /// The schema of a table of a column of tables, if there is one.
+    pub(crate) fn inner_schema(&self) -> Option<&segments::Shared<Schema>> {
+        match self {
+            Col::Views(tables) => tables.schema(),
             _ => None,
         }
     }
@@ -243,6 +267,58 @@ impl Col {
             _ => false,
         }
     }
+}
+
+/// Whether all columns have homes without blocks of long values.
+pub(crate) fn have_simple_homes(cols: &[Col]) -> bool
+    ensures { OnTrue result (All (λ c. IsSimpleHome (home_of (stored_of c))) cols.now) }
+{
+    for col in cols {
+        if !col.has_simple_home() {
+            return false;
+        }
+    }
+    true
+}
+
+/// Whether a column of texts or byte strings has a home without blocks of long values.
+fn has_home_without_memos(column: &BytesCol) -> bool
+    ensures { OnTrue result (IsSimpleHome (home_of_strings column.now.home)) }
+{
+    match column.home() {
+        Some(home) => home.memos.is_empty(),
+        None => false,
+    }
+}
+
+/// Appends a block, if there is one.
+fn push_block(blocks: &mut Vec<Span>, block: Option<Span>) -> Result<(), Memory>
+    ensures { OnOk result (blocks.new.items ≡ blocks.old.items ++ blocks_of (home_of_numbers block)) }
+{
+    if let Some(block) = block {
+        blocks.push(block)?;
+    }
+    Ok(())
+}
+
+/// Appends the blocks of the home of a column of texts or byte strings.
+fn push_home(blocks: &mut Vec<Span>, column: &BytesCol) -> Result<(), Memory>
+    ensures { OnOk result (blocks.new.items ≡ blocks.old.items ++ blocks_of (home_of_strings column.now.home)) }
+{
+    match column.home() {
+        Some(home) => push_spans(blocks, home),
+        None => Ok(()),
+    }
+}
+
+/// Appends the blocks of a home.
+fn push_spans(blocks: &mut Vec<Span>, home: &BytesHome) -> Result<(), Memory>
+    ensures { OnOk result (blocks.new.items ≡ blocks.old.items ++ home.now.sizes ∷ home.now.short ∷ home.now.memos) }
+{
+    blocks.push(home.sizes)?;
+    blocks.push(home.short)?;
+    blocks.extend_from_slice(home.memos.as_slice())?;
+    Ok(())
 }
 
 /// Whether columns without values have the same homes.
@@ -345,7 +421,7 @@ fn set_value(
         Value::S(text) => set_blob(col, row, text.as_str().as_bytes()),
         Value::B(bytes) => set_blob(col, row, bytes.as_slice()),
         Value::V(rows) => {
-            let table = inner_of_rows(alloc, kind, rows, col.last_table())?;
+            let table = inner_of_rows(alloc, kind, rows, col.inner_schema())?;
             set_view(col, row, table)
         }
     }

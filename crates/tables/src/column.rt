@@ -76,7 +76,7 @@ impl<'a> Column<'a> {
             Kind::L => Lent::L(self.ints().get(row)),
             Kind::S => Lent::S(self.blobs().value(row)),
             Kind::B => Lent::B(self.blobs().value(row)),
-            Kind::V(_) => Lent::V(self.views().get(row).table().len()),
+            Kind::V(_) => Lent::V(self.views().get(row).len()),
         }
     }
 
@@ -146,7 +146,7 @@ impl Column<'_> {
             Kind::L => Ok(Value::L(self.ints().get(row))),
             Kind::S => Ok(Value::S(self.text(alloc, row)?)),
             Kind::B => Ok(Value::B(self.blobs().get(row)?)),
-            Kind::V(_) => Ok(Value::V(self.views().get(row).table().to_rows(alloc)?)),
+            Kind::V(_) => Ok(Value::V(self.views().get(row).to_rows(alloc)?)),
         }
     }
 
@@ -248,7 +248,7 @@ impl Column<'_> {
                 Ok(Col::Blobs(blobs_inserted(self.blobs(), at, bytes, count)?))
             }
             Value::V(rows) => {
-                let table = inner_of_rows(alloc, self.kind, rows, self.col.last_table())?;
+                let table = inner_of_rows(alloc, self.kind, rows, self.col.inner_schema())?;
                 Ok(Col::Views(views_inserted(self.views(), at, &table, count)?))
             }
         }

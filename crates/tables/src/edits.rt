@@ -96,7 +96,7 @@ fn insert_value<F: FnMut() -> Result<(), Memory>>(
         Value::S(text) => insert_string(col, at, text.as_str().as_bytes(), count, also),
         Value::B(bytes) => insert_string(col, at, bytes.as_slice(), count, also),
         Value::V(inner) => {
-            let table = inner_of_rows(alloc, kind, inner, col.last_table())?;
+            let table = inner_of_rows(alloc, kind, inner, col.inner_schema())?;
             insert_table(col, at, &table, count, also)
         }
     }

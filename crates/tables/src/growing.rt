@@ -2,11 +2,12 @@
 ghost use Rattle.std.specs.Prelude.{◌≡◌, ◌+◌, ◌-◌, ◌<◌, ◌≤◌, [], ◌∷◌, ◌++◌, length, take, drop, slice_get, slice_set, Some, IfOk, IfErr, IfSome, OnOk, OnErr};
 ghost use Rattle.std.specs.Bool.{OnTrue};
 ghost use Rattle.segments.specs.Joined.{joined};
+ghost use Rattle.tables.specs.Pools.{IsChunkAt};
 
-use crate::Shared;
 use crate::chunk::{CHUNK_MOST, Chunk, TableList};
 use crate::spine::{SPINE_MOST, Spine};
-use mk_value::Memory;
+use crate::{Nested, Shared};
+use mk_value::{Memory, Schema};
 use std::alloc::{AllocError, Global};
 use std::marker::Model;
 use std::rc::Rc;
@@ -105,22 +106,33 @@ impl Growing {
         self.last.allocator()
     }
 
-    /// The last table, if there is one.
-    pub(crate) fn last(&self) -> Option<&Shared> {
-        let len = self.len();
-        if len == 0 {
-            return None;
+    /// The chunk that begins with the table at a place, if its tables are kept together.
+    pub(crate) fn pool_at(&self, at: usize) -> Option<&Chunk>
+        requires { at < length self.now }
+        ensures { IfSome result (λ chunk. IsChunkAt self.now at chunk.now) }
+    {
+        match &self.head {
+            Head::Empty => None,
+            Head::Chunks(spine) if at < spine.len() => spine.pool_at(at),
+            Head::Chunks(_) => None,
         }
-        Some(self.get(len - 1))
+    }
+
+    /// The schema of a table that stands near the end, if there is one.
+    pub(crate) fn last_schema(&self) -> Option<&segments::Shared<Schema>> {
+        match &self.head {
+            Head::Empty => self.last.last_schema(),
+            Head::Chunks(spine) => last_schema_in(spine, &self.last),
+        }
     }
 
     /// The table at a place.
-    pub(crate) fn get(&self, at: usize) -> &Shared
+    pub(crate) fn get(&self, at: usize) -> Nested<'_>
         requires { at < length self.now }
-        ensures { slice_get self.now at ≡ Some result.now }
+        ensures { slice_get self.now at ≡ Some result }
     {
         match &self.head {
-            Head::Empty => self.last.get(at),
+            Head::Empty => Nested::of(self.last.get(at)),
             Head::Chunks(spine) => get_in(spine, &self.last, at),
         }
     }
@@ -284,15 +296,26 @@ impl Longer {
 }
 
 /// The table at a place of a spine or of the chunk behind it.
-fn get_in<'a>(spine: &'a Spine, last: &'a TableList, at: usize) -> &'a Shared
+fn get_in<'a>(spine: &'a Spine, last: &'a TableList, at: usize) -> Nested<'a>
     requires { at < length (joined spine.now ++ last.now) }
-    ensures { slice_get (joined spine.now ++ last.now) at ≡ Some result.now }
+    ensures { slice_get (joined spine.now ++ last.now) at ≡ Some result }
 {
     let before = spine.len();
     if at < before {
         return spine.get(at);
     }
-    last.get(at - before)
+    Nested::of(last.get(at - before))
+}
+
+/// The schema of a table that stands near the end of a spine and the chunk behind it.
+fn last_schema_in<'a>(
+    spine: &'a Spine,
+    last: &'a TableList,
+) -> Option<&'a segments::Shared<Schema>> {
+    match last.last_schema() {
+        Some(schema) => Some(schema),
+        None => spine.last_schema(),
+    }
 }
 
 /// Puts a table in place of the one at a place of a spine or of the chunk behind it. Other owners of the spine keep it.
@@ -352,7 +375,7 @@ fn reopened(spine: Spine) -> Result<Growing, Memory>
     if spine.is_last_full() {
         return Growing::of_spine(spine);
     }
-    let last = spine.last().clone()?;
+    let last = spine.last().to_list()?;
     let head = spine.without_last()?;
     Ok(Growing {
         head: Head::Chunks(Rc::new(last.allocator(), head)?),

@@ -5,21 +5,27 @@
 #![tactic(auto)]
 
 mod build;
+mod builder;
 mod chunk;
 mod cols;
 mod column;
 mod edits;
 mod groups;
 mod growing;
+mod nested;
+mod pool;
 mod prepared;
 mod shared;
+mod slice;
 mod spine;
 mod table;
 mod tables;
 
 pub use build::{empty_table, from_rows};
+pub use builder::TablesBuilder;
 pub use cols::{Col, Cols};
 pub use column::{Column, default_column};
+pub use nested::Nested;
 pub use shared::{Shared, share};
 pub use table::Table;
 pub use tables::Tables;

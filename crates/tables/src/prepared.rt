@@ -240,7 +240,7 @@ fn with_table(alloc: Global, list: Growing, kind: &Kind, rows: &Rows) -> Result<
     ensures ok { IfOk result (IsLonger (domain_of kind.now) rows.now list) }
     ensures err { IfErr result (λ same. same ≡ list) }
 {
-    match inner_of_rows(alloc, kind, rows, list.last()) {
+    match inner_of_rows(alloc, kind, rows, list.last_schema()) {
         Ok(table) => list.with(table),
         Err(Memory) => Err(list),
     }

@@ -4,12 +4,13 @@ ghost use Rattle.std.specs.Bool.{OnFalse};
 ghost use Rattle.segments.specs.Segments.{IsPlace};
 ghost use Rattle.segments.specs.Splices.{Applies, Covers, items_after, spliced};
 ghost use Rattle.segments.specs.Joined.{joined, counts_of};
+ghost use Rattle.tables.specs.Pools.{IsChunkAt};
 ghost use Rattle.tables.specs.Rows.{inserted, removed};
 
-use crate::Shared;
 use crate::chunk::{CHUNK_MOST, Chunk, TableList, cut};
 use crate::groups::Groups;
-use mk_value::Memory;
+use crate::{Nested, Shared};
+use mk_value::{Memory, Schema};
 use segments::{Place, Replaced, Segments, Splice};
 use std::alloc::{AllocError, Global};
 use std::marker::Model;
@@ -62,7 +63,7 @@ impl Clone for Spine {
 
 impl Spine {
     /// The spine of these chunks.
-    fn of_chunks(chunks: Vec<Chunk>) -> Result<Spine, Memory>
+    pub(crate) fn of_chunks(chunks: Vec<Chunk>) -> Result<Spine, Memory>
         requires some { All (λ n. 0 < n) (counts_of chunks.items) }
         requires each { All (λ n. n ≤ 1024) (counts_of chunks.items) }
         requires few { length (joined chunks.items) ≤ 16777216 }
@@ -116,13 +117,29 @@ impl Spine {
     }
 
     /// The table at a place.
-    pub(crate) fn get(&self, at: usize) -> &Shared
+    pub(crate) fn get(&self, at: usize) -> Nested<'_>
         requires { at < length (joined self.now) }
-        ensures { slice_get (joined self.now) at ≡ Some result.now }
+        ensures { slice_get (joined self.now) at ≡ Some result }
     {
         let place = self.find(at);
-        let chunk = self.chunks.get(place.segment).list();
+        let chunk = self.chunks.get(place.segment);
         chunk.get(place.offset)
+    }
+
+    /// The chunk that begins with the table at a place, if its tables are kept together.
+    pub(crate) fn pool_at(&self, at: usize) -> Option<&Chunk>
+        requires { at < length (joined self.now) }
+        ensures { IfSome result (λ chunk. IsChunkAt (joined self.now) at chunk.now) }
+    {
+        let place = self.find(at);
+        if place.offset > 0 {
+            return None;
+        }
+        let chunk = self.chunks.get(place.segment);
+        if !chunk.is_pool() {
+            return None;
+        }
+        Some(chunk)
     }
 
     /// Puts a table in place of the one at a place. Other owners of its chunk keep it.
@@ -163,9 +180,9 @@ impl Spine {
         ensures tables { IfOk result (λ count. list.new ≡ list.old ++ take count (drop from (joined self.now))) }
     {
         let place = self.find(from);
-        let chunk = self.chunks.get(place.segment).list();
+        let chunk = self.chunks.get(place.segment);
         let count = (chunk.len() - place.offset).min(most);
-        list.push_part(chunk, place.offset, count)?;
+        chunk.push_part(list, place.offset, count)?;
         Ok(count)
     }
 
@@ -191,7 +208,7 @@ impl Spine {
         }
         let end = at + count;
         // No copy of the table is put in.
-        let table = self.get(at).clone()?;
+        let table = self.get(at).to_shared()?;
         self.replace(&Splice { at, end, count: 0 }, &table)
     }
 
@@ -266,6 +283,18 @@ impl Spine {
         Ok(())
     }
 
+    /// The same tables, small ones with homes kept together.
+    pub(crate) fn pooled(&self) -> Result<Spine, Memory>
+        ensures { IfOk result (λ spine. joined spine ≡ joined self.now) }
+    {
+        let _few = self.len();
+        let mut chunks = Vec::new(self.allocator());
+        for at in 0..self.chunks.len() {
+            self.chunks.get(at).push_pooled(&mut chunks)?;
+        }
+        Spine::of_chunks(chunks)
+    }
+
     /// How many chunks there are.
     fn chunks(&self) -> usize
         ensures { result ≡ length self.now }
@@ -278,15 +307,24 @@ impl Spine {
         ensures { OnFalse result (0 < length self.now) }
     {
         let count = self.chunks();
-        count == 0 || self.chunks.get(count - 1).list().len() >= CHUNK_MOST
+        count == 0 || self.chunks.get(count - 1).len() >= CHUNK_MOST
     }
 
-    /// The tables of the last chunk.
-    pub(crate) fn last(&self) -> &TableList
+    /// The last chunk.
+    pub(crate) fn last(&self) -> &Chunk
         requires { 0 < length self.now }
         ensures { result.now ≡ slice_index_or self.now (length self.now - 1) [] }
     {
-        self.chunks.get(self.chunks() - 1).list()
+        self.chunks.get(self.chunks() - 1)
+    }
+
+    /// The schema of a table of the last chunk, if there is one.
+    pub(crate) fn last_schema(&self) -> Option<&segments::Shared<Schema>> {
+        let count = self.chunks();
+        if count == 0 {
+            return None;
+        }
+        self.chunks.get(count - 1).last_schema()
     }
 
     /// The chunks before the last.
@@ -309,7 +347,7 @@ fn counts(alloc: Global, chunks: &[Chunk]) -> Result<Vec<usize>, Memory>
 {
     let mut counts = Vec::with_capacity(alloc, chunks.len())?;
     for chunk in chunks {
-        counts.push(chunk.list().len())?;
+        counts.push(chunk.len())?;
     }
     Ok(counts)
 }

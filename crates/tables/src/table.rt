@@ -8,6 +8,7 @@ ghost use Rattle.mk_value.specs.Tables.{domain_at};
 ghost use Rattle.mk_value.specs.Values.{datum_of};
 ghost use Rattle.tables.specs.Columns.{AreColumnsIn, AreColumnsOf, home_of, table_of_columns};
 ghost use Rattle.tables.specs.Homes.{column_of, empty_homes_in, no_home};
+ghost use Rattle.tables.specs.Pools.{IsPoolable};
 ghost use Rattle.tables.specs.Read.{IsViewDomain, IsWhole, values_read};
 ghost use Rattle.tables.specs.Rests.{RestsOn};
 ghost use Rattle.tables.specs.Rows.{with_rows_inserted, with_rows_removed};
@@ -15,13 +16,16 @@ ghost use Rattle.tables.specs.Shapes.{HasHomes};
 ghost use Rattle.tables.specs.Stored.{stored_of};
 ghost use Rattle.tables.specs.Tables.{IsTable, inner_table, with_inner, with_value};
 
-use crate::cols::have_same_empty_homes;
+use crate::cols::{have_same_empty_homes, have_simple_homes};
 use crate::column::Column;
-use crate::{Cols, Shared};
+use crate::{Cols, Nested, Shared};
 use mk_value::{Lent, Memory, Row, Rows, Schema, TableRead, Value};
 use std::alloc::Global;
 use std::cmp::Ordering;
 use std::marker::Model;
+
+/// How many rows a table of a pool has at most.
+const POOLED_ROWS: usize = 64;
 
 /// A table: a schema, a number of rows, and a column for each property.
 #[cycle(table)]
@@ -196,16 +200,16 @@ impl Table {
     }
 
     /// The table in a cell of a view column.
-    pub fn inner(&self, row: usize, col: usize) -> &Shared
+    pub fn inner(&self, row: usize, col: usize) -> Nested<'_>
         requires row_in { row < length self.now.rows }
         requires col_in { col < length self.now.schema }
         requires view { IsViewDomain (domain_at self.now.schema col) }
-        ensures value { result.now ≡ inner_table self.now row col }
-        ensures whole { IsTable result.now }
-        ensures homes { HasHomes result.now }
+        ensures value { result ≡ inner_table self.now row col }
+        ensures whole { IsTable result }
+        ensures homes { HasHomes result }
     {
         let table = self.column(col).views().get(row);
-        let _rows = table.table().len();
+        let _rows = table.len();
         table
     }
 
@@ -335,6 +339,16 @@ impl Table {
             return false;
         }
         have_same_empty_homes(self.cols.as_slice(), other.cols.as_slice())
+    }
+
+    /// Whether the table is small, and all its columns are plain and have homes without blocks of long values: then it may stand in a pool.
+    pub(crate) fn is_poolable(&self) -> bool
+        ensures { OnTrue result (IsPoolable self.now.schema self.now) }
+    {
+        if self.len() > POOLED_ROWS {
+            return false;
+        }
+        have_simple_homes(self.cols.as_slice())
     }
 
     /// The allocator of the columns.

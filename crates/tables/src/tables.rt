@@ -1,14 +1,15 @@
 //! The tables in the rows of a view column.
-ghost use Rattle.std.specs.Prelude.{◌≡◌, ◌+◌, ◌-◌, ◌<◌, ◌≤◌, [], ◌∷◌, ◌++◌, length, slice_get, slice_set, Some, IfOk, IfErr, OnOk, OnErr};
+ghost use Rattle.std.specs.Prelude.{◌≡◌, ◌+◌, ◌-◌, ◌<◌, ◌≤◌, [], ◌∷◌, ◌++◌, length, slice_get, slice_set, Some, IfOk, IfErr, IfSome, OnOk, OnErr};
 ghost use Rattle.std.specs.Bool.{OnTrue};
 ghost use Rattle.segments.specs.Joined.{joined};
+ghost use Rattle.tables.specs.Pools.{IsChunkAt};
 ghost use Rattle.tables.specs.Rows.{inserted, removed};
 
-use crate::Shared;
 use crate::chunk::{CHUNK_MOST, Chunk, TableList};
 use crate::growing::Growing;
 use crate::spine::{SPINE_MOST, Spine};
-use mk_value::Memory;
+use crate::{Nested, Shared};
+use mk_value::{Memory, Schema};
 use std::alloc::Global;
 use std::marker::Model;
 
@@ -63,7 +64,7 @@ impl Tables {
         ensures { result ≡ length self.now }
     {
         match &self.kind {
-            Kind::One(chunk) => chunk.list().len(),
+            Kind::One(chunk) => chunk.len(),
             Kind::Growing(list) => list.len(),
         }
     }
@@ -75,21 +76,32 @@ impl Tables {
         self.len() == 0
     }
 
-    /// The last table, if there is one.
-    pub(crate) fn last(&self) -> Option<&Shared> {
+    /// The schema of a table of the list, if there is one.
+    pub(crate) fn schema(&self) -> Option<&segments::Shared<Schema>> {
         match &self.kind {
-            Kind::One(chunk) => chunk.list().last(),
-            Kind::Growing(list) => list.last(),
+            Kind::One(chunk) => chunk.last_schema(),
+            Kind::Growing(list) => list.last_schema(),
+        }
+    }
+
+    /// The chunk that begins with the table at a place, if its tables are kept together.
+    pub(crate) fn pool_at(&self, at: usize) -> Option<&Chunk>
+        requires { at < length self.now }
+        ensures { IfSome result (λ chunk. IsChunkAt self.now at chunk.now) }
+    {
+        match &self.kind {
+            Kind::One(chunk) => pool_alone(chunk, at),
+            Kind::Growing(list) => list.pool_at(at),
         }
     }
 
     /// The table at a place.
-    pub fn get(&self, at: usize) -> &Shared
+    pub fn get(&self, at: usize) -> Nested<'_>
         requires { at < length self.now }
-        ensures { slice_get self.now at ≡ Some result.now }
+        ensures { slice_get self.now at ≡ Some result }
     {
         match &self.kind {
-            Kind::One(chunk) => chunk.list().get(at),
+            Kind::One(chunk) => chunk.get(at),
             Kind::Growing(list) => list.get(at),
         }
     }
@@ -105,7 +117,7 @@ impl Tables {
         ensures err { OnErr result (self.new ≡ self.old) }
     {
         match &mut self.kind {
-            Kind::One(chunk) if chunk.list().len() < CHUNK_MOST => chunk.push(table),
+            Kind::One(chunk) if chunk.len() < CHUNK_MOST => chunk.push(table),
             Kind::Growing(list) if list.is_empty() => {
                 let chunk = first_chunk(list.allocator(), table)?;
                 self.kind = Kind::One(chunk);
@@ -119,6 +131,23 @@ impl Tables {
                 Ok(())
             }
         }
+    }
+
+    /// Keeps small tables that have homes together, in the same columns. A caller sees no difference.
+    ///
+    /// # Errors
+    ///
+    /// `Memory`.
+    pub fn pool(&mut self) -> Result<(), Memory>
+        ensures { self.new ≡ self.old }
+    {
+        let few = self.len();
+        if few > SPINE_MOST {
+            return Ok(());
+        }
+        let spine = self.to_growing()?.into_spine()?;
+        *self = Tables::of_spine(spine.pooled()?)?;
+        Ok(())
     }
 
     /// Puts a table in place of the one at a place. No copy of the list is changed.
@@ -196,7 +225,7 @@ impl Tables {
     }
 
     /// The tables of a spine, which one chunk needs none of.
-    fn of_spine(spine: Spine) -> Result<Tables, Memory>
+    pub(crate) fn of_spine(spine: Spine) -> Result<Tables, Memory>
         ensures { IfOk result (λ tables. tables ≡ joined spine) }
     {
         match spine.only_chunk()? {
@@ -244,7 +273,7 @@ impl Tables {
         ensures { IfOk result (λ list. list ≡ self.now) }
     {
         match &self.kind {
-            Kind::One(chunk) => Ok(Growing::of_list(chunk.list().clone()?)),
+            Kind::One(chunk) => Ok(Growing::of_list(chunk.to_list()?)),
             Kind::Growing(list) => list.same(),
         }
     }
@@ -262,9 +291,23 @@ impl Tables {
     }
 }
 
+/// The chunk, if it begins with the table at a place and its tables are kept together.
+fn pool_alone(chunk: &Chunk, at: usize) -> Option<&Chunk>
+    requires { at < length chunk.now }
+    ensures { IfSome result (λ pool. IsChunkAt chunk.now at pool.now) }
+{
+    if at > 0 {
+        return None;
+    }
+    if !chunk.is_pool() {
+        return None;
+    }
+    Some(chunk)
+}
+
 /// Whether one chunk holds so many tables more.
 fn has_room_for(chunk: &Chunk, count: usize) -> bool {
-    count <= CHUNK_MOST && chunk.list().len() <= CHUNK_MOST - count
+    count <= CHUNK_MOST && chunk.len() <= CHUNK_MOST - count
 }
 
 /// A chunk of one table.

@@ -12,7 +12,7 @@ use crate::EditError;
 use crate::change::Change;
 use crate::walk::{find_schema, find_table};
 use mk_value::{MAX_ROWS, Name, Row, Schema, Step, TableRead, Value, fits};
-use tables::Shared;
+use tables::{Nested, Shared};
 
 /// Answers the first refusal that the edit of a table is due.
 pub(crate) fn check(table: &Shared, steps: &[Step], change: Change<'_>) -> Result<(), EditError>
@@ -21,7 +21,7 @@ pub(crate) fn check(table: &Shared, steps: &[Step], change: Change<'_>) -> Resul
 {
     let target = find_schema(table.schema(), steps)?;
     check_kinds(target, change)?;
-    let inside = find_table(table, steps)?;
+    let inside = find_table(Nested::of(table), steps)?;
     check_places(inside.size(), change)
 }
 

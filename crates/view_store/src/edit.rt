@@ -32,7 +32,8 @@ pub(crate) fn edit(
         Some((step, rest)) => {
             let row = step.row as usize;
             let col = table.schema().find(step.prop.as_str()).unwrap();
-            let inner = edit(alloc, table.table().inner(row, col), rest, change)?;
+            let nested = table.table().inner(row, col).to_shared()?;
+            let inner = edit(alloc, &nested, rest, change)?;
             new.set_inner(row, col, inner)?;
         }
         None => edit_here(alloc, &mut new, change)?,

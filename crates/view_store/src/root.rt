@@ -24,7 +24,7 @@ use crate::walk::{find_schema, find_table};
 use mk_value::{Memory, Name, Path, Row, Schema, Sequence, Step, TableRead, Value};
 use std::alloc::Global;
 use std::marker::Model;
-use tables::{Shared, Table, share};
+use tables::{Nested, Shared, Table, share};
 
 /// The names of views, in the order in which they were made.
 pub type Names = Sequence<Name>;
@@ -234,9 +234,9 @@ impl Root {
     ///
     /// The first that is due: `NoView`; `NoProp` where a property of the path is absent; `WrongKind` where a step goes into no
     /// view; `OutOfRange` with the size there, where a row of the path is not there.
-    pub fn table_at(&self, path: &Path) -> Result<&Shared, EditError>
+    pub fn table_at(&self, path: &Path) -> Result<Nested<'_>, EditError>
         ensures due { result_err result ≡ look_due self.now path.now }
-        ensures ok { IfOk result (λ table. view_at self.now path.now ≡ Some table.now) }
+        ensures ok { IfOk result (λ table. view_at self.now path.now ≡ Some table) }
     {
         let Some(at) = place_in(&self.names, path.name()) else {
             return Err(EditError::NoView);
@@ -317,19 +317,19 @@ fn edit_table(
 }
 
 /// The table to which the steps lead from a table.
-fn look<'a>(table: &'a Shared, steps: &[Step]) -> Result<&'a Shared, EditError>
+fn look<'a>(table: &'a Shared, steps: &[Step]) -> Result<Nested<'a>, EditError>
     ensures due { result_err result ≡ look_due_in table.now steps.now }
-    ensures ok { IfOk result (λ found. found.now ≡ table_at steps.now table.now) }
+    ensures ok { IfOk result (λ found. found ≡ table_at steps.now table.now) }
 {
     let _schema = find_schema(table.schema(), steps)?;
-    find_table(table, steps)
+    find_table(Nested::of(table), steps)
 }
 
-/// The very same table, with one holder more.
-fn hold(table: &Shared) -> Result<Shared, Memory>
-    ensures { IfOk result (λ shared. shared ≡ table.now) }
+/// The table, to be held.
+fn hold(table: Nested<'_>) -> Result<Shared, Memory>
+    ensures { IfOk result (λ shared. shared ≡ table.entry) }
 {
-    Ok(table.clone()?)
+    table.to_shared()
 }
 
 /// The place of a name among names.

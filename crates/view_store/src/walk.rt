@@ -5,7 +5,7 @@ ghost use Rattle.view_store.specs.Refusals.{rows_at, schema_at};
 
 use crate::EditError;
 use mk_value::{Kind, Schema, Step, TableRead};
-use tables::Shared;
+use tables::Nested;
 
 /// The schema to which the steps lead.
 pub(crate) fn find_schema<'a>(schema: &'a Schema, steps: &[Step]) -> Result<&'a Schema, EditError>
@@ -25,10 +25,10 @@ pub(crate) fn find_schema<'a>(schema: &'a Schema, steps: &[Step]) -> Result<&'a 
 }
 
 /// The table to which the steps lead.
-pub(crate) fn find_table<'a>(table: &'a Shared, steps: &[Step]) -> Result<&'a Shared, EditError>
-    requires { IsOk (schema_at steps.now table.now.schema) }
-    ensures rows { MatchResult result (λ found. rows_at steps.now table.now.schema table.now.rows ≡ Ok found.now.rows) (λ e. rows_at steps.now table.now.schema table.now.rows ≡ Err e) }
-    ensures table { IfOk result (λ found. found.now ≡ table_at steps.now table.now) }
+pub(crate) fn find_table<'a>(table: Nested<'a>, steps: &[Step]) -> Result<Nested<'a>, EditError>
+    requires { IsOk (schema_at steps.now table.schema) }
+    ensures rows { MatchResult result (λ found. rows_at steps.now table.entry.schema table.entry.rows ≡ Ok found.rows) (λ e. rows_at steps.now table.entry.schema table.entry.rows ≡ Err e) }
+    ensures table { IfOk result (λ found. found ≡ table_at steps.now table.entry) }
 {
     let Some((step, rest)) = steps.split_first() else {
         return Ok(table);
@@ -39,5 +39,5 @@ pub(crate) fn find_table<'a>(table: &'a Shared, steps: &[Step]) -> Result<&'a Sh
         return Err(EditError::OutOfRange(size as u64));
     }
     let col = table.schema().find(step.prop.as_str()).unwrap();
-    find_table(table.table().inner(row, col), rest)
+    find_table(table.inner(row, col), rest)
 }

@@ -15,10 +15,9 @@ pub column::Column::value-to_rows-requires : goal.column::Column::value-to_rows-
 column::Column::value-to_rows-requires t c =
     let h = heading_of c.in-V.field-0 in
     let whole = rw c.in-V.is at c.requires.whole in
-    let light = inner_lighter _ h (stored_of c.args.self.now.col.now) c.views.result.now c.args.row c.get-in-V.result.now whole c.views.ensures c.get-in-V.ensures in
+    let light = inner_lighter _ h (stored_of c.args.self.now.col.now) c.views.result.now c.args.row c.get-in-V.result whole c.views.ensures c.get-in-V.ensures in
     let kind = ap (λ k. domain_weight (domain_of k)) c.in-V.is in
-    let same = ap (λ (u : StoredTable). attributes_weight u.schema) c.table.ensures in
-    (omega (arith, light, kind, same), tt)
+    omega (arith, light, kind)
 
 pub column::Column::value-returns-in-I : goal.column::Column::value-returns-in-I
 column::Column::value-returns-in-I t c =
@@ -37,9 +36,8 @@ column::Column::value-returns-in-L t c =
 pub column::Column::value-returns-in_ok-to_rows-in-V : goal.column::Column::value-returns-in_ok-to_rows-in-V
 column::Column::value-returns-in_ok-to_rows-in-V t c =
     let h = heading_of c.in-V.field-0 in
-    let rows = c.in_ok-to_rows-in-V.ensures ∙ ap (λ (u : StoredTable). u.rows) c.table.ensures in
-    ap (λ rs. relation (relation_of rs)) rows
-    ∙ rw c.in-V.is (sym (view_read h (stored_of c.args.self.now.col.now) c.views.result.now c.args.row c.get-in-V.result.now c.views.ensures c.get-in-V.ensures))
+    ap (λ rs. relation (relation_of rs)) c.in_ok-to_rows-in-V.ensures
+    ∙ rw c.in-V.is (sym (view_read h (stored_of c.args.self.now.col.now) c.views.result.now c.args.row c.get-in-V.result c.views.ensures c.get-in-V.ensures))
 
 pub table::Table::row-value-requires : goal.table::Table::row-value-requires
 table::Table::row-value-requires t c =

@@ -35,4 +35,4 @@ table_body-returns t c =
 
 pub tables_bodies-rows-preserved : goal.tables_bodies-rows-preserved
 tables_bodies-rows-preserved t c =
-    bodies_more c.args.tables.now c.rows.row c.get.result.now c.table.result.now c.rows.bodies c.push.new.self (body_of c.in_ok-table_body.field-0) c.get.ensures c.table.ensures c.rows.invariant c.in_ok-table_body.ensures c.in_ok-push.ensures.ok
+    bodies_more c.args.tables.now c.rows.row c.get.result c.table.result.now c.rows.bodies c.push.new.self (body_of c.in_ok-table_body.field-0) c.get.ensures (c.table.ensures ∙ c.in_ok-inner.ensures) c.rows.invariant c.in_ok-table_body.ensures c.in_ok-push.ensures.ok

@@ -1,4 +1,4 @@
-use Rattle.std.proofs.Common.{◌*◌, take, map}
+use Rattle.std.proofs.Common.{◌+◌, ◌*◌, take, map}
 use Rattle.tables.specs.Sizes.{column_size, table_size, tables_size}
 use Rattle.tables.specs.Stored.{stored_of}
 use Rattle.commit_plan.specs.Leaves.{Gains}
@@ -10,6 +10,9 @@ decreases-table_leaves l = 2 * table_size l.table.now
 
 abbrev pub decreases-col_leaves : goal.decreases-col_leaves
 decreases-col_leaves l = 2 * column_size (stored_of l.col.now)
+
+abbrev pub decreases-nested_leaves : goal.decreases-nested_leaves
+decreases-nested_leaves l = 2 * table_size l.table + 1
 
 abbrev pub decreases-tables_leaves : goal.decreases-tables_leaves
 decreases-tables_leaves l = 2 * tables_size l.tables.now

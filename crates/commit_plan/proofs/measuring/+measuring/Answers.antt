@@ -1,5 +1,7 @@
-use Rattle.std.proofs.Common.{ap, arith}
+use Rattle.std.proofs.Common.{ap, arith, refl, subst, sym}
 use Rattle.tables.specs.Stored.{stored_of}
+use Rattle.commit_plan.specs.Usage.{Adds}
+use Rattle.commit_plan.proofs.Gained.{placed_blocks}
 use Rattle.commit_plan.proofs.Sizes.{column_within, columns_lighter}
 use Rattle.commit_plan.proofs.UsedUp.{AddsOf, adds_joins}
 use Rattle.commit_plan.proofs.Walked.{walked_all, walked_column, walked_row, walked_views}
@@ -7,6 +9,10 @@ use Rattle.commit_plan.proofs.measuring.+measuring.Goals as goal
 
 pub col_usage-returns-in-Views : goal.col_usage-returns-in-Views
 col_usage-returns-in-Views t c = λ e whole. walked_views AddsOf adds_joins e (stored_of c.args.col.now) c.in-Views.tables c.args.usage.now c.tables_usage.new.usage (ap stored_of c.in-Views.is) c.tables_usage.ensures whole
+
+pub nested_usage-returns-in-Err : goal.nested_usage-returns-in-Err
+nested_usage-returns-in-Err t c =
+    subst (λ ss. Adds ss c.args.usage.now c.add_all.new.self) (sym (placed_blocks c.args.table c.in-Err.blocks.now c.in-Err.ensures.placed)) c.add_all.ensures
 
 pub table_usage-col_usage-requires : goal.table_usage-col_usage-requires
 table_usage-col_usage-requires t c =
@@ -26,4 +32,4 @@ table_usage-returns t c =
 
 pub tables_usage-rows-preserved : goal.tables_usage-rows-preserved
 tables_usage-rows-preserved t c =
-    walked_row AddsOf adds_joins c.rows.row c.args.tables.now c.get.result.now c.table.result.now c.args.usage.now c.rows.usage c.table_usage.new.usage c.get.ensures c.table.ensures c.rows.invariant c.table_usage.ensures
+    walked_row AddsOf adds_joins c.rows.row c.args.tables.now c.get.result c.get.result c.args.usage.now c.rows.usage c.nested_usage.new.usage c.get.ensures refl c.rows.invariant c.nested_usage.ensures

@@ -1,4 +1,4 @@
-use Rattle.std.proofs.Common.{◌*◌, take, map}
+use Rattle.std.proofs.Common.{◌+◌, ◌*◌, take, map}
 use Rattle.tables.specs.Rests.{blocks}
 use Rattle.tables.specs.Sizes.{column_size, table_size, tables_size}
 use Rattle.tables.specs.Stored.{stored_of}
@@ -11,6 +11,9 @@ decreases-table_usage l = 2 * table_size l.table.now
 
 abbrev pub decreases-col_usage : goal.decreases-col_usage
 decreases-col_usage l = 2 * column_size (stored_of l.col.now)
+
+abbrev pub decreases-nested_usage : goal.decreases-nested_usage
+decreases-nested_usage l = 2 * table_size l.table + 1
 
 abbrev pub decreases-tables_usage : goal.decreases-tables_usage
 decreases-tables_usage l = 2 * tables_size l.tables.now

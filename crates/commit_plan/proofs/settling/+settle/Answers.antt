@@ -1,19 +1,25 @@
-use Rattle.std.proofs.Common.{◌≡◌, ℕ, ◌<◌, List, length, drop, get_or, map, ap, sym, subst, ◌∙◌, arith}
-use Rattle.std.proofs.lemmas.List.{get_or-map, length-map}
+use Rattle.std.proofs.Common.{◌≡◌, ℕ, ◌+◌, ◌-◌, ◌<◌, ◌≤◌, List, [], ◌∷◌, ◌++◌, append-nil, length, take, drop, get_or, map, ap, sym, subst, ◌∙◌, arith}
+use Rattle.std.proofs.lemmas.List.{drop_more, get_or-map, length-map}
 use Rattle.std.proofs.lemmas.Option.{get_or_from_slice_get, slice_get_within}
+use Rattle.std.specs.List.{slice_get}
+use Rattle.std.specs.Prelude.{Some}
+use Rattle.mk_value.proofs.Walks.{same_default}
+use Rattle.mk_value.specs.declared.span.Span.{Span}
 use Rattle.tables.specs.Columns.{StoredColumn, table_of_columns, views}
+use Rattle.tables.specs.Pools.{no_table}
+use Rattle.tables.specs.Tables.{StoredTable}
 use Rattle.tables.specs.Shapes.{HasHomes}
 use Rattle.tables.specs.Sizes.{column_size}
 use Rattle.tables.specs.Stored.{stored_of}
 use Rattle.tables.specs.declared.cols.Col.{Col}
 use Rattle.tables.proofs.Gathering.{HasHomes-columns}
 use Rattle.tables.proofs.Cells.{IfOk-then}
-use Rattle.commit_plan.specs.Settling.{IsSettledAs, IsSettledTable, SettlesColumn, SettlesTable, column_count, counted, table_count}
+use Rattle.commit_plan.specs.Settling.{IsSettledAs, IsSettledTable, SettlesColumn, SettlesMore, SettlesTable, SettlesTables, column_count, counted, table_count}
 use Rattle.commit_plan.proofs.DueBlocks.{table_counted, views_counted}
 use Rattle.commit_plan.proofs.Settled.{columns_kept, table_settled, views_settled}
 use Rattle.commit_plan.proofs.Sizes.{column_within, columns_lighter, table_within}
-use Rattle.commit_plan.proofs.Staying.{table_stays}
-use Rattle.commit_plan.proofs.Turns.{enough_left, settles_more}
+use Rattle.commit_plan.proofs.Staying.{all_settle, homed_settles, table_stays}
+use Rattle.commit_plan.proofs.Turns.{enough_left, settles_all, settles_more, settles_several}
 use Rattle.commit_plan.proofs.settling.+settle.Goals as goal
 
 -- a column that was read among others
@@ -76,21 +82,91 @@ settle_table-returns t c =
     (λ u e. subst (λ x. SettlesTable c.args.shared.now c.args.places.now c.settle_cols.new.places x) (sym (e ∙ made))
     (subst (λ x. SettlesTable x c.args.places.now c.settle_cols.new.places (table_of_columns (length table.rows) table.schema c.in_ok-cols.cols)) old settled))
 
-pub settle_tables-settle_table-requires : goal.settle_tables-settle_table-requires
-settle_tables-settle_table-requires t c =
-    let within = table_within c.args.tables.now c.rows.row c.get.result.now c.get.ensures in (
-      omega (arith, within),
-      enough_left table_count IsSettledTable c.args.tables.now c.rows.settled c.rows.row c.get.result.now c.args.places.now c.rows.places
-          (slice_get_within c.args.tables.now c.rows.row c.get.result.now c.get.ensures)
-          (get_or_from_slice_get c.args.tables.now c.rows.row c.get.result.now c.get.result.now c.get.ensures) c.requires c.rows.invariant,
-    )
+-- the table at a row, as one that was got there
+got : (ts : List StoredTable) (row : ℕ) (t : StoredTable) → slice_get ts row ≡ Some t → get_or ts row no_table ≡ t
+got ts row t at = get_or_from_slice_get ts row t no_table at
+
+-- the one table at a row, and one that was settled
+one_at : (ts : List StoredTable) (row : ℕ) (t : StoredTable) → slice_get ts row ≡ Some t → take 1 (drop row ts) ≡ t ∷ []
+one_at ts row t at = ap (take 1) (drop_more ts row t (slice_get_within ts row t at)) ∙ ap (λ u. u ∷ []) (get_or_from_slice_get ts row t t at)
+
+one_settled : (t u : StoredTable) (spans rest : List Span) → SettlesTable t spans rest u → SettlesTables (t ∷ []) spans rest (u ∷ [])
+one_settled t u spans rest h = record {
+  rest_is = h.rest_is ∙ ap (λ n. drop n spans) (let e : table_count t ≡ table_count t + 0 = omega arith in e);
+  settled = (h.settled, tt);
+}
+
+pub settle_nested-returns-in-Err : goal.settle_nested-returns-in-Err
+settle_nested-returns-in-Err t c =
+    IfOk-then c.to_shared.result c.to_shared.ensures
+    (λ u e. subst (SettlesTable c.args.table c.args.places.now c.args.places.now) (sym e) (homed_settles c.args.table c.args.places.now c.in-Err.ensures.placed.shaped c.in-Err.ensures.placed.homed))
+
+pub settle_next-settle_nested-requires : goal.settle_next-settle_nested-requires
+settle_next-settle_nested-requires t c =
+    let within = table_within c.args.tables.now c.args.row c.get.result c.get.ensures in
+    (omega (arith, within), subst (λ u. table_count u ≤ length c.args.places.now) (got c.args.tables.now c.args.row c.get.result c.get.ensures) c.requires.enough)
+
+-- a pool that is taken over
+pub settle_next-returns-then-together-gt0-clause-settled : goal.settle_next-returns-then-together-gt0-clause-settled
+settle_next-returns-then-together-gt0-clause-settled t c =
+    let tables = c.args.tables.now in
+    let row = c.args.row in
+    let n = c.in_ok-together.together in
+    let places = c.args.places.now in
+    let many : (row + n) - row ≡ n = omega arith in
+    subst (λ m. SettlesMore (take m (drop row tables)) places places c.args.settled.now c.push_pool.new.self) (sym many)
+    (record {
+      more = take n (drop row tables);
+      added = c.in_ok-together.ensures.added;
+      settles = all_settle (take n (drop row tables)) places c.in_ok-together.ensures.shaped c.in_ok-together.ensures.homes;
+    })
+
+-- and a table
+pub settle_next-returns-clause-settled : goal.settle_next-returns-clause-settled
+settle_next-returns-clause-settled t c =
+    let tables = c.args.tables.now in
+    let row = c.args.row in
+    let one = c.in_ok-settle_nested.field-0 in
+    let places = c.args.places.now in
+    let none : c.in_ok-together.together ≡ 0 = omega (arith, c.if-together-gt0.false) in
+    let many : (row + 1) - row ≡ 1 = omega arith in
+    let before : c.push_pool.new.self ≡ c.args.settled.now =
+    c.in_ok-together.ensures.added ∙ ap (λ n. c.args.settled.now ++ take n (drop row tables)) none ∙ append-nil c.args.settled.now in
+    subst (λ m. SettlesMore (take m (drop row tables)) places c.settle_nested.new.places c.args.settled.now c.push.new.self) (sym many)
+    (record {
+      more = one ∷ [];
+      added = c.in_ok-push.ensures ∙ ap (λ l. l ++ one ∷ []) before;
+      settles = subst (λ ts. SettlesTables ts places c.settle_nested.new.places (one ∷ [])) (sym (one_at tables row c.get.result c.get.ensures))
+          (one_settled c.get.result one places c.settle_nested.new.places c.in_ok-settle_nested.ensures);
+    })
+
+pub settle_tables-settle_next-requires : goal.settle_tables-settle_next-requires
+settle_tables-settle_next-requires t c =
+    let tables = c.args.tables.now in
+    let row = c.rows.row in
+    let x = get_or tables row no_table in
+    let len = c.len.ensures in
+    let within : row < length tables = omega (arith, len, c.rows-test.true) in
+    (omega arith, (within, enough_left table_count IsSettledTable tables c.rows.settled row x c.args.places.now c.rows.places within (same_default tables row x no_table within) c.requires c.rows.invariant))
 
 pub settle_tables-rows-preserved : goal.settle_tables-rows-preserved
 settle_tables-rows-preserved t c =
-    settles_more table_count IsSettledTable c.args.tables.now c.rows.settled c.push.new.self c.rows.row c.get.result.now c.in_ok-settle_table.field-0 c.args.places.now c.rows.places c.settle_table.new.places
-    (slice_get_within c.args.tables.now c.rows.row c.get.result.now c.get.ensures)
-    (get_or_from_slice_get c.args.tables.now c.rows.row c.get.result.now c.get.result.now c.get.ensures)
-    c.rows.invariant c.in_ok-settle_table.ensures c.in_ok-push.ensures.ok
+    let tables = c.args.tables.now in
+    let row = c.rows.row in
+    let next = c.in_ok-row.row in
+    let more = c.in_ok-row.ensures.settled in
+    let further = c.in_ok-row.ensures.more in
+    let all : row + (next - row) ≡ next = omega (arith, further) in
+    subst (λ n. SettlesTables (take n tables) c.args.places.now c.settle_next.new.places c.settle_next.new.settled) all
+    (settles_several table_count IsSettledTable tables c.rows.settled more.more c.settle_next.new.settled row (next - row) c.args.places.now c.rows.places c.settle_next.new.places c.rows.invariant more.settles more.added)
+
+pub settle_tables-returns : goal.settle_tables-returns
+settle_tables-returns t c =
+    let tables = c.args.tables.now in
+    let len = c.len.ensures in
+    let past : length tables ≤ c.rows.row = omega (arith, len, c.rows-test.false) in
+    IfOk-then c.finish.result c.finish.ensures
+    (λ u e. subst (SettlesTables tables c.args.places.now c.rows.places) (sym e) (settles_all table_count IsSettledTable tables c.rows.settled c.rows.row c.args.places.now c.rows.places past c.rows.invariant))
 
 pub settle_table-returns-then-left : goal.settle_table-returns-then-left
 settle_table-returns-then-left t c =

@@ -110,7 +110,7 @@ read_each-loop-body-preserved g t c =
     let image = (g.D.Disk.outside c.args.disk.now).now.disk.seen in
     let left = drop_map_read body_of items k c.body-item.result c.loop-body-test.true c.body-item.is in
     let done = take_map_read body_of items k c.body-item.result c.loop-body-test.true c.body-item.is in
-    rw (c.in_ok-push.ensures.ok, c.in_ok-share.ensures)
+    rw (c.in_ok-push.ensures, c.in_ok-share.ensures)
     (record {
       counts = CountsFaults-joins ⊥ _ ⊥ c.loop-body.invariant.counts c.in_ok-table.ensures.counts (λ failed. absurd failed);
       same = λ tells. looks_joins (c.loop-body.invariant.same tells) (c.in_ok-table.ensures.same tells);
@@ -121,13 +121,13 @@ read_each-loop-body-preserved g t c =
 
 pub read_each-returns-clause-made : goal.read_each-returns-clause-made
 read_each-returns-clause-made g t c =
-    rw (← c.as_slice-body-items.ensures)
+    rw (c.in_ok-finish.ensures, ← c.as_slice-body-items.ensures)
     ((bodies_end g.D.Disk.tells (g.D.Disk.outside c.args.disk.now).now.disk.seen c.args.at c.args.schema.now (map body_of c.as_slice-body-items.result.now) c.loop-body.body-index c.loop-body.next c.loop-body.tables
     c.loop-body.invariant.so (let long = length-map c.as_slice-body-items.result.now body_of in let past = c.loop-body-test.false in omega (arith, long, past))).made)
 
 pub read_each-returns-clause-tables : goal.read_each-returns-clause-tables
 read_each-returns-clause-tables g t c = λ tells.
-    rw (← c.as_slice-body-items.ensures)
+    rw (c.in_ok-finish.ensures, ← c.as_slice-body-items.ensures)
     ((bodies_end g.D.Disk.tells (g.D.Disk.outside c.args.disk.now).now.disk.seen c.args.at c.args.schema.now (map body_of c.as_slice-body-items.result.now) c.loop-body.body-index c.loop-body.next c.loop-body.tables
     c.loop-body.invariant.so (let long = length-map c.as_slice-body-items.result.now body_of in let past = c.loop-body-test.false in omega (arith, long, past))).read tells)
 

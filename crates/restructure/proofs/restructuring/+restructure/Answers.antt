@@ -1,4 +1,4 @@
-use Rattle.std.proofs.Common.{◌≡◌, ◌<◌, [], length, get_or, replicate, ap, subst, ◌∙◌, arith}
+use Rattle.std.proofs.Common.{◌≡◌, ◌<◌, [], Some, length, get_or, replicate, ap, sym, subst, ◌∙◌, arith}
 use Rattle.mk_value.specs.Heading.{Domain, Attribute, domain_weight, find, heading_of}
 use Rattle.mk_value.specs.Data.{default_of}
 use Rattle.mk_value.specs.Kinds.{domain_of}
@@ -74,9 +74,9 @@ pub restructure_views-loop-at-preserved : goal.restructure_views-loop-at-preserv
 restructure_views-loop-at-preserved t c =
     let new = c.args.new.now in
     let schema = c.in_ok-schema.ensures ∙ c.in_ok-copy.ensures in
-    let x = c.get.result.now in
+    let x = c.in_ok-inner.inner in
     let made = c.in_ok-restructure_inner.field-0 in
-    one_more_made c.args.old.now new c.loop-at.at c.loop-at.tables c.push.new.self x made (record { are = c.loop-at.invariant.are; whole = c.loop-at.invariant.whole }) c.get.ensures
+    one_more_made c.args.old.now new c.loop-at.at c.loop-at.tables c.push.new.self x made (record { are = c.loop-at.invariant.are; whole = c.loop-at.invariant.whole }) (c.get.ensures ∙ ap Some (sym c.in_ok-inner.ensures))
     (c.in_ok-restructure_inner.ensures.made ∙ ap (restructured x) schema) (subst (λ s. IsTableOf s made) schema c.in_ok-restructure_inner.ensures.whole) c.in_ok-push.ensures.ok
 
 pub to_views-returns-in_ok-restructure_views-in-V : goal.to_views-returns-in_ok-restructure_views-in-V

@@ -12,14 +12,14 @@ use Rattle.stream_codec.proofs.lengths.+length.Goals as goal
 
 pub column_length-returns-in-I : goal.column_length-returns-in-I
 column_length-returns-in-I t c =
-    let counted = integers_counted c.args.table.now c.args.col c.requires.whole c.requires.col_in (sym c.column.ensures.kind ∙ ap domain_of c.in-I.is) in
+    let counted = integers_counted c.args.table.now c.args.col c.requires.whole c.requires.col_in (ap (λ s. domain_at s c.args.col) (sym c.schema.ensures.value) ∙ c.kind_at.ensures ∙ ap domain_of c.in-I.is) in
     let few = c.requires.whole.rows.few in
     let len = c.len.ensures.value in
     (omega (arith, counted, few), omega (arith, counted, len))
 
 pub column_length-returns-in-L : goal.column_length-returns-in-L
 column_length-returns-in-L t c =
-    let counted = longs_counted c.args.table.now c.args.col c.requires.whole c.requires.col_in (sym c.column.ensures.kind ∙ ap domain_of c.in-L.is) in
+    let counted = longs_counted c.args.table.now c.args.col c.requires.whole c.requires.col_in (ap (λ s. domain_at s c.args.col) (sym c.schema.ensures.value) ∙ c.kind_at.ensures ∙ ap domain_of c.in-L.is) in
     let few = c.requires.whole.rows.few in
     let len = c.len-in-L.ensures.value in
     (omega (arith, counted, few), omega (arith, counted, len))
@@ -72,13 +72,13 @@ value_length-inner-requires-clause-view t c =
 pub value_length-rows_length-requires : goal.value_length-rows_length-requires
 value_length-rows_length-requires t c =
     let table = c.args.table.now in
-    let inside = ap (λ (t : StoredTable). rows_weight t.rows) (c.table.ensures ∙ c.inner.ensures.value) in
+    let inside = ap (λ (t : StoredTable). rows_weight t.rows) c.inner.ensures.value in
     let lighter = inner_lighter table.rows table.schema c.args.row c.args.col c.requires.whole.rows c.requires.row_in c.requires.col_in in
     (omega (arith, inside, lighter, c.decreases), tt)
 
 pub value_length-returns-in-V : goal.value_length-returns-in-V
 value_length-returns-in-V t c =
-    let inside = ap (λ (t : StoredTable). length (spelled_rows t.rows)) (c.table.ensures ∙ c.inner.ensures.value) in
+    let inside = ap (λ (t : StoredTable). length (spelled_rows t.rows)) c.inner.ensures.value in
     let spelled = ap length (rows_lent c.in-V.field-0 (cell c.args.table.now.rows c.args.row c.args.col) c.in-V.ensures) in
     subst (λ (n : ℕ). OkIff c.rows_length.result (n < 2 ^ 64) n) (inside ∙ spelled) c.rows_length.ensures
 

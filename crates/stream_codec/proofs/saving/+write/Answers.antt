@@ -64,7 +64,7 @@ write_value-inner-requires-clause-view t c =
 pub write_value-write_rows-requires : goal.write_value-write_rows-requires
 write_value-write_rows-requires t c =
     let table = c.args.table.now in
-    let inside = ap (λ (t : StoredTable). rows_weight t.rows) (c.table.ensures ∙ c.inner.ensures.value) in
+    let inside = ap (λ (t : StoredTable). rows_weight t.rows) c.inner.ensures.value in
     let lighter = inner_lighter table.rows table.schema c.args.row c.args.col c.requires.whole.rows c.requires.row_in c.requires.col_in in
     (omega (arith, inside, lighter, c.decreases), tt)
 
@@ -84,7 +84,7 @@ write_value-write_counted-requires-in-B t c =
 
 pub write_value-returns-in-V : goal.write_value-returns-in-V
 write_value-returns-in-V t c =
-    let inside = ap (λ (t : StoredTable). spelled_rows t.rows) (c.table.ensures ∙ c.inner.ensures.value) in
+    let inside = ap (λ (t : StoredTable). spelled_rows t.rows) c.inner.ensures.value in
     let spelled = rows_lent c.in-V.field-0 (cell c.args.table.now.rows c.args.row c.args.col) c.in-V.ensures in
-    writes_along c.write_rows.result c.args.out.now c.write_rows.new.out (spelled_rows c.table.result.now.rows) (spelled_value (cell c.args.table.now.rows c.args.row c.args.col)) (inside ∙ spelled)
+    writes_along c.write_rows.result c.args.out.now c.write_rows.new.out (spelled_rows c.inner.result.rows) (spelled_value (cell c.args.table.now.rows c.args.row c.args.col)) (inside ∙ spelled)
     c.write_rows.ensures

@@ -6,5 +6,5 @@ use Rattle.tables.proofs.column.Column.lend.Goals as goal
 pub returns-in-V : goal.returns-in-V
 returns-in-V c =
     rw c.in-V.is
-    (lent_view (heading_of c.in-V.field-0) (stored_of c.args.self.now.col.now) c.views.result.now c.args.row c.len.result c.get-in-V.result.now
-    c.views.ensures c.get-in-V.ensures (rw c.table.ensures at c.len.ensures.value))
+    (lent_view (heading_of c.in-V.field-0) (stored_of c.args.self.now.col.now) c.views.result.now c.args.row c.len.result c.get-in-V.result
+    c.views.ensures c.get-in-V.ensures c.len.ensures.value)

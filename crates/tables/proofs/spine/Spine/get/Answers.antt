@@ -4,5 +4,5 @@ use Rattle.tables.proofs.spine.Spine.get.Goals as goal
 pub returns : goal.returns
 returns c =
     rw (← c.self.view_is)
-    (get_place c.self.inside.chunks c.args.at c.find-place.result c.list-chunk.result.now
-    (rw (← c.self.view_is) at c.find-place.ensures.place) (rw (← c.list-chunk.ensures) at c.get.ensures) c.get-2.result.now c.get-2.ensures)
+    (get_place c.self.inside.chunks c.args.at c.find-place.result c.get-chunk.result.now
+    (rw (← c.self.view_is) at c.find-place.ensures.place) c.get-chunk.ensures c.get.result c.get.ensures)

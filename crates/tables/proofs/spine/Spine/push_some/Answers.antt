@@ -6,9 +6,9 @@ pub returns-clause-tables : goal.returns-clause-tables
 returns-clause-tables c =
     let n = c.min-count.result in
     let place = rw (← c.self.view_is) at c.find-place.ensures.place in
-    let here = rw (← c.list-chunk.ensures) at c.get.ensures in
-    let enough : c.find-place.result.offset + n ≤ length c.list-chunk.result.now =
-    omega (arith, c.min-count.ensures, c.len.ensures.len, within_part c.self.inside.chunks c.args.from c.find-place.result c.list-chunk.result.now place here) in
+    let here = c.get-chunk.ensures in
+    let enough : c.find-place.result.offset + n ≤ length c.get-chunk.result.now =
+    omega (arith, c.min-count.ensures, c.len.ensures.len, within_part c.self.inside.chunks c.args.from c.find-place.result c.get-chunk.result.now place here) in
     rw (← c.self.view_is)
-    (c.in_ok-push_part.ensures.ok
-    ∙ ap (λ ts. c.args.list.now ++ ts) (sym (items_from_place c.self.inside.chunks c.args.from c.find-place.result c.list-chunk.result.now place here n enough)))
+    (c.in_ok-push_part.ensures
+    ∙ ap (λ ts. c.args.list.now ++ ts) (sym (items_from_place c.self.inside.chunks c.args.from c.find-place.result c.get-chunk.result.now place here n enough)))
