@@ -2,32 +2,36 @@
 use Rattle.std.specs.Prelude.{◌≡◌, ℕ, ◌+◌, ◌*◌, ◌<◌, ◌≤◌, List, [], ◌∷◌, ◌++◌, length, map, All, refl}
 use Rattle.mk_value.specs.declared.span.Span.{Span}
 use Rattle.std.specs.List.{AllZip}
-use Rattle.std.proofs.Common.{arith, ap, ◌∙◌}
+use Rattle.std.proofs.Common.{arith, ap, get_or, ◌∙◌}
 use Rattle.std.proofs.lemmas.List.Elements.{All-head, All-tail}
 use denote.Param.Weighed.{most}
 use Rattle.mk_value.specs.Heading.{Domain, Heading, no_attributes, attribute, Attribute, attributes_of, domain_weight, heading_weight, attributes_weight}
 use Rattle.tables.specs.Tables.{StoredTable}
 use Rattle.tables.specs.Columns.{StoredColumn, integers, texts, views, IsTableOf, IsColumnOf, AreColumnsOf}
 use Rattle.segments.specs.Joined.{joined}
-use Rattle.tables.specs.Pools.{IsPool, parts}
-use Rattle.tables.specs.Sizes.{table_size, pool_size, shared_size, list_size, chunk_size, chunks_size, group_size, groups_size, spine_size, growing_size, tables_size, column_size, columns_size}
+use Rattle.tables.specs.Items.{IsItem, item_table}
+use Rattle.tables.specs.Pools.{IsPool, no_table, parts}
+use Rattle.tables.specs.Sizes.{table_size, pool_size, shared_size, item_size, list_size, chunk_size, chunks_size, group_size, groups_size, spine_size, growing_size, tables_size, column_size, columns_size}
 use Rattle.tables.specs.Stored.{stored_of}
 use Rattle.tables.specs.Lists.{chunk_tables, head_tables, tables_of}
 use Rattle.tables.specs.declared.chunk.ChunkKind.{ChunkKind}
 use Rattle.tables.specs.declared.chunk.ChunkKind.TheVariants.{Listed, Pooled}
+use Rattle.tables.specs.declared.item.ItemKind.{ItemKind}
+use Rattle.tables.specs.declared.item.ItemKind.TheVariants.{Own, Part}
 use Rattle.tables.specs.declared.cols.Col.{Col}
 use Rattle.tables.specs.declared.cols.Col.TheVariants.{Ints, Blobs, Views}
 use Rattle.tables.specs.declared.growing.Head.{Head}
 use Rattle.tables.specs.declared.growing.Head.TheVariants.{Empty, Chunks}
 use Rattle.tables.specs.declared.tables.Kind.{Kind}
 use Rattle.tables.specs.declared.tables.Kind.TheVariants.{One, Growing}
-use Rattle.tables.specs.declared.chunk.Chunk.TheDeep.{deep-Chunk, deep-ChunkKind, deep-ChunkList, deep-Col, deep-Cols, deep-Group, deep-Groups, deep-Growing, deep-Head, deep-Kind, deep-Pool, deep-Shared, deep-Spine, deep-Table, deep-TableList, deep-Tables}
+use Rattle.tables.specs.declared.chunk.Chunk.TheDeep.{deep-Chunk, deep-ChunkKind, deep-ChunkList, deep-Col, deep-Cols, deep-Group, deep-Groups, deep-Growing, deep-Head, deep-Item, deep-ItemKind, deep-Kind, deep-Pool, deep-Shared, deep-Spine, deep-Table, deep-TableList, deep-Tables}
 use Rattle.tables.specs.declared.chunk.Chunk.TheInside as chunk
 use Rattle.tables.specs.declared.cols.Cols.TheInside as cols
 use Rattle.tables.specs.declared.groups.ChunkList.TheInside as chunks
 use Rattle.tables.specs.declared.groups.Group.TheInside as group
 use Rattle.tables.specs.declared.groups.Groups.TheInside as groups
 use Rattle.tables.specs.declared.growing.Growing.TheInside as growing
+use Rattle.tables.specs.declared.item.Item.TheInside as item
 use Rattle.tables.specs.declared.pool.Pool.TheInside as pool
 use Rattle.tables.specs.declared.shared.Shared.TheInside as shared
 use Rattle.tables.specs.declared.spine.Spine.TheInside as spine
@@ -57,12 +61,22 @@ pool_bound t (end ∷ ends) blocks some = omega arith
 pub pool_falls : (a : pool.Inside) → IsPool a.table a.ends.items a.blocks.items → deep-Pool a ≤ pool_size (parts a.table a.ends.items a.blocks.items)
 pool_falls a h = let bound = pool_bound a.table a.ends.items a.blocks.items h.some in omega (arith, bound)
 
-most-shared : (ts : List StoredTable) → most (λ t. shared_size t + 1) ts ≤ list_size ts
-most-shared [] = omega arith
-most-shared (t ∷ rest) = omega (arith, most-shared rest)
+-- the tables of a pool have one schema, and so are as deep as any of them
+pool_even : (ts : List StoredTable) (schema : List Attribute) → All (λ t. t.schema ≡ schema) ts → pool_size ts ≤ 6 * attributes_weight schema + 17
+pool_even [] schema same = omega arith
+pool_even (t ∷ rest) schema same =
+    let first = ap attributes_weight (All-head (λ (u : StoredTable). u.schema ≡ schema) t rest same) in
+    omega (arith, first, pool_even rest schema (All-tail (λ (u : StoredTable). u.schema ≡ schema) t rest same))
+
+item_bound : (k : ItemKind) → IsItem k → deep-ItemKind k ≤ item_size (item_table k)
+item_bound (Own table) h = omega arith
+item_bound (Part pool number) h = omega (arith, pool_even pool.value (get_or pool.value number no_table).schema h.same)
+
+pub item_falls : (a : item.Inside) → IsItem a.kind → deep-Item a ≤ item_size (item_table a.kind)
+item_falls a h = omega (arith, item_bound a.kind h)
 
 pub list_falls : (a : list.Inside) → deep-TableList a ≤ list_size a.items.items
-list_falls a = omega (arith, most-shared a.items.items)
+list_falls a = omega arith
 
 pool_within : (ts : List StoredTable) → pool_size ts ≤ list_size ts
 pool_within [] = omega arith
@@ -136,7 +150,7 @@ attributes_weight-attributes_of : (h : Heading) → attributes_weight (attribute
 attributes_weight-attributes_of no_attributes = refl
 attributes_weight-attributes_of (attribute n d rest) = let e = attributes_weight-attributes_of rest in omega (arith, e)
 
-inner_bound : (h : Heading) (ts : List StoredTable) → All (IsTableOf (attributes_of h)) ts → list_size ts ≤ 6 * heading_weight h + 18
+inner_bound : (h : Heading) (ts : List StoredTable) → All (IsTableOf (attributes_of h)) ts → list_size ts ≤ 6 * heading_weight h + 19
 inner_bound h [] whole = omega arith
 inner_bound h (t ∷ rest) whole =
     let first = All-head (IsTableOf (attributes_of h)) t rest whole in

@@ -7,6 +7,7 @@ pub mod Edits
 pub mod Falls
 pub mod HomeCode
 pub mod Homes
+pub mod Items
 pub mod Lists
 pub mod Nested
 pub mod Pools

@@ -15,9 +15,12 @@ shared_size t = table_size t + 1
 abbrev pub pool_size : List StoredTable → ℕ
 pool_size ts = most (λ t. table_size t + 1) ts
 
--- the size of a list of shared tables
+-- of a table of a list, and of such a list
+abbrev pub item_size : StoredTable → ℕ
+item_size t = table_size t + 2
+
 abbrev pub list_size : List StoredTable → ℕ
-list_size ts = most (λ t. table_size t + 2) ts
+list_size ts = most (λ t. item_size t + 1) ts
 
 -- of a chunk, of a list of chunks, of a group of them, of the groups of a spine, of a spine, and of a list that is a spine and a chunk
 -- behind it

@@ -6,6 +6,7 @@ ghost use Rattle.tables.specs.Pools.{Adds, HasAllHomes, IsPoolable, no_table};
 ghost use Rattle.tables.specs.Rows.{inserted, removed};
 ghost use Rattle.tables.specs.Shapes.{HasHomes};
 
+use crate::item::Item;
 use crate::pool::Pool;
 use crate::{Nested, Shared, Table};
 use mk_value::{Memory, Schema};
@@ -16,14 +17,14 @@ use std::rc::Rc;
 /// How many tables a chunk of a spine has at most. An edit of a shared list copies a count for each table of a chunk.
 pub(crate) const CHUNK_MOST: usize = 1024;
 
-/// How many tables a pool has at most. An edit of one of them copies them all.
+/// How many tables a pool has at most. An edit of one of them makes a list of all, in which the others stay in the pool.
 const POOL_MOST: usize = 64;
 
 /// The tables of a chunk, one after another.
 #[cycle(table)]
 #[derive(Drop)]
 pub(crate) struct TableList {
-    items: Vec<Shared>,
+    items: Vec<Item>,
 }
 
 /// A chunk, which copies share. An edit by one of its holders leaves it as it is for the others.
@@ -132,11 +133,11 @@ impl TableList {
     }
 
     /// The table at a place.
-    pub(crate) fn get(&self, at: usize) -> &Shared
+    pub(crate) fn get(&self, at: usize) -> Nested<'_>
         requires { at < length self.now }
-        ensures { slice_get self.now at ≡ Some result.now }
+        ensures { slice_get self.now at ≡ Some result }
     {
-        &self.items[at]
+        self.items[at].lend()
     }
 
     /// Adds a table behind the others. Where it has no rows, and the last one is the same, it is that one once more.
@@ -145,7 +146,15 @@ impl TableList {
         ensures err { OnErr result (self.new ≡ self.old) }
     {
         let table = self.or_last(table)?;
-        self.items.push(table)?;
+        self.push_item(Item::own(table))
+    }
+
+    /// Adds a table behind the others, as it stands.
+    fn push_item(&mut self, item: Item) -> Result<(), Memory>
+        ensures ok { OnOk result (self.new ≡ self.old ++ item ∷ []) }
+        ensures err { OnErr result (self.new ≡ self.old) }
+    {
+        self.items.push(item)?;
         Ok(())
     }
 
@@ -160,7 +169,7 @@ impl TableList {
     }
 
     /// The last table, if there is one.
-    fn last(&self) -> Option<&Shared> {
+    fn last(&self) -> Option<&Item> {
         self.items.last()
     }
 
@@ -175,7 +184,7 @@ impl TableList {
     /// Whether the first table is such that a pool may have it.
     pub(crate) fn is_first_poolable(&self) -> bool {
         match self.items.first() {
-            Some(first) => first.table().is_poolable(),
+            Some(first) => first.is_poolable(),
             None => false,
         }
     }
@@ -183,7 +192,7 @@ impl TableList {
     /// The schema of the last table.
     pub(crate) fn last_schema(&self) -> Option<&segments::Shared<Schema>> {
         match self.last() {
-            Some(last) => Some(last.table().shared_schema()),
+            Some(last) => Some(last.shared_schema()),
             None => None,
         }
     }
@@ -220,7 +229,7 @@ impl TableList {
         requires { at < length self.old }
         ensures { self.new ≡ slice_set self.old at table }
     {
-        self.items[at] = table;
+        self.items[at] = Item::own(table);
     }
 
     /// Puts one table, so many times, before the one at a place, or at the end.
@@ -254,18 +263,18 @@ impl TableList {
 }
 
 /// Appends one table so many times. An error leaves the tables before them.
-fn push_copies(tables: &mut Vec<Shared>, table: &Shared, count: usize) -> Result<(), Memory>
+fn push_copies(tables: &mut Vec<Item>, table: &Shared, count: usize) -> Result<(), Memory>
     ensures ok { OnOk result (tables.new.items ≡ tables.old.items ++ replicate count table.now) }
     ensures err { OnErr result (take (length tables.old.items) tables.new.items ≡ tables.old.items) }
 {
     for _ in 0..count {
-        tables.push(table.clone()?)?;
+        tables.push(Item::own(table.clone()?))?;
     }
     Ok(())
 }
 
 /// Appends tables in order.
-fn push_each(tables: &mut Vec<Shared>, more: &[Shared]) -> Result<(), Memory>
+fn push_each(tables: &mut Vec<Item>, more: &[Item]) -> Result<(), Memory>
     ensures { OnOk result (tables.new.items ≡ tables.old.items ++ more.now) }
 {
     for table in more {
@@ -312,7 +321,7 @@ impl Chunk {
         ensures { slice_get self.now at ≡ Some result }
     {
         match &self.kind {
-            ChunkKind::Listed(list) => Nested::of(list.get(at)),
+            ChunkKind::Listed(list) => list.get(at),
             ChunkKind::Pooled(pool) => Nested::part(pool, at),
         }
     }
@@ -474,10 +483,14 @@ pub(crate) fn sealed_chunk(list: TableList) -> Result<Chunk, Memory>
     requires few { length list ≤ 1024 }
     ensures { IfOk result (λ chunk. chunk ≡ list) }
 {
-    if list.len() > POOL_MOST || !are_poolable(&list.items) {
+    if list.len() > POOL_MOST || !list.is_first_poolable() {
         return Chunk::of(list);
     }
-    pooled_chunk(list.allocator(), &list.items)
+    let tables = own_tables(list.allocator(), &list.items)?;
+    if !are_poolable(&tables) {
+        return Chunk::of(list);
+    }
+    pooled_chunk(list.allocator(), &tables)
 }
 
 /// A chunk of so many tables from a place on, kept together where all of them may be.
@@ -487,11 +500,22 @@ fn pooled_part(list: &TableList, from: usize, count: usize) -> Result<Chunk, Mem
     requires within { from + count ≤ length list.now }
     ensures { IfOk result (λ chunk. chunk ≡ take count (drop from list.now)) }
 {
-    let tables = &list.items[from..from + count];
-    if !are_poolable(tables) {
+    let tables = own_tables(list.allocator(), &list.items[from..from + count])?;
+    if !are_poolable(&tables) {
         return part(list, from, count);
     }
-    pooled_chunk(list.allocator(), tables)
+    pooled_chunk(list.allocator(), &tables)
+}
+
+/// The tables of items, each in columns of its own.
+fn own_tables(alloc: Global, items: &[Item]) -> Result<Vec<Shared>, Memory>
+    ensures { IfOk result (λ tables. tables.items ≡ items.now) }
+{
+    let mut tables = Vec::new(alloc);
+    for item in items {
+        tables.push(item.lend().to_shared()?)?;
+    }
+    Ok(tables)
 }
 
 /// The chunk of tables that are kept together.
@@ -536,25 +560,30 @@ fn cloned(list: &TableList) -> Result<TableList, Memory>
     Ok(list.clone()?)
 }
 
-/// So many tables of a pool from a place on, one by one.
-fn pooled_list(pool: &Pool, from: usize, count: usize) -> Result<TableList, Memory>
-    requires { from + count ≤ length pool.now }
-    ensures { IfOk result (λ list. list ≡ take count (drop from pool.now)) }
+/// So many tables of a pool from a place on, which stay in it.
+fn pooled_list(pool: &Rc<Pool>, from: usize, count: usize) -> Result<TableList, Memory>
+    requires { from + count ≤ length pool.now.value }
+    ensures { IfOk result (λ list. list ≡ take count (drop from pool.now.value)) }
 {
     let mut list = TableList::new(pool.allocator());
     push_pooled(&mut list, pool, from, count)?;
     Ok(list)
 }
 
-/// Adds so many tables of a pool from a place on behind those of a list.
-fn push_pooled(list: &mut TableList, pool: &Pool, from: usize, count: usize) -> Result<(), Memory>
-    requires { from + count ≤ length pool.now }
-    ensures { OnOk result (list.new ≡ list.old ++ take count (drop from pool.now)) }
+/// Adds so many tables of a pool from a place on, which stay in it, behind those of a list.
+fn push_pooled(
+    list: &mut TableList,
+    pool: &Rc<Pool>,
+    from: usize,
+    count: usize,
+) -> Result<(), Memory>
+    requires { from + count ≤ length pool.now.value }
+    ensures { OnOk result (list.new ≡ list.old ++ take count (drop from pool.now.value)) }
 {
     // A pool has few tables.
     let _few = pool.len();
     for at in 0..count {
-        list.push(pool.to_shared(from + at)?)?;
+        list.push_item(Item::part(pool, from + at)?)?;
     }
     Ok(())
 }
@@ -575,7 +604,7 @@ fn set_listed(list: &mut Rc<TableList>, at: usize, table: Shared) -> Result<(), 
     ensures err { OnErr result (list.new.value ≡ list.old.value) }
 {
     let list = Rc::make_mut(list)?;
-    list.items[at] = table;
+    list.items[at] = Item::own(table);
     Ok(())
 }
 

@@ -132,7 +132,7 @@ impl Growing {
         ensures { slice_get self.now at ≡ Some result }
     {
         match &self.head {
-            Head::Empty => Nested::of(self.last.get(at)),
+            Head::Empty => self.last.get(at),
             Head::Chunks(spine) => get_in(spine, &self.last, at),
         }
     }
@@ -304,7 +304,7 @@ fn get_in<'a>(spine: &'a Spine, last: &'a TableList, at: usize) -> Nested<'a>
     if at < before {
         return spine.get(at);
     }
-    Nested::of(last.get(at - before))
+    last.get(at - before)
 }
 
 /// The schema of a table that stands near the end of a spine and the chunk behind it.

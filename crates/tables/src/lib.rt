@@ -12,6 +12,7 @@ mod column;
 mod edits;
 mod groups;
 mod growing;
+mod item;
 mod nested;
 mod pool;
 mod prepared;
