@@ -76,7 +76,7 @@ impl Pool {
         Ok(Pool {
             table: table_of_rows(alloc, schema, &rows)?,
             ends: ends_of(alloc, tables)?,
-            blocks: blocks_of(alloc, tables)?,
+            blocks: blocks_of(alloc, schema.get(), tables)?,
         })
     }
 
@@ -300,12 +300,13 @@ fn ends_of(alloc: Global, tables: &[Shared]) -> Result<Vec<u16>, Memory>
     Ok(ends)
 }
 
-/// The blocks of the homes of tables, one after another.
-fn blocks_of(alloc: Global, tables: &[Shared]) -> Result<Vec<Block>, Memory>
+/// The blocks of the homes of tables of a schema, one after another, in a list with room for just these.
+fn blocks_of(alloc: Global, schema: &Schema, tables: &[Shared]) -> Result<Vec<Block>, Memory>
     requires { All IsCompact (blocks_of_tables tables.now) }
     ensures { IfOk result (λ blocks. blocks.items ≡ blocks_of_tables tables.now) }
 {
-    let mut blocks = Vec::new(alloc);
+    let count = tables.len().saturating_mul(blocks_of_schema(schema));
+    let mut blocks = Vec::with_capacity(alloc, count)?;
     for table in tables {
         push_blocks(&mut blocks, table.table().cols())?;
     }
