@@ -10,9 +10,9 @@ ghost use Rattle.commit_plan.specs.Plain.{plain_of, plain_tables};
 
 use bytes_col::BytesCol;
 use int_col::IntCol;
-use mk_value::{Memory, Span};
+use mk_value::Memory;
 use std::alloc::Global;
-use tables::{Col, Nested, Table, Tables};
+use tables::{Block, Col, Nested, Table, Tables};
 use view_store::Views;
 
 /// A leaf column, lent.
@@ -23,7 +23,7 @@ pub(crate) enum Leaf<'a> {
     /// Texts or byte strings.
     Blobs(&'a BytesCol),
     /// The columns of a table that has no columns of its own, each of which has a home of these blocks.
-    Placed(&'a [Span]),
+    Placed(&'a [Block]),
 }
 
 /// The leaf columns of views, nested ones too, in the order of a directory.

@@ -18,7 +18,7 @@ use free_space::extent_len;
 use int_col::IntCol;
 use mk_value::Span;
 use recovery::Kept;
-use tables::{Col, Nested, Table, Tables};
+use tables::{Block, Col, Nested, Table, Tables};
 use view_store::Views;
 
 /// What blocks take up: the sum of their extents in bytes, and how many of them have bytes. Each stands still at 2^64 - 1.
@@ -91,7 +91,7 @@ fn nested_usage(table: Nested<'_>, usage: &mut Usage)
 {
     match table.own() {
         Ok(own) => table_usage(own.table(), usage),
-        Err(blocks) => usage.add_all(blocks),
+        Err(blocks) => usage.add_blocks(blocks),
     }
 }
 
@@ -129,6 +129,14 @@ impl Usage {
     {
         'spans: for span in spans {
             self.add(*span);
+        }
+    }
+
+    fn add_blocks(&mut self, blocks: &[Block])
+        ensures { Adds blocks.now self.old self.new }
+    {
+        'placed: for block in blocks {
+            self.add(block.span());
         }
     }
 

@@ -17,6 +17,7 @@ use int_col::IntCol;
 use mk_value::{Memory, Span};
 use recovery::Kept;
 use std::alloc::Global;
+use tables::Block;
 use view_store::Views;
 
 /// What is free beside the blocks of a commit, from the floor on.
@@ -58,7 +59,7 @@ fn push_home(leaf: Leaf<'_>, spans: &mut Vec<Span>) -> Result<(), Memory>
     match leaf {
         Leaf::Ints(column) => push_block(column, spans),
         Leaf::Blobs(column) => push_blocks(column, spans),
-        Leaf::Placed(blocks) => push_spans(blocks, spans),
+        Leaf::Placed(blocks) => push_placed(blocks, spans),
     }
 }
 
@@ -93,6 +94,15 @@ fn push_spans(more: &[Span], spans: &mut Vec<Span>) -> Result<(), Memory>
 {
     'more: for span in more {
         push_span(*span, spans)?;
+    }
+    Ok(())
+}
+
+fn push_placed(blocks: &[Block], spans: &mut Vec<Span>) -> Result<(), Memory>
+    ensures { OnOk result (spans.new.items ≡ spans.old.items ++ filter has_bytes blocks.now) }
+{
+    'placed: for block in blocks {
+        push_span(block.span(), spans)?;
     }
     Ok(())
 }

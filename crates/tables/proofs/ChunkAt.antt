@@ -15,7 +15,7 @@ taken_within xs part at is some =
     let long : length part ≡ min (length part) (length (drop at xs)) = ap length is ∙ length-take (length part) (drop at xs) in
     omega (arith, long, length-drop at xs, some)
 
-made : (ts : List StoredTable) (at : ℕ) (chunk : List StoredTable) → chunk ≡ take (length chunk) (drop at ts) → 0 < length chunk → length chunk ≤ 64 → All HasAllHomes chunk → All HasHomes chunk → IsChunkAt ts at chunk
+made : (ts : List StoredTable) (at : ℕ) (chunk : List StoredTable) → chunk ≡ take (length chunk) (drop at ts) → 0 < length chunk → length chunk ≤ 128 → All HasAllHomes chunk → All HasHomes chunk → IsChunkAt ts at chunk
 made ts at chunk part some few homed shaped = record {
   some = some;
   few = few;
@@ -26,7 +26,7 @@ made ts at chunk part some few homed shaped = record {
 }
 
 -- a chunk that begins at the place
-pub chunk_at : (chunks : List (List StoredTable)) (at : ℕ) (p : Place) (chunk : List StoredTable) → IsPlace (counts_of chunks) at p → chunk ≡ get_or chunks p.segment chunk → p.offset ≡ 0 → length chunk ≤ 64 → All HasAllHomes chunk → All HasHomes chunk → IsChunkAt (joined chunks) at chunk
+pub chunk_at : (chunks : List (List StoredTable)) (at : ℕ) (p : Place) (chunk : List StoredTable) → IsPlace (counts_of chunks) at p → chunk ≡ get_or chunks p.segment chunk → p.offset ≡ 0 → length chunk ≤ 128 → All HasAllHomes chunk → All HasHomes chunk → IsChunkAt (joined chunks) at chunk
 chunk_at chunks at p chunk place here none few homed shaped =
     let n = length chunk in
     let some = within_part chunks at p chunk place here in
@@ -34,7 +34,7 @@ chunk_at chunks at p chunk place here none few homed shaped =
     made (joined chunks) at chunk (sym part) (omega (arith, some)) few homed shaped
 
 -- the only chunk
-pub chunk_alone : (at : ℕ) (chunk : List StoredTable) → at ≡ 0 → at < length chunk → length chunk ≤ 64 → All HasAllHomes chunk → All HasHomes chunk → IsChunkAt chunk at chunk
+pub chunk_alone : (at : ℕ) (chunk : List StoredTable) → at ≡ 0 → at < length chunk → length chunk ≤ 128 → All HasAllHomes chunk → All HasHomes chunk → IsChunkAt chunk at chunk
 chunk_alone at chunk none some few homed shaped =
     let n = length chunk in
     let part = ap (λ k. take n (drop k chunk)) none ∙ take_all n chunk (omega arith) in

@@ -1,12 +1,13 @@
 -- Tables that are gathered in a pool: it has them again.
-use Rattle.std.proofs.Common.{◌≡◌, ℕ, suc, ◌+◌, ◌-◌, ◌*◌, ◌<◌, ◌≤◌, List, [], ◌∷◌, ◌++◌, length, get_or, take, drop, map, All, refl, ap, sym, subst, ◌∙◌, append_assoc, append-nil, length-append, arith}
+use Rattle.std.proofs.Common.{◌≡◌, ℕ, zero, suc, ◌+◌, ◌-◌, ◌*◌, ◌<◌, ◌≤◌, List, [], ◌∷◌, ◌++◌, length, get_or, take, drop, map, All, refl, ap, sym, subst, ◌∙◌, append_assoc, append-nil, length-append, arith}
 use Rattle.std.specs.List.{flat_map}
 use Rattle.std.proofs.lemmas.List.{drop_at, take_at, take_more, take_all, take-append-drop}
 use Rattle.std.proofs.lemmas.List.Concat.{flat_map-append}
-use Rattle.std.proofs.lemmas.List.Elements.{All-nil, All-cons, All-head, All-tail, All-append}
+use Rattle.std.proofs.lemmas.List.Elements.{All-nil, All-cons, All-head, All-tail, All-append, All-take, All-drop, All-same}
 use Rattle.mk_value.specs.declared.span.Span.{Span}
 use Rattle.mk_value.specs.Heading.{Attribute}
 use Rattle.mk_value.specs.Data.{Datum, AreRowsOf, IsRowOf}
+use Rattle.tables.specs.Compact.{IsCompact}
 use Rattle.tables.specs.Homes.{Home}
 use Rattle.tables.specs.Pools.{AreEnds, IsPool, IsPoolable, blocks_at_home, blocks_count, blocks_of_tables, ends_of, homes_at, part_at, parts, parts_from, rows_of_tables}
 use Rattle.tables.specs.Shapes.{HasHomes}
@@ -27,6 +28,18 @@ flat_all f xs k p = ap (flat_map f) (take_all k xs p)
 pub flat_of_map : {X Y Z : Type 0} (f : Y → List Z) (g : X → Y) (xs : List X) → flat_map f (map g xs) ≡ flat_map (λ x. f (g x)) xs
 flat_of_map f g [] = refl
 flat_of_map f g (x ∷ xs) = ap (λ zs. f (g x) ++ zs) (flat_of_map f g xs)
+
+-- what is so of all that items are taken to is so of what one of them is taken to
+All-left : {X : Type 0} (P : X → Type 0) (xs ys : List X) → All P (xs ++ ys) → All P xs
+All-left P xs ys h = All-same P xs (take (length xs) (xs ++ ys)) (sym (take_at xs ys (length xs) refl)) (All-take P (length xs) (xs ++ ys) h)
+
+All-right : {X : Type 0} (P : X → Type 0) (xs ys : List X) → All P (xs ++ ys) → All P ys
+All-right P xs ys h = All-same P ys (drop (length xs) (xs ++ ys)) (sym (drop_at xs ys (length xs) refl)) (All-drop P (length xs) (xs ++ ys) h)
+
+pub flat_one : {X Y : Type 0} (P : Y → Type 0) (f : X → List Y) (xs : List X) (k : ℕ) (x : X) → k < length xs → x ≡ get_or xs k x → All P (flat_map f xs) → All P (f x)
+flat_one P f [] k x p read h = absurd (omega arith)
+flat_one P f (y ∷ xs) zero x p read h = All-same P (f x) (f y) (ap f read) (All-left P (f y) (flat_map f xs) h)
+flat_one P f (y ∷ xs) (suc k) x p read h = flat_one P f xs k x (omega arith) read (All-right P (f y) (flat_map f xs) h)
 
 -- some of the items come to no more than all
 pub flat_within : {X Y : Type 0} (f : X → List Y) (xs : List X) (k : ℕ) → length (flat_map f (take k xs)) ≤ length (flat_map f xs)
@@ -125,12 +138,12 @@ rows_counted schema (t ∷ ts) each =
     omega (arith, length-append t.rows (rows_of_tables ts), first, rest)
 
 -- they have few rows
-pub rows_few : (schema : List Attribute) (ts : List StoredTable) → All (IsPoolable schema) ts → length ts ≤ 64 → length (rows_of_tables ts) ≤ 16777216
+pub rows_few : (schema : List Attribute) (ts : List StoredTable) → All (IsPoolable schema) ts → length ts ≤ 128 → length (rows_of_tables ts) ≤ 8192
 rows_few schema ts each few = omega (arith, rows_counted schema ts each)
 
 -- the rows of all are rows of the schema
-pub rows_gathered : (schema : List Attribute) (ts : List StoredTable) → All (IsPoolable schema) ts → length ts ≤ 64 → AreRowsOf (rows_of_tables ts) schema
-rows_gathered schema ts each few = record { few = rows_few schema ts each few; whole = rows_whole schema ts each }
+pub rows_gathered : (schema : List Attribute) (ts : List StoredTable) → All (IsPoolable schema) ts → length ts ≤ 128 → AreRowsOf (rows_of_tables ts) schema
+rows_gathered schema ts each few = record { few = omega (arith, rows_few schema ts each few); whole = rows_whole schema ts each }
 
 blocks_counted : (schema : List Attribute) (ts : List StoredTable) → All (IsPoolable schema) ts → length (blocks_of_tables ts) ≡ length ts * blocks_count schema
 blocks_counted schema [] each = omega arith
@@ -139,6 +152,12 @@ blocks_counted schema (t ∷ ts) each =
     let rest = blocks_counted schema ts (All-tail (IsPoolable schema) t ts each) in
     let more = one_more (length ts) (blocks_count schema) in
     omega (arith, length-append (blocks_at_home t) (blocks_of_tables ts), first, rest, more)
+
+-- their blocks go into six bytes
+pub blocks_compact : (schema : List Attribute) (ts : List StoredTable) → All (IsPoolable schema) ts → All IsCompact (blocks_of_tables ts)
+blocks_compact schema [] each = All-nil IsCompact
+blocks_compact schema (t ∷ ts) each =
+    All-append IsCompact (blocks_at_home t) (blocks_of_tables ts) (All-head (IsPoolable schema) t ts each).compact (blocks_compact schema ts (All-tail (IsPoolable schema) t ts each))
 
 none_before : (n : ℕ) → 0 + n ≡ n
 none_before n = omega arith
@@ -158,7 +177,7 @@ gathered_again schema ts t ends blocks g each =
     ∙ ap (λ bs. parts_from schema (rows_of_tables ts) 0 (ends_of 0 ts) bs) g.blocks_are
     ∙ parts_again schema ts [] each
 
-pub gathered_pool : (schema : List Attribute) (ts : List StoredTable) (t : StoredTable) (ends : List ℕ) (blocks : List Span) → IsGathered schema ts t ends blocks → All (IsPoolable schema) ts → 0 < length ts → length ts ≤ 64 → IsPool t ends blocks
+pub gathered_pool : (schema : List Attribute) (ts : List StoredTable) (t : StoredTable) (ends : List ℕ) (blocks : List Span) → IsGathered schema ts t ends blocks → All (IsPoolable schema) ts → 0 < length ts → length ts ≤ 128 → IsPool t ends blocks
 gathered_pool schema ts t ends blocks g each some few = record {
   some = omega (arith, ap length g.ends_are, length-ends_of 0 ts);
   few = omega (arith, ap length g.ends_are, length-ends_of 0 ts);

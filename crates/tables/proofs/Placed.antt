@@ -136,19 +136,19 @@ all_homed t ends blocks ts view pool =
     (placed_at t ends blocks n d pool p).homed)
 
 -- they are few
-pub blocks_few : (t : StoredTable) (ends : List ℕ) (blocks : List Span) → IsPool t ends blocks → IsHeading t.schema → length blocks ≤ 8192
+pub blocks_few : (t : StoredTable) (ends : List ℕ) (blocks : List Span) → IsPool t ends blocks → IsHeading t.schema → length blocks ≤ 16384
 blocks_few t ends blocks pool whole =
     let counted = pool.counted in
     let few = pool.few in
     let limits = whole.limits in
     let width : blocks_count t.schema ≤ 128 = omega (arith, limits, blocks_most t.schema) in
-    let all : length ends * blocks_count t.schema ≤ 64 * 128 = mul-le (length ends) (blocks_count t.schema) 64 128 few width in
+    let all : length ends * blocks_count t.schema ≤ 128 * 128 = mul-le (length ends) (blocks_count t.schema) 128 128 few width in
     omega (arith, counted, all)
 
 -- the place of the blocks of a table among those of all
 pub record ArePlaced (t : StoredTable) (blocks : List Span) (first width : ℕ) : Type 0 where
   pub within : first + width ≤ length blocks
-  pub few : length blocks ≤ 8192
+  pub few : length blocks ≤ 16384
 
 pub are_placed : (t : StoredTable) (ends : List ℕ) (blocks : List Span) (n width : ℕ) → IsPool t ends blocks → IsHeading t.schema → n < length ends → width ≡ blocks_count t.schema → ArePlaced t blocks (n * width) width
 are_placed t ends blocks n width pool whole p e =

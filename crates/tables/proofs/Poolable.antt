@@ -2,12 +2,13 @@
 use Rattle.std.proofs.Common.{◌≡◌, ℕ, ◌+◌, ◌<◌, ◌≤◌, List, [], ◌∷◌, ◌++◌, length, get_or, drop, map, All, Option, None, Some, refl, ap, subst, ◌∙◌, append_assoc, length-append, arith}
 use Rattle.std.specs.List.{AllZip, flat_map}
 use Rattle.std.proofs.lemmas.List.{drop_at, get_or_default}
-use Rattle.std.proofs.lemmas.List.Elements.{All-head, All-tail}
+use Rattle.std.proofs.lemmas.List.Elements.{All-nil, All-cons, All-head, All-tail, All-append}
 use Rattle.mk_value.specs.declared.span.Span.{Span}
 use Rattle.mk_value.specs.Heading.{Domain, Attribute}
 use Rattle.bytes_col.specs.declared.home.BytesHome.{BytesHome}
 use Rattle.tables.specs.Columns.{StoredColumn, integers, texts, views, home_of, home_of_numbers, home_of_strings, table_of_columns, IsColumnOf, AreColumnsOf}
-use Rattle.tables.specs.Homes.{Home, strings}
+use Rattle.tables.specs.Compact.{IsCompact}
+use Rattle.tables.specs.Homes.{Home, no_home, numbers, strings, tables}
 use Rattle.tables.specs.Pools.{IsPoolable, IsSimpleHome, block_count, blocks_at_home, blocks_count, home_at, homes_at, no_table}
 use Rattle.tables.specs.Rests.{blocks_of}
 use Rattle.tables.specs.Tables.{StoredTable}
@@ -81,6 +82,21 @@ columns_said n (a ∷ schema) (c ∷ cols) rest whole simple =
           ∙ ap (λ hs. home_of c ∷ hs) more.said;
     }
 
+-- the blocks of such a home go into six bytes, and so do those of all columns
+home_compact : (home : Home) → IsSimpleHome home → All IsCompact (blocks_of home)
+home_compact no_home h = absurd h
+home_compact (numbers block) h = All-cons IsCompact block [] h (All-nil IsCompact)
+home_compact (strings sizes short []) h = All-cons IsCompact sizes (short ∷ []) h.0 (All-cons IsCompact short [] h.1 (All-nil IsCompact))
+home_compact (strings sizes short (memo ∷ memos)) h = absurd h
+home_compact (tables rows) h = absurd h
+
+columns_compact : (cols : List StoredColumn) → All (λ c. IsSimpleHome (home_of c)) cols → All IsCompact (flat_map blocks_of (map home_of cols))
+columns_compact [] simple = All-nil IsCompact
+columns_compact (c ∷ cols) simple =
+    All-append IsCompact (blocks_of (home_of c)) (flat_map blocks_of (map home_of cols))
+    (home_compact (home_of c) (All-head (λ x. IsSimpleHome (home_of x)) c cols simple))
+    (columns_compact cols (All-tail (λ x. IsSimpleHome (home_of x)) c cols simple))
+
 pub poolable : (n : ℕ) (schema : List Attribute) (cols : List StoredColumn) → AreColumnsOf n schema cols → n ≤ 64 → All (λ c. IsSimpleHome (home_of c)) cols → IsPoolable schema (table_of_columns n schema cols)
 poolable n schema cols whole few simple =
     let all = columns_said n schema cols [] whole.each simple in
@@ -91,6 +107,7 @@ poolable n schema cols whole few simple =
       shaped = HasHomes-columns n schema cols whole;
       counted = all.counted;
       homes = λ rest. let here = columns_said n schema cols rest whole.each simple in here.said;
+      compact = columns_compact cols simple;
     }
 
 -- the schema of the first of some tables

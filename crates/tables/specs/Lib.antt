@@ -3,6 +3,7 @@ pub mod Build
 pub mod Building
 pub mod Cells
 pub mod Columns
+pub mod Compact
 pub mod Edits
 pub mod Falls
 pub mod HomeCode

@@ -7,6 +7,7 @@ use Rattle.mk_value.specs.Heading.{Domain, Attribute}
 use Rattle.mk_value.specs.Data.{Datum, AreRowsOf}
 use Rattle.segments.specs.Joined.{joined, counts_of}
 use Rattle.tables.specs.Blocks.{is_homed, plain_columns}
+use Rattle.tables.specs.Compact.{IsCompact}
 use Rattle.tables.specs.Homes.{Home, no_home, numbers, strings}
 use Rattle.tables.specs.Rests.{blocks_of}
 use Rattle.tables.specs.Shapes.{HasHomes}
@@ -32,10 +33,10 @@ home_at Domain.text (sizes ∷ short ∷ blocks) = strings sizes short []
 home_at Domain.bytes (sizes ∷ short ∷ blocks) = strings sizes short []
 home_at _ _ = no_home
 
--- a home without blocks of long values, of a plain column
+-- a home of a plain column, of blocks that go into six bytes, none of which is of a long value
 abbrev pub IsSimpleHome : Home → Type 0
-IsSimpleHome (numbers block) = Unit {0}
-IsSimpleHome (strings sizes short []) = Unit {0}
+IsSimpleHome (numbers block) = IsCompact block
+IsSimpleHome (strings sizes short []) = IsCompact sizes × IsCompact short
 IsSimpleHome _ = ⊥
 
 -- the same of all columns of a table
@@ -79,10 +80,10 @@ abbrev pub AreEnds : ℕ → List ℕ → ℕ → Type 0
 AreEnds from [] most = from ≤ most
 AreEnds from (end ∷ ends) most = (from ≤ end) × AreEnds end ends most
 
--- there is a table and there are at most 64, each has its rows, and homes of their shape
+-- there is a table and there are at most 128, each has its rows, and homes of their shape
 pub record IsPool (t : StoredTable) (ends : List ℕ) (blocks : List Span) : Type 0 where
   pub some : 0 < length ends
-  pub few : length ends ≤ 64
+  pub few : length ends ≤ 128
   pub ascend : AreEnds 0 ends (length t.rows)
   pub counted : length blocks ≡ length ends * blocks_count t.schema
   pub shaped : All HasHomes (parts t ends blocks)
@@ -91,7 +92,8 @@ pub record IsPool (t : StoredTable) (ends : List ℕ) (blocks : List Span) : Typ
 abbrev pub blocks_at_home : StoredTable → List Span
 blocks_at_home t = flat_map blocks_of t.homes
 
--- a whole table of few rows and of plain columns, each with a home without long values: it has as many blocks as its columns have, and they say its homes
+-- a whole table of few rows and of plain columns, each with a home without long values: it has as many blocks as its columns have, they say its homes,
+-- and each goes into six bytes
 pub record IsPoolable (schema : List Attribute) (t : StoredTable) : Type 0 where
   pub same_schema : t.schema ≡ schema
   pub small : length t.rows ≤ 64
@@ -99,6 +101,7 @@ pub record IsPoolable (schema : List Attribute) (t : StoredTable) : Type 0 where
   pub shaped : HasHomes t
   pub counted : length (blocks_at_home t) ≡ blocks_count schema
   pub homes : (rest : List Span) → homes_at schema (blocks_at_home t ++ rest) ≡ t.homes
+  pub compact : All IsCompact (blocks_at_home t)
 
 -- the rows of tables, one after another, and where those of each end that begin at a place
 abbrev pub rows_of_tables : List StoredTable → List (List Datum)
@@ -120,7 +123,7 @@ pub record Adds (old : List (List StoredTable)) (ts : List StoredTable) (new : L
 -- the tables of a pool begin at a place of a list
 pub record IsChunkAt (ts : List StoredTable) (at : ℕ) (chunk : List StoredTable) : Type 0 where
   pub some : 0 < length chunk
-  pub few : length chunk ≤ 64
+  pub few : length chunk ≤ 128
   pub within : at + length chunk ≤ length ts
   pub part : chunk ≡ take (length chunk) (drop at ts)
   pub homed : All HasAllHomes chunk

@@ -18,7 +18,7 @@ use std::rc::Rc;
 pub(crate) const CHUNK_MOST: usize = 1024;
 
 /// How many tables a pool has at most. An edit of one of them makes a list of all, in which the others stay in the pool.
-const POOL_MOST: usize = 64;
+const POOL_MOST: usize = 128;
 
 /// The tables of a chunk, one after another.
 #[cycle(table)]
@@ -359,7 +359,7 @@ impl Chunk {
     /// Whether the tables are kept together.
     pub(crate) fn is_pool(&self) -> bool
         ensures some { OnTrue result (0 < length self.now) }
-        ensures few { OnTrue result (length self.now ≤ 64) }
+        ensures few { OnTrue result (length self.now ≤ 128) }
         ensures homes { OnTrue result (All HasAllHomes self.now) }
         ensures shaped { OnTrue result (All HasHomes self.now) }
     {
@@ -496,7 +496,7 @@ pub(crate) fn sealed_chunk(list: TableList) -> Result<Chunk, Memory>
 /// A chunk of so many tables from a place on, kept together where all of them may be.
 fn pooled_part(list: &TableList, from: usize, count: usize) -> Result<Chunk, Memory>
     requires some { 0 < count }
-    requires few { count ≤ 64 }
+    requires few { count ≤ 128 }
     requires within { from + count ≤ length list.now }
     ensures { IfOk result (λ chunk. chunk ≡ take count (drop from list.now)) }
 {
@@ -521,7 +521,7 @@ fn own_tables(alloc: Global, items: &[Item]) -> Result<Vec<Shared>, Memory>
 /// The chunk of tables that are kept together.
 fn pooled_chunk(alloc: Global, tables: &[Shared]) -> Result<Chunk, Memory>
     requires some { 0 < length tables.now }
-    requires few { length tables.now ≤ 64 }
+    requires few { length tables.now ≤ 128 }
     requires each { All (IsPoolable (slice_index_or tables.now 0 no_table).schema) tables.now }
     ensures { IfOk result (λ chunk. chunk ≡ tables.now) }
 {

@@ -6,17 +6,19 @@ ghost use Rattle.mk_value.specs.Values.{datum_of};
 ghost use Rattle.tables.specs.Cells.{IsWholeColumn, IsSet, IsSetIn, HasNumber, HasString, HasView, with_number, with_string, with_view};
 ghost use Rattle.std.specs.Bool.{OnTrue};
 ghost use Rattle.tables.specs.Columns.{column_values, home_of, home_of_numbers, home_of_strings, no_column};
+ghost use Rattle.tables.specs.Compact.{IsCompact};
 ghost use Rattle.tables.specs.Pools.{IsSimpleHome};
 ghost use Rattle.tables.specs.Rests.{blocks_of};
-ghost use Rattle.tables.specs.Homes.{empty_homes_in};
+ghost use Rattle.tables.specs.Homes.{empty_homes_in, strings};
 ghost use Rattle.tables.specs.Edits.{ArePutIn, AreWithout, HaveSome};
 ghost use Rattle.tables.specs.Prepared.{AreReady, ArePushed};
 ghost use Rattle.tables.specs.Stored.{stored_of};
 
+use crate::block::is_compact;
 use crate::build::inner_of_rows;
 use crate::edits::{insert_rows, remove_rows};
 use crate::prepared::push_row;
-use crate::{Shared, Tables};
+use crate::{Block, Shared, Tables};
 use bytes_col::{BytesCol, BytesHome};
 use int_col::IntCol;
 use mk_value::{Kind, Memory, Prop, Schema, Span, Value};
@@ -226,19 +228,20 @@ impl Col {
         }
     }
 
-    /// Whether the column has a home that has no blocks of long values. One of tables has none.
+    /// Whether the column has a home of blocks that go into six bytes, none of which is of a long value. One of tables has none.
     fn has_simple_home(&self) -> bool
         ensures { OnTrue result (IsSimpleHome (home_of (stored_of self.now))) }
     {
         match self {
-            Col::Ints(column) => column.home().is_some(),
-            Col::Blobs(column) => has_home_without_memos(column),
+            Col::Ints(column) => is_simple_block(column.home()),
+            Col::Blobs(column) => has_simple_strings(column),
             Col::Views(_) => false,
         }
     }
 
-    /// Appends the blocks of the home of a column that holds no tables.
-    pub(crate) fn push_blocks(&self, blocks: &mut Vec<Span>) -> Result<(), Memory>
+    /// Appends the blocks of the home of a column, each of which goes into six bytes. One of tables has none.
+    pub(crate) fn push_blocks(&self, blocks: &mut Vec<Block>) -> Result<(), Memory>
+        requires { All IsCompact (blocks_of (home_of (stored_of self.now))) }
         ensures { OnOk result (blocks.new.items ≡ blocks.old.items ++ blocks_of (home_of (stored_of self.now))) }
     {
         match self {
@@ -269,7 +272,7 @@ impl Col {
     }
 }
 
-/// Whether all columns have homes without blocks of long values.
+/// Whether all columns have homes of blocks that go into six bytes, none of which is of a long value.
 pub(crate) fn have_simple_homes(cols: &[Col]) -> bool
     ensures { OnTrue result (All (λ c. IsSimpleHome (home_of (stored_of c))) cols.now) }
 {
@@ -281,43 +284,82 @@ pub(crate) fn have_simple_homes(cols: &[Col]) -> bool
     true
 }
 
-/// Whether a column of texts or byte strings has a home without blocks of long values.
-fn has_home_without_memos(column: &BytesCol) -> bool
-    ensures { OnTrue result (IsSimpleHome (home_of_strings column.now.home)) }
+/// Whether a column of numbers has a home, and its block goes into six bytes.
+fn is_simple_block(block: Option<Span>) -> bool
+    ensures { OnTrue result (IsSimpleHome (home_of_numbers block)) }
 {
-    match column.home() {
-        Some(home) => home.memos.is_empty(),
+    match block {
+        Some(block) => is_compact(block),
         None => false,
     }
 }
 
+/// Whether a column of texts or byte strings has a home of blocks that go into six bytes, none of which is of a long value.
+fn has_simple_strings(column: &BytesCol) -> bool
+    ensures { OnTrue result (IsSimpleHome (home_of_strings column.now.home)) }
+{
+    match column.home() {
+        Some(home) => is_simple_home(home),
+        None => false,
+    }
+}
+
+/// Whether the blocks of a home go into six bytes, and none is of a long value.
+fn is_simple_home(home: &BytesHome) -> bool
+    ensures { OnTrue result (IsSimpleHome (strings home.now.sizes home.now.short home.now.memos)) }
+{
+    home.memos.is_empty() && is_compact(home.sizes) && is_compact(home.short)
+}
+
 /// Appends a block, if there is one.
-fn push_block(blocks: &mut Vec<Span>, block: Option<Span>) -> Result<(), Memory>
+fn push_block(blocks: &mut Vec<Block>, block: Option<Span>) -> Result<(), Memory>
+    requires { All IsCompact (blocks_of (home_of_numbers block)) }
     ensures { OnOk result (blocks.new.items ≡ blocks.old.items ++ blocks_of (home_of_numbers block)) }
 {
-    if let Some(block) = block {
-        blocks.push(block)?;
+    match block {
+        Some(block) => push_span(blocks, block),
+        None => Ok(()),
     }
-    Ok(())
 }
 
 /// Appends the blocks of the home of a column of texts or byte strings.
-fn push_home(blocks: &mut Vec<Span>, column: &BytesCol) -> Result<(), Memory>
+fn push_home(blocks: &mut Vec<Block>, column: &BytesCol) -> Result<(), Memory>
+    requires { All IsCompact (blocks_of (home_of_strings column.now.home)) }
     ensures { OnOk result (blocks.new.items ≡ blocks.old.items ++ blocks_of (home_of_strings column.now.home)) }
 {
     match column.home() {
-        Some(home) => push_spans(blocks, home),
+        Some(home) => push_strings(blocks, home),
         None => Ok(()),
     }
 }
 
 /// Appends the blocks of a home.
-fn push_spans(blocks: &mut Vec<Span>, home: &BytesHome) -> Result<(), Memory>
+fn push_strings(blocks: &mut Vec<Block>, home: &BytesHome) -> Result<(), Memory>
+    requires { All IsCompact (home.now.sizes ∷ home.now.short ∷ home.now.memos) }
     ensures { OnOk result (blocks.new.items ≡ blocks.old.items ++ home.now.sizes ∷ home.now.short ∷ home.now.memos) }
 {
-    blocks.push(home.sizes)?;
-    blocks.push(home.short)?;
-    blocks.extend_from_slice(home.memos.as_slice())?;
+    push_span(blocks, home.sizes)?;
+    push_span(blocks, home.short)?;
+    push_spans(blocks, home.memos.as_slice())
+}
+
+/// Appends the blocks of spans.
+fn push_spans(blocks: &mut Vec<Block>, spans: &[Span]) -> Result<(), Memory>
+    requires { All IsCompact spans.now }
+    ensures { OnOk result (blocks.new.items ≡ blocks.old.items ++ spans.now) }
+{
+    for span in spans {
+        push_span(blocks, *span)?;
+    }
+    Ok(())
+}
+
+/// Appends the block of a span.
+fn push_span(blocks: &mut Vec<Block>, span: Span) -> Result<(), Memory>
+    requires { IsCompact span }
+    ensures { OnOk result (blocks.new.items ≡ blocks.old.items ++ span ∷ []) }
+{
+    blocks.push(Block::of(span))?;
     Ok(())
 }
 

@@ -4,6 +4,7 @@
 //! rows and the home of each column. It stands on the two kinds of columns, and knows nothing of names, paths or files.
 #![tactic(auto)]
 
+mod block;
 mod build;
 mod builder;
 mod chunk;
@@ -22,6 +23,7 @@ mod spine;
 mod table;
 mod tables;
 
+pub use block::Block;
 pub use build::{empty_table, from_rows};
 pub use builder::TablesBuilder;
 pub use cols::{Col, Cols};

@@ -6,9 +6,9 @@ ghost use Rattle.tables.specs.Read.{IsViewDomain};
 ghost use Rattle.tables.specs.Shapes.{HasHomes};
 ghost use Rattle.tables.specs.Tables.{IsTable, inner_table};
 
-use crate::Shared;
 use crate::pool::Pool;
-use mk_value::{Lent, Memory, Rows, Schema, Span, TableRead, Value};
+use crate::{Block, Shared};
+use mk_value::{Lent, Memory, Rows, Schema, TableRead, Value};
 use std::alloc::Global;
 use std::cmp::Ordering;
 use std::marker::Model;
@@ -95,7 +95,7 @@ impl<'a> Nested<'a> {
     /// # Errors
     ///
     /// The blocks of its homes, if it has not: each of its columns is plain and has a home, and no home has blocks of long values.
-    pub fn own(&self) -> Result<&'a Shared, &'a [Span]>
+    pub fn own(&self) -> Result<&'a Shared, &'a [Block]>
         ensures own { IfOk result (λ table. table.now ≡ self.now) }
         ensures placed { IfErr result (λ blocks. IsPlacedAt self.now blocks.now) }
     {

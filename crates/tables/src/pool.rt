@@ -7,6 +7,7 @@ ghost use Rattle.mk_value.specs.Kinds.{domain_of};
 ghost use Rattle.mk_value.specs.Tables.{number_in};
 ghost use Rattle.tables.specs.Build.{AreCells, HasColumn};
 ghost use Rattle.tables.specs.Columns.{AreColumnsIn, IsColumnWith, home_of, home_of_numbers, home_of_strings};
+ghost use Rattle.tables.specs.Compact.{IsCompact};
 ghost use Rattle.tables.specs.Homes.{column_of, strings};
 ghost use Rattle.tables.specs.Pools.{HasAllHomes, IsPlacedAt, IsPoolable, block_count, blocks_count, blocks_of_tables, ends_of as table_ends, home_at, homed_table, no_table, rows_of_tables};
 ghost use Rattle.tables.specs.Rests.{blocks_of as home_blocks};
@@ -17,24 +18,24 @@ ghost use Rattle.tables.specs.Tables.{IsTable};
 
 use crate::build::{blobs_of_rows, ints_of_rows, table_of_rows};
 use crate::slice::Slice;
-use crate::{Col, Cols, Shared, Table, share};
+use crate::{Block, Col, Cols, Shared, Table, share};
 use bytes_col::{BytesCol, BytesHome};
 use int_col::IntCol;
 use mk_value::{Kind, Memory, Rows, Schema, Span, Spans, TableRead};
 use std::alloc::Global;
 use std::marker::Model;
 
-/// Tables of one schema, all of whose columns are plain and have a home without long values. Nothing in it ever changes. A caller sees the
-/// tables.
+/// Tables of one schema, all of whose columns are plain and have a home of blocks that go into six bytes, none of which is of a long value.
+/// Nothing in it ever changes. A caller sees the tables.
 #[cycle(table)]
 #[derive(Drop)]
 pub(crate) struct Pool {
     /// The rows of all, whose columns have no homes.
     table: Table,
     /// Where the rows of each table end.
-    ends: Vec<u32>,
+    ends: Vec<u16>,
     /// The blocks of the homes of each table, in the order of the columns.
-    blocks: Vec<Span>,
+    blocks: Vec<Block>,
 }
 
 impl Model for Pool {
@@ -68,14 +69,14 @@ impl Pool {
     ) -> Result<Pool, Memory>
         requires some { 0 < length tables.now }
         requires each { All (IsPoolable schema.now) tables.now }
-        requires few { length tables.now ≤ 64 }
+        requires few { length tables.now ≤ 128 }
         ensures { IfOk result (λ pool. pool ≡ tables.now) }
     {
         let rows = rows_of(alloc, tables)?;
         Ok(Pool {
             table: table_of_rows(alloc, schema, &rows)?,
             ends: ends_of(alloc, tables)?,
-            blocks: blocks_of(alloc, tables)?,
+            blocks: blocks_of(alloc, schema.get(), tables)?,
         })
     }
 
@@ -83,7 +84,7 @@ impl Pool {
     pub(crate) fn len(&self) -> usize
         ensures len { result ≡ length self.now }
         ensures some { 0 < result }
-        ensures few { result ≤ 64 }
+        ensures few { result ≤ 128 }
         ensures homes { All HasAllHomes self.now }
         ensures shaped { All HasHomes self.now }
     {
@@ -127,7 +128,7 @@ impl Pool {
     }
 
     /// The blocks of the homes of a table.
-    pub(crate) fn blocks(&self, number: usize) -> &[Span]
+    pub(crate) fn blocks(&self, number: usize) -> &[Block]
         requires { number < length self.now }
         ensures { IsPlacedAt (slice_index_or self.now number no_table) result.now }
     {
@@ -158,7 +159,7 @@ impl Pool {
 }
 
 /// The columns of rows of a schema, with homes of these blocks.
-fn homed_cols(alloc: Global, schema: &Schema, rows: &Rows, blocks: &[Span]) -> Result<Cols, Memory>
+fn homed_cols(alloc: Global, schema: &Schema, rows: &Rows, blocks: &[Block]) -> Result<Cols, Memory>
     requires rows { AreRowsOf rows.now schema.now }
     requires enough { blocks_count schema.now ≤ length blocks.now }
     requires shaped { HasHomes (homed_table schema.now rows.now blocks.now) }
@@ -181,7 +182,7 @@ fn homed_col(
     kind: &Kind,
     rows: &Rows,
     at: usize,
-    blocks: &[Span],
+    blocks: &[Block],
 ) -> Result<Col, Memory>
     requires cells { AreCells rows.now at (domain_of kind.now) }
     requires enough { block_count (domain_of kind.now) ≤ length blocks.now }
@@ -198,25 +199,25 @@ fn homed_col(
 }
 
 /// The column of the numbers at a place of each row, with the first block as its home.
-fn placed_ints(alloc: Global, rows: &Rows, at: usize, blocks: &[Span]) -> Result<IntCol, Memory>
+fn placed_ints(alloc: Global, rows: &Rows, at: usize, blocks: &[Block]) -> Result<IntCol, Memory>
     requires cells { HasColumn rows.now at }
     requires enough { 1 ≤ length blocks.now }
     ensures values { IfOk result (λ column. column.values ≡ map number_in (column_of rows.now at)) }
     ensures home { IfOk result (λ column. home_of_numbers column.home ≡ home_at Domain.integer blocks.now) }
 {
     let column = ints_of_rows(alloc, rows, at)?;
-    Ok(ints_at(column, blocks[0]))
+    Ok(ints_at(column, blocks[0].span()))
 }
 
 /// The column of the texts or byte strings at a place of each row, with the first two blocks as its home.
-fn placed_blobs(alloc: Global, rows: &Rows, at: usize, blocks: &[Span]) -> Result<BytesCol, Memory>
+fn placed_blobs(alloc: Global, rows: &Rows, at: usize, blocks: &[Block]) -> Result<BytesCol, Memory>
     requires cells { HasColumn rows.now at }
     requires enough { 2 ≤ length blocks.now }
     ensures values { IfOk result (λ column. column.values ≡ map bytes_in (column_of rows.now at)) }
     ensures home { IfOk result (λ column. home_of_strings column.home ≡ home_at Domain.text blocks.now) }
 {
     let column = blobs_of_rows(alloc, rows, at)?;
-    Ok(blobs_at(alloc, column, blocks[0], blocks[1]))
+    Ok(blobs_at(alloc, column, blocks[0].span(), blocks[1].span()))
 }
 
 /// The numbers with a home.
@@ -286,24 +287,26 @@ fn push_rows(alloc: Global, rows: &mut Rows, table: &Table) -> Result<(), Memory
 }
 
 /// Where the rows of each table end among those of all.
-fn ends_of(alloc: Global, tables: &[Shared]) -> Result<Vec<u32>, Memory>
-    requires { length (rows_of_tables tables.now) ≤ 16777216 }
+fn ends_of(alloc: Global, tables: &[Shared]) -> Result<Vec<u16>, Memory>
+    requires { length (rows_of_tables tables.now) ≤ 8192 }
     ensures { IfOk result (λ ends. ends.items ≡ table_ends 0 tables.now) }
 {
     let mut ends = Vec::with_capacity(alloc, tables.len())?;
     let mut end = 0;
     for table in tables {
         end += table.table().len();
-        ends.push(end as u32)?;
+        ends.push(end as u16)?;
     }
     Ok(ends)
 }
 
-/// The blocks of the homes of tables, one after another.
-fn blocks_of(alloc: Global, tables: &[Shared]) -> Result<Vec<Span>, Memory>
+/// The blocks of the homes of tables of a schema, one after another, in a list with room for just these.
+fn blocks_of(alloc: Global, schema: &Schema, tables: &[Shared]) -> Result<Vec<Block>, Memory>
+    requires { All IsCompact (blocks_of_tables tables.now) }
     ensures { IfOk result (λ blocks. blocks.items ≡ blocks_of_tables tables.now) }
 {
-    let mut blocks = Vec::new(alloc);
+    let count = tables.len().saturating_mul(blocks_of_schema(schema));
+    let mut blocks = Vec::with_capacity(alloc, count)?;
     for table in tables {
         push_blocks(&mut blocks, table.table().cols())?;
     }
@@ -311,7 +314,8 @@ fn blocks_of(alloc: Global, tables: &[Shared]) -> Result<Vec<Span>, Memory>
 }
 
 /// Appends the blocks of the homes of columns.
-fn push_blocks(blocks: &mut Vec<Span>, cols: &Cols) -> Result<(), Memory>
+fn push_blocks(blocks: &mut Vec<Block>, cols: &Cols) -> Result<(), Memory>
+    requires { All IsCompact (flat_map home_blocks (map home_of cols.now)) }
     ensures { OnOk result (blocks.new.items ≡ blocks.old.items ++ flat_map home_blocks (map home_of cols.now)) }
 {
     for col in cols.as_slice() {
@@ -321,7 +325,7 @@ fn push_blocks(blocks: &mut Vec<Span>, cols: &Cols) -> Result<(), Memory>
 }
 
 /// Where the rows of a table begin: where those of the one before it end.
-fn start_of(ends: &[u32], number: usize) -> usize
+fn start_of(ends: &[u16], number: usize) -> usize
     requires { number < length ends.now }
     ensures { result ≡ slice_index_or (0 ∷ ends.now) number 0 }
 {
@@ -332,7 +336,7 @@ fn start_of(ends: &[u32], number: usize) -> usize
 }
 
 /// Where the rows of a table end.
-fn end_of(ends: &[u32], number: usize) -> usize
+fn end_of(ends: &[u16], number: usize) -> usize
     requires { number < length ends.now }
     ensures { result ≡ slice_index_or ends.now number 0 }
 {

@@ -341,7 +341,8 @@ impl Table {
         have_same_empty_homes(self.cols.as_slice(), other.cols.as_slice())
     }
 
-    /// Whether the table is small, and all its columns are plain and have homes without blocks of long values: then it may stand in a pool.
+    /// Whether the table is small, and all its columns are plain and have homes of blocks that go into six bytes, none of which is of a long
+    /// value: then it may stand in a pool.
     pub(crate) fn is_poolable(&self) -> bool
         ensures { OnTrue result (IsPoolable self.now.schema self.now) }
     {

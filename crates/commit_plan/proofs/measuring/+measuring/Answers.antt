@@ -12,7 +12,7 @@ col_usage-returns-in-Views t c = λ e whole. walked_views AddsOf adds_joins e (s
 
 pub nested_usage-returns-in-Err : goal.nested_usage-returns-in-Err
 nested_usage-returns-in-Err t c =
-    subst (λ ss. Adds ss c.args.usage.now c.add_all.new.self) (sym (placed_blocks c.args.table c.in-Err.blocks.now c.in-Err.ensures.placed)) c.add_all.ensures
+    subst (λ ss. Adds ss c.args.usage.now c.add_blocks.new.self) (sym (placed_blocks c.args.table c.in-Err.blocks.now c.in-Err.ensures.placed)) c.add_blocks.ensures
 
 pub table_usage-col_usage-requires : goal.table_usage-col_usage-requires
 table_usage-col_usage-requires t c =

@@ -6,13 +6,13 @@ use Rattle.tables.proofs.pool.ends_of.Goals as goal
 pub overflow_add-end : goal.overflow_add-end
 overflow_add-end c =
     let fits =
-    end_fits c.args.tables.now c.loop-table.table-index c.table-item.result c.loop-table.ends.items c.loop-table.end 16777216 c.loop-table-test.true c.table-item.is c.loop-table.invariant c.requires in
+    end_fits c.args.tables.now c.loop-table.table-index c.table-item.result c.loop-table.ends.items c.loop-table.end 8192 c.loop-table-test.true c.table-item.is c.loop-table.invariant c.requires in
     omega (arith, fits, ap (λ (u : StoredTable). length u.rows) c.table.ensures, c.len-end.ensures.value)
 
 pub overflow_cast-end : goal.overflow_cast-end
 overflow_cast-end c =
     let fits =
-    end_fits c.args.tables.now c.loop-table.table-index c.table-item.result c.loop-table.ends.items c.loop-table.end 16777216 c.loop-table-test.true c.table-item.is c.loop-table.invariant c.requires in
+    end_fits c.args.tables.now c.loop-table.table-index c.table-item.result c.loop-table.ends.items c.loop-table.end 8192 c.loop-table-test.true c.table-item.is c.loop-table.invariant c.requires in
     omega (arith, fits, ap (λ (u : StoredTable). length u.rows) c.table.ensures, c.len-end.ensures.value)
 
 pub loop-table-preserved : goal.loop-table-preserved

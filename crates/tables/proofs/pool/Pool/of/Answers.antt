@@ -1,7 +1,7 @@
 use Rattle.std.proofs.Common.{ap, sym, subst, ◌∙◌}
 use Rattle.mk_value.specs.Data.{AreRowsOf}
 use Rattle.tables.specs.Tables.{StoredTable}
-use Rattle.tables.proofs.Gathered.{IsGathered, gathered_again, gathered_pool, rows_few, rows_gathered}
+use Rattle.tables.proofs.Gathered.{IsGathered, blocks_compact, gathered_again, gathered_pool, rows_few, rows_gathered}
 use Rattle.tables.proofs.pool.Pool.of.Goals as goal
 
 pub table_of_rows-requires : goal.table_of_rows-requires
@@ -30,3 +30,6 @@ returns c =
 
 pub ends_of-requires : goal.ends_of-requires
 ends_of-requires c = rows_few c.args.schema.now c.args.tables.now c.requires.each c.requires.few
+
+pub blocks_of-requires : goal.blocks_of-requires
+blocks_of-requires c = blocks_compact c.args.schema.now c.args.tables.now c.requires.each
