@@ -7,7 +7,7 @@ use denote.Param.Weighed.{most}
 use Rattle.mk_value.specs.Heading.{Attribute}
 use Rattle.tables.specs.Tables.{StoredTable}
 use Rattle.tables.specs.Columns.{StoredColumn, table_of_columns, AreColumnsOf}
-use Rattle.tables.specs.Sizes.{column_size, columns_size, table_size, tables_size}
+use Rattle.tables.specs.Sizes.{column_size, columns_size, item_size, table_size, tables_size}
 use Rattle.tables.specs.Stored.{stored_of}
 use Rattle.tables.specs.Falls.{table_falls}
 use Rattle.tables.specs.declared.cols.Col.{Col}
@@ -39,6 +39,6 @@ column_within cols items k item same is p =
 -- a table that was read in a row of a view column
 pub table_within : (ts : List StoredTable) (row : ℕ) (t : StoredTable) → slice_get ts row ≡ Some t → table_size t < tables_size ts
 table_within ts row t e =
-    let one = one_of (λ u. table_size u + 2) ts row t (slice_get_within ts row t e) in
+    let one = one_of (λ u. item_size u + 1) ts row t (slice_get_within ts row t e) in
     let here = ap table_size (get_or_from_slice_get ts row t t e) in
     omega (arith, one, here)
