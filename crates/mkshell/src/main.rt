@@ -6,12 +6,12 @@ ghost use Rattle.std.specs.Prelude.{◌≡◌, ◌∷◌, []};
 ghost use Rattle.mk_value.specs.Heading.{Domain};
 ghost use Rattle.viewers.specs.Laws.{AreArguments, gives};
 
-mod host;
 mod stock;
 
 use aside_run::run_over;
-use host::RealHost;
 use mk_value::{Memory, Row};
+use read_ahead::Ahead;
+use real_host::RealHost;
 use shell::Status;
 use std::io::ErrorKind;
 use std::process::ExitCode;
@@ -69,7 +69,7 @@ fn serve(rt: &HostRuntime, words: &[&str]) -> Result<Status, Memory> {
     viewers.push(StoredViewer::new(name("length"), Law::Length, one_text(alloc)?, lengths))?;
     viewers.push(StoredViewer::new(name("twice"), Law::Twice, one_number(alloc)?, doubles))?;
     viewers.push(StoredViewer::new(name("sum"), Law::Sum, two_numbers(alloc)?, sums))?;
-    let mut host = RealHost::new(*rt);
-    let mut base = RealHost::new(*rt);
+    let mut host = Ahead::new(alloc, RealHost::new(*rt));
+    let mut base = Ahead::new(alloc, RealHost::new(*rt));
     Ok(run_over(alloc, words, &viewers, &mut host, &mut base))
 }

@@ -1,6 +1,6 @@
 ghost use Rattle.std.specs.Prelude.{◌≡◌, ◌↔◌, ◌+◌, ◌<◌, ◌≤◌, ◌^◌, length, IfOk, IsErr, IsTrue, OnOk};
 ghost use Rattle.host_io.specs.Calls.{Counts};
-ghost use Rattle.mkshell.specs.Untold.{untold};
+ghost use Rattle.real_host.specs.Untold.{untold};
 
 use host_io::{Disk, Failed, Host};
 use std::fs::{File, Metadata, OpenOptions};
