@@ -35,6 +35,17 @@ impl<H: Disk> Ahead<H> {
             piece: Piece::new(alloc),
         }
     }
+
+    /// The host under it again.
+    pub fn into_host(self) -> H
+        ensures { result ≡ self }
+    {
+        let Ahead {
+            host,
+            piece: _piece,
+        } = self;
+        host
+    }
 }
 
 impl<H: Disk> Disk for Ahead<H> {
