@@ -3,7 +3,17 @@ use std::alloc::{AllocError, Global};
 
 /// The operators whose rows have the properties of their first argument.
 const KEEPING: [&str; 11] = [
-    "select", "range", "sort", "slice", "unique", "keep", "concat", "union", "intersect", "minus", "different",
+    "select",
+    "range",
+    "sort",
+    "slice",
+    "unique",
+    "keep",
+    "concat",
+    "union",
+    "intersect",
+    "minus",
+    "different",
 ];
 
 /// The view whose properties the rows of an expression have, if that shows without looking at any view: a name, or operators over it that keep the

@@ -115,7 +115,10 @@ fn shown_cell(alloc: Global, cell: &[u8]) -> Result<Cell, AllocError> {
         return view_cell(alloc, count_rows(cell));
     }
     let text = std::str::from_utf8(cell).unwrap_or("?");
-    match text.strip_prefix('"').and_then(|rest| rest.strip_suffix('"')) {
+    match text
+        .strip_prefix('"')
+        .and_then(|rest| rest.strip_suffix('"'))
+    {
         Some(inner) => Ok(Cell {
             text: cut_text(alloc, inner)?,
             is_right: false,

@@ -13,5 +13,5 @@ mod rows;
 pub use forms::{FORMS, Form, form_of, nearest};
 pub use headings::{properties, view_of};
 pub use layout::{MAX_COLUMN, table};
-pub use refusals::{Refusal, meaning};
+pub use refusals::{Refusal, meaning, not_served};
 pub use rows::{cells, count_rows};

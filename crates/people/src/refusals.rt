@@ -54,3 +54,20 @@ pub fn meaning(word: &str) -> &'static str {
         _ => "refused",
     }
 }
+
+/// Why a file is not served, by the word of the line that says so.
+pub fn not_served(word: &str) -> &'static str {
+    match word {
+        "empty" => "the file is empty, and it is only read",
+        "notempty" => "a store is made in an empty file, and this one is not",
+        "notastore" => "the file is no store",
+        "damaged" => "the file is damaged, first at this byte:",
+        "badbase" => "the base is empty, damaged or no store",
+        "aside" => "the file is no aside file, first at this byte:",
+        "otherbase" =>
+            "the file is the aside file of another base; its length and number, and those of the given one:",
+        "badstream" => "the input is no stream, first at this byte:",
+        "full" => "the store would end past its limit; its end, and the limit:",
+        _ => "the file is not served:",
+    }
+}

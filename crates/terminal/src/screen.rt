@@ -5,7 +5,7 @@ use crate::showing::{greeting, push_all, shown};
 use crate::verb::{after_word, edits, first_word, settles};
 use host_io::{Disk, Failed, Host};
 use lines::say_all;
-use people::{FORMS, form_of};
+use people::{FORMS, Form, form_of};
 use read_ahead::Ahead;
 use real_host::RealHost;
 use std::alloc::AllocError;
@@ -194,19 +194,7 @@ impl Screen {
     fn help(&mut self) -> Result<(), Failed> {
         let mut out = String::new(self.runtime.alloc());
         match form_of(after_word(self.head.text())) {
-            Some(form) => push_all(
-                &mut out,
-                &[
-                    form.word,
-                    " ",
-                    form.arguments,
-                    "\n  ",
-                    form.does,
-                    "\n  such as: ",
-                    form.example,
-                    "\n",
-                ],
-            ),
+            Some(form) => tell_form(&mut out, form),
             None => list_forms(&mut out),
         }
         .map_err(of_memory)?;
@@ -307,20 +295,29 @@ impl Screen {
 /// Lists all kinds of lines.
 fn list_forms(out: &mut String) -> Result<(), AllocError> {
     for form in &FORMS {
-        push_all(
-            out,
-            &[
-                "  ",
-                form.word,
-                " ",
-                form.arguments,
-                "\n      ",
-                form.does,
-                "\n",
-            ],
-        )?;
+        out.push_str("  ")?;
+        push_form(out, form)?;
+        push_all(out, &["\n      ", form.does, "\n"])?;
     }
     out.push_str("What an operator is: docs/EXPRESSIONS.md. What a value is: docs/VALUES.md.\n")
+}
+
+/// Tells of a kind of lines, with an example.
+fn tell_form(out: &mut String, form: &Form) -> Result<(), AllocError> {
+    push_form(out, form)?;
+    push_all(
+        out,
+        &["\n  ", form.does, "\n  such as: ", form.example, "\n"],
+    )
+}
+
+/// The word of a line with its arguments.
+fn push_form(out: &mut String, form: &Form) -> Result<(), AllocError> {
+    out.push_str(form.word)?;
+    if !form.arguments.is_empty() {
+        push_all(out, &[" ", form.arguments])?;
+    }
+    Ok(())
 }
 
 /// Out of memory, a call fails.

@@ -1,17 +1,23 @@
 //! What a person is shown of a reply.
 use crate::verb::{after_word, first_word};
-use people::{Refusal, form_of, meaning, nearest, properties, table, view_of};
+use people::{Refusal, form_of, meaning, nearest, not_served, properties, table, view_of};
 use std::alloc::{AllocError, Global};
 
 /// What the session says first, as a person reads it.
 pub(crate) fn greeting(alloc: Global, reply: &str, file: &str) -> Result<String, AllocError> {
     let mut out = String::new(alloc);
-    match reply.strip_prefix("ok mkshell ") {
-        Some(number) => {
-            push_all(&mut out, &[file, ", commit ", number.trim_ascii()])?;
-            push_all(&mut out, &[". `help` lists what can be asked.\n"])?;
-        }
-        None => out.push_str(reply)?,
+    if let Some(number) = reply.strip_prefix("ok mkshell ") {
+        push_all(&mut out, &[file, ", commit ", number.trim_ascii()])?;
+        out.push_str(". `help` lists what can be asked.\n")?;
+    } else if let Some(rest) = reply.strip_prefix("refused ") {
+        let (word, numbers) = rest
+            .trim_ascii()
+            .split_once(' ')
+            .unwrap_or((rest.trim_ascii(), ""));
+        push_all(&mut out, &["refused: ", not_served(word)])?;
+        push_all(&mut out, &[" ", numbers, " (", word, ")\n"])?;
+    } else {
+        out.push_str(reply)?;
     }
     Ok(out)
 }
@@ -90,10 +96,8 @@ fn rows(
         None => Vec::new(alloc),
     };
     let mut out = table(alloc, &names, rows)?;
-    push_all(
-        &mut out,
-        &[count, if count == "1" { " row\n" } else { " rows\n" }],
-    )?;
+    push_rows(&mut out, count)?;
+    out.push_str("\n")?;
     Ok(out)
 }
 
@@ -111,16 +115,21 @@ fn listed(alloc: Global, count: &str, lines: &str) -> Result<String, AllocError>
 fn told_as(alloc: Global, word: &str, told: &str) -> Result<String, AllocError> {
     let mut out = String::new(alloc);
     match word {
+        "quit" => return Ok(out),
         _ if told.is_empty() => out.push_str("done")?,
         "add" => push_all(&mut out, &["row ", told])?,
-        "size" | "watch" | "dup" => push_all(&mut out, &[told, " rows"])?,
-        "insert" | "remove" => push_all(&mut out, &["now ", told, " rows"])?,
+        "size" | "watch" | "dup" => push_rows(&mut out, told)?,
+        "insert" | "remove" => {
+            out.push_str("now ")?;
+            push_rows(&mut out, told)?;
+        }
         "find" | "search" | "next" | "prev" | "cursor" if told != "none" => {
             push_all(&mut out, &["row ", told])?;
         }
         "locate" => {
             let (place, count) = told.split_once(' ').unwrap_or((told, ""));
-            push_all(&mut out, &["row ", place, ", ", count, " rows"])?;
+            push_all(&mut out, &["row ", place, ", "])?;
+            push_rows(&mut out, count)?;
         }
         "commit" => {
             let number = told.strip_prefix("commit ").unwrap_or(told);
@@ -132,6 +141,12 @@ fn told_as(alloc: Global, word: &str, told: &str) -> Result<String, AllocError> 
     Ok(out)
 }
 
+/// So many rows.
+fn push_rows(out: &mut String, count: &str) -> Result<(), AllocError> {
+    push_all(out, &[count, if count == "1" { " row" } else { " rows" }])
+}
+
+/// Appends texts.
 pub(crate) fn push_all(out: &mut String, texts: &[&str]) -> Result<(), AllocError> {
     for text in texts {
         out.push_str(text)?;
