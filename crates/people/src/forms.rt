@@ -32,19 +32,19 @@ pub static FORMS: [Form; 32] = [
         word: "insert",
         arguments: "PATH POS COUNT VALUES",
         does: "puts COUNT equal rows before row POS; rows count from 0",
-        example: "insert people 0 2 \"Bob\" {} 1985",
+        example: "insert people 1 2 \"Bob\" {} 1985",
     },
     Form {
         word: "set",
         arguments: "PATH ROW PROP VALUE",
         does: "changes one value",
-        example: "set people 0 born 1986",
+        example: "set people 1 born 1986",
     },
     Form {
         word: "remove",
         arguments: "PATH POS COUNT",
         does: "removes COUNT rows from row POS on",
-        example: "remove people 1 1",
+        example: "remove people 2 1",
     },
     Form {
         word: "show",
@@ -140,7 +140,7 @@ pub static FORMS: [Form; 32] = [
         word: "ordered",
         arguments: "NAME K",
         does: "keeps a view sorted by its first K properties, which are its key",
-        example: "ordered empty 1",
+        example: "ordered people 1",
     },
     Form {
         word: "cursor",
@@ -188,7 +188,7 @@ pub static FORMS: [Form; 32] = [
         word: "drop",
         arguments: "NAME",
         does: "removes a view",
-        example: "drop empty",
+        example: "drop people",
     },
     Form {
         word: "space",

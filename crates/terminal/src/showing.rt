@@ -15,7 +15,12 @@ pub(crate) fn greeting(alloc: Global, reply: &str, file: &str) -> Result<String,
             .split_once(' ')
             .unwrap_or((rest.trim_ascii(), ""));
         push_all(&mut out, &["refused: ", not_served(word)])?;
-        push_all(&mut out, &[" ", numbers, " (", word, ")\n"])?;
+        if !numbers.is_empty() {
+            push_all(&mut out, &[" ", numbers])?;
+        }
+        push_all(&mut out, &[" (", word, ")\n"])?;
+    } else if reply.starts_with("usage ") {
+        out.push_str("These words are wrong. `mk --help` tells which are right.\n")?;
     } else {
         out.push_str(reply)?;
     }
