@@ -1,7 +1,7 @@
 ghost use Rattle.std.specs.Prelude.{◌≤◌, length, IfOk};
 
 use crate::line::{Line, Typed};
-use crate::showing::{greeting, push_all, shown};
+use crate::showing::{begins_session, greeting, push_all, shown};
 use crate::verb::{after_word, edits, first_word, settles};
 use host_io::{Disk, Failed, Host};
 use lines::say_all;
@@ -23,6 +23,8 @@ enum Due {
     Structures,
     /// The reply to a person's line.
     Reply,
+    /// Bytes for no person: no session began, and a stream is said.
+    Stream,
 }
 
 /// What a person types and sees, over the host of the machine.
@@ -243,39 +245,50 @@ impl Screen {
         self.tell("The edits since the last commit are not stored.\n")
     }
 
-    /// Shows what the session says. What is no text is said as it is.
+    /// Shows what the session says. A stream is said as it is.
     pub fn say(&mut self, from: &[u8]) -> Result<(), Failed> {
         match std::str::from_utf8(from) {
-            Ok(reply) => self.show(reply),
-            Err(_) => say_all(&mut self.host, from),
+            Ok(reply) if self.due != Due::Stream => self.show(reply),
+            _ => {
+                self.due = Due::Stream;
+                say_all(&mut self.host, from)
+            }
         }
     }
 
     fn show(&mut self, reply: &str) -> Result<(), Failed> {
         match self.due {
-            Due::Greeting => {
-                let text = greeting(self.runtime.alloc(), reply, self.file.as_str()).map_err(
-                    of_memory,
-                )?;
-                self.due = Due::Reply;
-                self.tell(text.as_str())
-            }
+            Due::Greeting => self.greet(reply),
             Due::Structures => {
                 self.structures.clear();
                 self.structures.push_str(reply).map_err(of_memory)
             }
-            Due::Reply => {
-                self.note(reply);
-                let text = shown(
-                    self.runtime.alloc(),
-                    self.head.text(),
-                    reply,
-                    self.structures.as_str(),
-                )
-                .map_err(of_memory)?;
-                self.tell(text.as_str())
-            }
+            Due::Reply => self.show_reply(reply),
+            Due::Stream => self.tell(reply),
         }
+    }
+
+    /// Shows that a session begins, or what comes in its place.
+    fn greet(&mut self, reply: &str) -> Result<(), Failed> {
+        self.due = if begins_session(reply) {
+            Due::Reply
+        } else {
+            Due::Stream
+        };
+        let text = greeting(self.runtime.alloc(), reply, self.file.as_str()).map_err(of_memory)?;
+        self.tell(text.as_str())
+    }
+
+    fn show_reply(&mut self, reply: &str) -> Result<(), Failed> {
+        self.note(reply);
+        let text = shown(
+            self.runtime.alloc(),
+            self.head.text(),
+            reply,
+            self.structures.as_str(),
+        )
+        .map_err(of_memory)?;
+        self.tell(text.as_str())
     }
 
     /// Notes whether the views are those of a commit after the line that is answered so.

@@ -3,10 +3,18 @@ use crate::verb::{after_word, first_word};
 use people::{Refusal, form_of, meaning, nearest, not_served, properties, table, view_of};
 use std::alloc::{AllocError, Global};
 
+/// What is said where a session begins, in front of the number of its commit.
+const BEGINS: &str = "ok mkshell ";
+
+/// Whether a session begins with this.
+pub(crate) fn begins_session(reply: &str) -> bool {
+    reply.starts_with(BEGINS)
+}
+
 /// What the session says first, as a person reads it.
 pub(crate) fn greeting(alloc: Global, reply: &str, file: &str) -> Result<String, AllocError> {
     let mut out = String::new(alloc);
-    if let Some(number) = reply.strip_prefix("ok mkshell ") {
+    if let Some(number) = reply.strip_prefix(BEGINS) {
         push_all(&mut out, &[file, ", commit ", number.trim_ascii()])?;
         out.push_str(". `help` lists what can be asked.\n")?;
     } else if let Some(rest) = reply.strip_prefix("refused ") {
