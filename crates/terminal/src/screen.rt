@@ -10,9 +10,13 @@ use read_ahead::Ahead;
 use real_host::RealHost;
 use std::alloc::AllocError;
 use std::io::IsTerminal;
+use std::time::Instant;
 
 /// A line that is longer than this is handed on in pieces.
 const PIECE: usize = 65_536;
+
+/// How many milliseconds a line takes, at least, of which it is told how long it took.
+const SLOW: u64 = 20;
 
 /// What the session is to say next.
 #[derive(Clone, Copy, PartialEq, Eq)]
@@ -47,6 +51,8 @@ pub(crate) struct Screen {
     structures: String,
     /// Whether views were edited since they were those of a commit.
     is_changed: bool,
+    /// When the session got its line.
+    since: Option<Instant>,
 }
 
 impl Screen {
@@ -68,6 +74,7 @@ impl Screen {
             due: Due::Greeting,
             structures: String::new(alloc),
             is_changed: false,
+            since: None,
         }
     }
 
@@ -96,6 +103,7 @@ impl Screen {
             self.line
                 .replace(self.waiting.as_bytes())
                 .map_err(of_memory)?;
+            self.since = self.now();
             return Ok(true);
         }
         for _ in 0..u64::MAX {
@@ -105,6 +113,7 @@ impl Screen {
                 return Ok(false);
             }
             if !begins || self.goes_on()? {
+                self.since = self.now();
                 return Ok(true);
             }
         }
@@ -280,6 +289,7 @@ impl Screen {
     }
 
     fn show_reply(&mut self, reply: &str) -> Result<(), Failed> {
+        let took = self.took();
         self.note(reply);
         let text = shown(
             self.runtime.alloc(),
@@ -288,6 +298,33 @@ impl Screen {
             self.structures.as_str(),
         )
         .map_err(of_memory)?;
+        self.tell(text.as_str())?;
+        self.tell_time(took)
+    }
+
+    fn now(&self) -> Option<Instant> {
+        Instant::now(&self.runtime).ok()
+    }
+
+    /// How many milliseconds the session took for its line, if there is a clock.
+    fn took(&self) -> u64 {
+        match &self.since {
+            Some(since) => match since.elapsed(&self.runtime) {
+                Ok(took) => u64::try_from(took.as_millis()).unwrap_or(u64::MAX),
+                Err(_) => 0,
+            },
+            None => 0,
+        }
+    }
+
+    /// A person who waited is told how long it took.
+    fn tell_time(&mut self, millis: u64) -> Result<(), Failed> {
+        if !self.is_seen || millis < SLOW {
+            return Ok(());
+        }
+        let mut text = String::new(self.runtime.alloc());
+        let mut buffer = itoa::Buffer::new();
+        push_all(&mut text, &["in ", buffer.format(millis), " ms\n"]).map_err(of_memory)?;
         self.tell(text.as_str())
     }
 
