@@ -4,10 +4,10 @@ use Rattle.mk_value.specs.Heading.{Domain}
 use Rattle.viewers.specs.declared.law.Law.{Law}
 use Rattle.viewers.specs.declared.law.Law.TheVariants.{Length, Twice, Sum}
 
-abbrev pub takes : Law → List Domain
-takes Length = Domain.text ∷ []
-takes Twice = Domain.integer ∷ []
-takes Sum = Domain.integer ∷ Domain.integer ∷ []
+abbrev pub kinds_taken : Law → List Domain
+kinds_taken Length = Domain.text ∷ []
+kinds_taken Twice = Domain.integer ∷ []
+kinds_taken Sum = Domain.integer ∷ Domain.integer ∷ []
 
 -- a viewer that answers by a law
 pub record Lawful : Type 0 where

@@ -18,13 +18,13 @@ pub(crate) struct Stock {
 impl Model for Stock {
     ghost use Rattle.std.specs.Prelude.{◌≡◌, map};
     ghost use Rattle.mk_value.specs.Kinds.{domain_of};
-    ghost use Rattle.mk.specs.Stock.{Lawful, takes};
+    ghost use Rattle.mk.specs.Stock.{Lawful, kinds_taken};
 
     ghost Value = { Lawful };
 
     ghost view = { λ s. record { name = s.name; law = s.law } };
 
-    ghost invariant = { λ s. map domain_of s.takes ≡ takes s.law };
+    ghost invariant = { λ s. map domain_of s.takes ≡ kinds_taken s.law };
 }
 
 impl Stock {
@@ -53,9 +53,9 @@ impl Stock {
 
 impl Viewer for Stock {
     ghost use Rattle.viewers.specs.Laws.{gives as law_gives};
-    ghost use Rattle.mk.specs.Stock.{takes};
+    ghost use Rattle.mk.specs.Stock.{kinds_taken};
 
-    ghost meaning = { λ s. record { name = s.name; takes = takes s.law; gives = law_gives s.law } };
+    ghost meaning = { λ s. record { name = s.name; takes = kinds_taken s.law; gives = law_gives s.law } };
 
     fn name(&self) -> &Name {
         &self.name
