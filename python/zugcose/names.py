@@ -22,6 +22,7 @@ class Names:
 
     def views(self) -> dict[str, Structure]:
         """The structures of the views by their names, the oldest first."""
+        self._session.check()
         if self._views is None:
             _, *lines = self._session.ask("struct").split("\n")
             self._views = {found.name: found for found in map(structure, lines)}

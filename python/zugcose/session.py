@@ -36,11 +36,15 @@ class Session:
         if self._owner != (os.getpid(), threading.get_ident()):
             raise WrongThread("the store belongs to the thread that opened it")
 
-    def exchange(self, lines: list[bytes]) -> list[str]:
-        """The replies to lines."""
+    def check(self) -> None:
+        """The store may be used here and now."""
         self.check_owner()
         if self._closed:
             raise Closed("the store was closed")
+
+    def exchange(self, lines: list[bytes]) -> list[str]:
+        """The replies to lines."""
+        self.check()
         names = [self.given_up.pop() for _ in range(len(self.given_up))]
         replies = self.transport.ask_all([b"undup " + name.encode() for name in names] + lines)
         self.given_up += [name for name, reply in zip(names, replies) if reply == SHUT]
