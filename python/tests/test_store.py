@@ -164,6 +164,7 @@ class Views(InFolder):
         self.assertEqual(store.ask("show z"), "1\n(1)")
         self.assertEqual(store.ask("cursor c z"), "0")
         self.assertEqual(store.ask("row c"), "(1)")
+        self.assertEqual((store.ask('commit "raw"'), store.number), ("commit 1", 1))
         self.assertEqual(store.ask("quit"), "quit")
         with self.assertRaises(zugcose.Closed):
             store.ask("size people")

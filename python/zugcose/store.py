@@ -107,7 +107,9 @@ class Store:
             return ""
         said = self._ask(line)
         self._names.note(line)
-        if said == "quit":
+        if said.startswith(("commit ", "reopen ")):
+            self.number = _number(said)
+        elif said == "quit":
             self.close()
         return said
 
@@ -310,8 +312,7 @@ class Store:
         >>> store.log()
         [Note(number=1, text='first people')]
         """
-        self.number = _number(self._ask(f"commit {literal(note)}" if note else "commit"))
-        return self.number
+        return _number(self.ask(f"commit {literal(note)}" if note else "commit"))
 
     def rollback(self) -> int:
         """Gives up edits since the last commit, and gives its number. It ends watches and mappings.
@@ -335,8 +336,7 @@ class Store:
         >>> store.commit(), store.people.remove(0), store.reopen(), len(store.people)
         (1, 1, 1, 2)
         """
-        self.number = _number(self.ask("reopen"))
-        return self.number
+        return _number(self.ask("reopen"))
 
     def log(self) -> list[Note]:
         """The last 64 notes, the newest first."""
