@@ -68,6 +68,8 @@ class Child(Transport):
             self._end()
         if self._status is not None:
             raise Ended(self._status)
+        if not lines:
+            return []
         self._busy = True
         self._send(b"\n".join(lines) + b"\n")
         replies = [self._reply(line) for line in lines]
