@@ -388,8 +388,11 @@ class Misuse(InFolder):
                          lambda: self.store.people.remove(0, wrong), lambda: self.store.find("people", {"born": 1}, wrong)):
                 with self.assertRaises(ValueError):
                     edit()
-        with self.assertRaises(TypeError):
-            self.store.people.remove("0")
+        for wrong in ("0", 0.0, None):
+            with self.assertRaises(TypeError):
+                self.store.people.remove(wrong)
+            with self.assertRaises(TypeError):
+                self.store.people[wrong]
 
     def test_names(self):
         for name in ("", "a b", "a\nb", "5a", "é", "a/b"):

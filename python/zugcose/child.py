@@ -15,7 +15,7 @@ from .transport import Transport
 Word = Union[str, bytes, "os.PathLike[str]"]
 
 LISTS = (b"show", b"struct", b"log")
-FIRST_WORD = re.compile(rb" *([A-Za-z0-9_]*)")
+FIRST_WORD = re.compile(rb"[A-Za-z0-9_]*")
 READ_AT_ONCE = 1 << 16
 
 
@@ -25,6 +25,12 @@ def program(given: Word | None = None) -> Word:
     if not found:
         raise NoProgram("there is no program mkshell: give its path as mkshell=.., or in ZUGCOSE_MKSHELL, or put it on the PATH")
     return found
+
+
+def is_list(line: bytes) -> bool:
+    """Whether more lines follow the first of its reply."""
+    line = line.lstrip(b" ")
+    return line.startswith(LISTS) and FIRST_WORD.match(line)[0] in LISTS  # type: ignore[index]
 
 
 class Child(Transport):
@@ -134,8 +140,7 @@ class Child(Transport):
     def _reply(self, line: bytes) -> bytes:
         """Takes the reply to a line."""
         first = self._line()
-        found = FIRST_WORD.match(line)
-        if first.startswith(b"ok ") and found and found[1] in LISTS:
+        if is_list(line) and first.startswith(b"ok "):
             return first + self._lines(int(first[3:]))
         return first
 

@@ -32,12 +32,12 @@ def literal(value: Value) -> str:
 
 
 def _written(value: Value, depth: int) -> str:
-    if isinstance(value, str):
-        return _text(value)
-    if isinstance(value, int):
-        return _number(value)
-    if isinstance(value, (bytes, bytearray, memoryview)):
-        return f'x"{value.hex()}"'
+    write = OF_TYPE.get(type(value))
+    if write:
+        return write(value)
+    for kind, write in OF_TYPE.items():
+        if isinstance(value, kind):
+            return write(value)
     if isinstance(value, Sequence):
         return _view(value, depth)
     try:
@@ -49,7 +49,11 @@ def _written(value: Value, depth: int) -> str:
 def _number(value: int) -> str:
     if not LEAST <= value <= MOST:
         raise ValueError("a number past 64 bits")
-    return format(value, "d")
+    return int.__repr__(value)
+
+
+def _bytes(value: bytes | bytearray | memoryview) -> str:
+    return f'x"{value.hex()}"'
 
 
 def _text(value: str) -> str:
@@ -60,6 +64,9 @@ def _text(value: str) -> str:
     if not value.isascii():
         value.encode()
     return f'"{value}"'
+
+
+OF_TYPE: dict[type, Callable[[Any], str]] = {str: _text, int: _number, bytes: _bytes, bytearray: _bytes, memoryview: _bytes}
 
 
 def _view(rows: Sequence[Sequence[Any]], depth: int) -> str:
@@ -82,9 +89,10 @@ Make = Callable[[Columns], Callable[[Sequence[Any]], Any]]
 Read = Callable[[str, Iterator[str]], Any]
 
 
-def rows_in(text: str, columns: Columns, make: Make) -> list[Any]:
-    """The rows that stand in a text one after another, each made of its values by what `make` gives for its columns."""
-    return _rows(columns, make)("{", iter(TOKEN.findall(text)))
+def rows_reader(columns: Columns, make: Make) -> Callable[[str], list[Any]]:
+    """Reads the rows that stand in a text one after another, each made of its values by what `make` gives for its columns."""
+    read = _rows(columns, make)
+    return lambda text: read("{", iter(TOKEN.findall(text)))
 
 
 def _rows(columns: Columns, make: Make) -> Read:

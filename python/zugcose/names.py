@@ -30,7 +30,8 @@ class Names:
 
     def columns(self, expression: str) -> Columns:
         """The columns of an expression that the store has taken."""
-        return columns_of(expression, self._of_name)
+        view = self.views().get(expression)
+        return view.columns if view else columns_of(expression, self._of_name)
 
     def _of_name(self, name: str) -> Columns:
         if name in self.views():

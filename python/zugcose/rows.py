@@ -7,7 +7,7 @@ from collections import namedtuple
 from functools import lru_cache
 from typing import TYPE_CHECKING, Any, Callable, Iterator, Sequence, overload
 
-from .literals import numbers_in, rows_in
+from .literals import numbers_in, rows_reader
 from .structures import NUMBERS, Columns, column_of
 
 if TYPE_CHECKING:
@@ -210,4 +210,4 @@ def sliced(expression: str, chosen: range) -> str:
 
 @lru_cache(maxsize=256)
 def reader(columns: Columns) -> Callable[[str], list[Row]]:
-    return lambda text: rows_in(text, columns, maker)
+    return rows_reader(columns, maker)

@@ -3,6 +3,7 @@
 from __future__ import annotations
 
 import re
+from operator import index
 from typing import TYPE_CHECKING, Any, Iterable, Iterator, Mapping, Sequence, overload
 
 from .errors import refused
@@ -62,14 +63,11 @@ class View:
 
     def __getitem__(self, key: Any) -> Any:
         """A row, or a list of the rows of a slice."""
-        if not isinstance(key, slice) and 0 <= key < MOST_ROWS:
-            chosen = range(key, key + 1)
-        else:
-            chosen = range(len(self))[key]
-            chosen = range(chosen, chosen + 1) if isinstance(chosen, int) else chosen
-        found = [row for piece in pieces(chosen, ROWS_AT_ONCE) for row in self._store._read(self.path, None, piece)]
         if isinstance(key, slice):
-            return found
+            chosen = range(len(self))[key]
+            return [row for piece in pieces(chosen, ROWS_AT_ONCE) for row in self._store._read(self.path, None, piece)]
+        at = key if 0 <= key < MOST_ROWS else range(len(self))[key]
+        found = self._store._read(self.path, None, range(at, at + 1))
         if not found:
             raise IndexError(f"{self.path} has no row {key}")
         return found[0]
@@ -206,9 +204,10 @@ def spaced(*parts: object) -> str:
 
 def place(number: int) -> int:
     """A number of rows or of a row, which has no sign in a line."""
+    number = index(number)
     if not 0 <= number < 1 << 63:
         raise ValueError(f"{number} is no number of a row: they count from 0")
-    return int(number)
+    return number
 
 
 def checked(name: str) -> str:
