@@ -23,7 +23,7 @@ class Written(unittest.TestCase):
         for value, text in WRITTEN:
             self.assertEqual(literal(value), text)
 
-    def test_numbers_of_other_types(self):
+    def test_values_of_other_types(self):
         class Color(enum.IntEnum):
             RED = 7
 
@@ -31,7 +31,11 @@ class Written(unittest.TestCase):
             def __index__(self):
                 return -3
 
+        class Word(str, enum.Enum):
+            RED = 'r"'
+
         self.assertEqual(literal(Color.RED), "7")
+        self.assertEqual(literal(Word.RED), '"r\\""')
         self.assertEqual(literal(Indexed()), "-3")
 
     def test_what_no_kind_takes(self):

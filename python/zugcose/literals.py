@@ -12,7 +12,6 @@ Value = Union[int, str, bytes, Sequence[Sequence[Any]]]
 
 LEAST, MOST = -(1 << 63), (1 << 63) - 1
 MOST_BRACES = 8
-SPECIAL = re.compile(r'["\\\n\0]')
 ESCAPE = re.compile(r"\\(.)")
 TOKEN = re.compile(r'x?"[^"\\]*(?:\\.[^"\\]*)*"|-?[0-9]+|[(){}]')
 
@@ -28,13 +27,11 @@ def literal(value: Value) -> str:
     >>> [row.name for row in store.query(f"select(people,name={zugcose.literal('Ann')})")]
     ['Ann']
     """
-    return _written(value, 1)
+    write = OF_TYPE.get(type(value))
+    return write(value) if write else _written(value, 1)
 
 
 def _written(value: Value, depth: int) -> str:
-    write = OF_TYPE.get(type(value))
-    if write:
-        return write(value)
     for kind, write in OF_TYPE.items():
         if isinstance(value, kind):
             return write(value)
@@ -57,13 +54,13 @@ def _bytes(value: bytes | bytearray | memoryview) -> str:
 
 
 def _text(value: str) -> str:
-    if SPECIAL.search(value):
-        if "\0" in value:
-            raise ValueError("a text has no zero byte: bytes may have some")
+    if "\0" in value:
+        raise ValueError("a text has no zero byte: bytes may have some")
+    if "\\" in value or '"' in value or "\n" in value:
         value = value.replace("\\", "\\\\").replace('"', '\\"').replace("\n", "\\n")
     if not value.isascii():
         value.encode()
-    return f'"{value}"'
+    return '"' + value + '"'
 
 
 OF_TYPE: dict[type, Callable[[Any], str]] = {str: _text, int: _number, bytes: _bytes, bytearray: _bytes, memoryview: _bytes}
