@@ -3,6 +3,7 @@
 import os
 import signal
 import stat
+import subprocess
 import sys
 import time
 import warnings
@@ -150,6 +151,30 @@ class Ends(WithFakes):
             store.size("t")
         self.assertEqual(store.close(), -signal.SIGKILL)
 
+    def test_a_signal_from_the_terminal(self):
+        """A script that SIGINT ends, wherever it stands, lets its file go, and what was committed is there."""
+        (self.folder / "script.py").write_text(
+            "import zugcose\n"
+            "with zugcose.open('f') as store:\n"
+            "    store.declare('t[a:I]')\n"
+            "    store.t.append(7)\n"
+            "    print(store.commit(), flush=True)\n"
+            "    while True:\n"
+            "        store.t.extend([(number,) for number in range(500)])\n"
+            "        list(store.query('sort(t,-a)'))\n"
+            "        store.rollback()\n"
+        )
+        for seconds in (0, 0.01, 0.05, 0.11):
+            (self.folder / "f").unlink(missing_ok=True)
+            script = subprocess.Popen([sys.executable, "script.py"], stdout=subprocess.PIPE, stderr=subprocess.PIPE, env={**os.environ, "PYTHONPATH": os.pathsep.join(sys.path)})
+            self.assertEqual(script.stdout.readline(), b"1\n")
+            time.sleep(seconds)
+            script.send_signal(signal.SIGINT)
+            _, errors = script.communicate(timeout=60)
+            self.assertTrue(errors.endswith(b"KeyboardInterrupt\n"), errors)
+            with zugcose.open("f") as store:
+                self.assertEqual((store.number, list(store.t)), (1, [(7,)]))
+
     def test_the_terminal_does_not_reach_it(self):
         store = self.open()
         self.assertNotEqual(os.getpgid(store._session.transport._process.pid), os.getpgid(0))
@@ -182,6 +207,7 @@ class ManyLines(WithFakes):
         """A program that answers late, and then all at once."""
         text = "lines = [sys.stdin.readline() for _ in range(20000)]\nfor line in lines:\n    print('ok', line.strip(), flush=False)\nsys.stdout.flush()\nsys.stdin.read()\n"
         transport = Child([self.python(text)])
+        self.addCleanup(transport.close)
         self.addCleanup(transport._process.kill)
         lines = [b"%d" % number for number in range(20_000)]
         self.assertEqual(transport.ask_all(lines), [b"ok " + line for line in lines])
