@@ -161,7 +161,7 @@ class Results(InFolder):
         self.assertEqual(self.store.query("calc(t,twice,a:d)").column("d")[-1], 4_998)
 
     def test_columns_where_numpy_is(self):
-        numpy = mock.Mock(frombuffer=lambda found, dtype: ("numpy", list(found), dtype), int64="int64")
+        numpy = mock.Mock(array=lambda found, dtype: ("numpy", list(found), dtype), int64="int64")
         with mock.patch.object(module, "numpy", numpy):
             self.assertEqual(self.store.query("slice(t,0,3,1)").column("a"), ("numpy", [0, 1, 2], "int64"))
             self.assertEqual(self.store.query("t").column("a"), ("numpy", list(range(2_500)), "int64"))

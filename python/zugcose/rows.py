@@ -78,7 +78,7 @@ def maker(columns: Columns) -> Callable[[Sequence[Any]], Row]:
 
 def numbers(found: array[int]) -> Any:
     """An array of numbers, as numpy has it where it is there."""
-    return found if numpy is None else numpy.frombuffer(found, dtype=numpy.int64)
+    return found if numpy is None else numpy.array(found, dtype=numpy.int64)
 
 
 class Rows(Sequence[Row]):
