@@ -85,10 +85,13 @@ impl Screen {
         self.host.attach(name, create)
     }
 
-    /// Gives the next bytes of the line, or those of the next one: 0 at the end of the input.
+    /// Gives the next bytes of the line, or those of the next one: 0 at the end of the input. Where no session began the input is a stream.
     pub fn give(&mut self, into: &mut [u8]) -> Result<usize, Failed>
         ensures { IfOk result (λ n. n ≤ length into.new) }
     {
+        if matches!(self.due, Due::Greeting | Due::Stream) {
+            return self.host.take(into);
+        }
         let count = self.line.give(into);
         if count > 0 || !self.prepare()? {
             return Ok(count);
