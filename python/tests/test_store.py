@@ -328,7 +328,9 @@ class Commits(InFolder):
             self.open("a\0b")
 
     def test_names_of_files(self):
-        for path in ("--read", "-", "é", self.folder / "p", b"\xff"):
+        with self.assertRaises(zugcose.WrongWords):
+            self.open(b"\xff")
+        for path in ("--read", "-", "é", self.folder / "p", b"q"):
             with self.open(path) as store:
                 store.commit()
             with self.open(path) as store:
